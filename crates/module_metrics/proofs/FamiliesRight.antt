@@ -26,21 +26,25 @@ use Rattle.reports.specs.InventoryRows as identity
 use Rattle.reports.specs.MonitorRows as measures
 use Rattle.reports.specs.Reports.{entries_in, entries_of, flags_fault, flags_told, inventory_fault, monitors_fault, told_in}
 use Rattle.module_metrics.specs.AddedLabels.{AreAdded}
-use Rattle.module_metrics.specs.Answers.{code_of, first_fault, metrics_of, told_flags, unless}
+use Rattle.module_metrics.specs.Answers.{code_of, first_fault, metrics_of, told_flags}
+use Rattle.module_metrics.specs.Unless.{unless}
 use Rattle.module_metrics.specs.BaseUnits.{base_name}
 use Rattle.module_metrics.specs.CommonLabels.{is_taken, row_keys}
-use Rattle.module_metrics.specs.Exposition.{Label, label, metric, sample}
+use Rattle.module_metrics.specs.Exposition.{Label, Metric, label, metric, sample}
 use Rattle.module_metrics.specs.FlagMetrics.{count_metric, count_name, each_raised, flag_sample, flags_metric, flags_name}
 use Rattle.module_metrics.specs.Laws.{EveryModulesMetricsAreRight}
 use Rattle.module_metrics.specs.MetricNames.{amount_name, scope_name}
 use Rattle.module_metrics.specs.ModuleMetrics.{fault_name, info_labels, info_name, module_metrics, said_metrics, sums_name}
 use Rattle.module_metrics.specs.StateMetrics.{paths_name, state_name, statuses_name}
-use Rattle.module_metrics.specs.WellFormed.{AreApart, AreMetrics}
+use Rattle.module_metrics.specs.VdmMetrics.{vdm_metrics, vdm_seen}
+use Rattle.module_metrics.specs.WellFormed.{AreApart, AreMetrics, IsMetric}
 use Rattle.module_metrics.proofs.ModuleRight.{AreRight, IsSaid, IsSum, module_right}
-use Rattle.module_metrics.proofs.RowMetrics.{EntryIsPlain, both, entry_names, is_sure, keys_sub, names_sub, plain_rows, row_names, row_sums, sum_labels, sums_sub}
+use Rattle.module_metrics.proofs.RowMetrics.{EntryIsPlain, both, entry_names, is_sure, keys_sub, names_of, names_sub, plain_rows, row_names, row_sums, sum_labels, sums_sub}
 use Rattle.module_metrics.proofs.SaidMetrics.{flag_labels}
+use Rattle.module_metrics.proofs.SeenInstances.{seen_numbered}
 use Rattle.module_metrics.proofs.Sublists.{Sub, apart_by, apart_sub, sub_all, sub_append, sub_none}
 use Rattle.module_metrics.proofs.Tested.{are_new, tested}
+use Rattle.module_metrics.proofs.VdmRight.{vdm_named_once, vdm_names, vdm_right}
 
 -- ---- flags
 
@@ -156,7 +160,7 @@ asked_apart true (Some fault) told apart = tt
 
 cmis_rows : AreRight identity.cmis_rows measures.cmis_rows (flat_map row_names warnings.state_rows ++ flag_names)
 unfolding is_taken identity.cmis_rows measures.cmis_rows warnings.state_rows identity.qsfp_rows identity.sfp_rows info_name sums_name fault_name amount_name scope_name base_name state_name paths_name statuses_name count_name flags_name label
-cmis_rows = record { keys_own = refl; keys_new = refl; sums_new = refl; names_new = refl }
+cmis_rows = record { keys_own = refl; keys_new = refl; sums_new = refl; names_new = refl; names_other = refl }
 
 cmis_sums : AllByRecursion IsSum (flat_map row_sums identity.cmis_rows ++ flat_map row_sums measures.cmis_rows)
 unfolding identity.cmis_rows measures.cmis_rows label
@@ -186,22 +190,23 @@ cmis_plain memory =
     (plain_rows memory (is_flat memory) warnings.state_rows cmis_fit.3) (flags_plain (told_in Cmis memory) (cmis_apart memory), tt)
 
 cmis_right : (common : List Label) → AreAdded common → (all : Bool) (memory : Memory) (first second third : Option ReportFault) (fault : Option (List ℕ))
+    → (more : List Metric) → AllByRecursion (IsMetric common) more → Sub (names_of more) vdm_names
     → AreMetrics common (module_metrics all (asked all third (told_in Cmis memory)) (unless first (entries_in Inventory Cmis memory)) (unless second (entries_in Monitors Cmis memory))
-    (unless third (entries_in Flags Cmis memory)) fault)
-cmis_right common added all memory first second third fault =
+    (unless third (entries_in Flags Cmis memory)) fault ++ more)
+cmis_right common added all memory first second third fault more right named =
     let told = asked all third (told_in Cmis memory) in
     let names = flat_map row_names warnings.state_rows ++ flag_names in
     module_right common added (unless first (rows_entries memory (is_flat memory) identity.cmis_rows)) (unless second (rows_entries memory (is_flat memory) measures.cmis_rows))
     (unless third (entries_in Flags Cmis memory)) identity.cmis_rows measures.cmis_rows names all told
     (said_of all told memory (is_flat memory) (is_flat memory) identity.cmis_rows measures.cmis_rows (entries_in Flags Cmis memory) names cmis_fit.0 cmis_fit.1 cmis_fit.2
     (cmis_named all told memory) (cmis_plain memory) first second third)
-    cmis_rows (asked_apart all third (told_in Cmis memory) (cmis_apart memory)) cmis_sums fault
+    cmis_rows (asked_apart all third (told_in Cmis memory) (cmis_apart memory)) cmis_sums fault more right named
 
 -- ---- SFF-8636
 
 qsfp_rows : AreRight identity.qsfp_rows measures.qsfp_rows flag_names
 unfolding is_taken identity.cmis_rows identity.qsfp_rows identity.sfp_rows measures.qsfp_rows info_name sums_name fault_name amount_name scope_name base_name count_name flags_name label
-qsfp_rows = record { keys_own = refl; keys_new = refl; sums_new = refl; names_new = refl }
+qsfp_rows = record { keys_own = refl; keys_new = refl; sums_new = refl; names_new = refl; names_other = refl }
 
 qsfp_sums : AllByRecursion IsSum (flat_map row_sums identity.qsfp_rows ++ flat_map row_sums measures.qsfp_rows)
 unfolding identity.qsfp_rows measures.qsfp_rows label
@@ -215,9 +220,10 @@ sff_named : (all : Bool) (told : List (Flag × Bool)) (raised : List Flag) → S
 sff_named all told raised = subst (λ zs. Sub (zs ++ []) flag_names) (sym (flags_named all told raised)) (sub_all flag_names)
 
 qsfp_right : (common : List Label) → AreAdded common → (all : Bool) (memory : Memory) (first second third : Option ReportFault) (fault : Option (List ℕ))
+    → (more : List Metric) → AllByRecursion (IsMetric common) more → Sub (names_of more) vdm_names
     → AreMetrics common (module_metrics all (asked all third (told_in Sff8636 memory)) (unless first (entries_in Inventory Sff8636 memory)) (unless second (entries_in Monitors Sff8636 memory))
-    (unless third (entries_in Flags Sff8636 memory)) fault)
-qsfp_right common added all memory first second third fault =
+    (unless third (entries_in Flags Sff8636 memory)) fault ++ more)
+qsfp_right common added all memory first second third fault more right named =
     let flags = told_in Sff8636 memory in
     let told = asked all third flags in
     let warned = flags_entry (raised flags) ∷ [] in
@@ -225,13 +231,13 @@ qsfp_right common added all memory first second third fault =
     identity.qsfp_rows measures.qsfp_rows flag_names all told
     (said_of all told memory (bit memory QFlatMemory) (bit memory QFlatMemory) identity.qsfp_rows measures.qsfp_rows warned flag_names qsfp_fit.0 qsfp_fit.1 qsfp_fit.2
     (sff_named all told (raised flags)) (flags_plain flags (qsfp_flags_apart memory), tt) first second third)
-    qsfp_rows (asked_apart all third flags (qsfp_flags_apart memory)) qsfp_sums fault
+    qsfp_rows (asked_apart all third flags (qsfp_flags_apart memory)) qsfp_sums fault more right named
 
 -- ---- SFF-8472
 
 sfp_rows : AreRight identity.sfp_rows measures.sfp_rows flag_names
 unfolding is_taken identity.cmis_rows identity.qsfp_rows identity.sfp_rows measures.sfp_rows info_name sums_name fault_name amount_name scope_name base_name count_name flags_name label
-sfp_rows = record { keys_own = refl; keys_new = refl; sums_new = refl; names_new = refl }
+sfp_rows = record { keys_own = refl; keys_new = refl; sums_new = refl; names_new = refl; names_other = refl }
 
 sfp_sums : AllByRecursion IsSum (flat_map row_sums identity.sfp_rows ++ flat_map row_sums measures.sfp_rows)
 unfolding identity.sfp_rows measures.sfp_rows label
@@ -242,9 +248,10 @@ unfolding identity.sfp_rows measures.sfp_rows
 sfp_fit = (refl, refl, refl)
 
 sfp_right : (common : List Label) → AreAdded common → (all : Bool) (memory : Memory) (first second third : Option ReportFault) (fault : Option (List ℕ))
+    → (more : List Metric) → AllByRecursion (IsMetric common) more → Sub (names_of more) vdm_names
     → AreMetrics common (module_metrics all (asked all third (told_in Sff8472 memory)) (unless first (entries_in Inventory Sff8472 memory)) (unless second (entries_in Monitors Sff8472 memory))
-    (unless third (entries_in Flags Sff8472 memory)) fault)
-sfp_right common added all memory first second third fault =
+    (unless third (entries_in Flags Sff8472 memory)) fault ++ more)
+sfp_right common added all memory first second third fault more right named =
     let flags = told_in Sff8472 memory in
     let told = asked all third flags in
     let warned = flags_entry (raised flags) ∷ [] in
@@ -252,18 +259,20 @@ sfp_right common added all memory first second third fault =
     identity.sfp_rows measures.sfp_rows flag_names all told
     (said_of all told memory false false identity.sfp_rows measures.sfp_rows warned flag_names sfp_fit.0 sfp_fit.1 sfp_fit.2
     (sff_named all told (raised flags)) (flags_plain flags (sfp_flags_apart memory), tt) first second third)
-    sfp_rows (asked_apart all third flags (sfp_flags_apart memory)) sfp_sums fault
+    sfp_rows (asked_apart all third flags (sfp_flags_apart memory)) sfp_sums fault more right named
 
 -- ---- all
 
-of_family : (common : List Label) → AreAdded common → (all : Bool) (memory : Memory) (first second third : Option ReportFault) (fault : Option (List ℕ)) (family : Family)
+of_family : (common : List Label) → AreAdded common → (all : Bool) (memory : Memory) (first second third : Option ReportFault) (fault : Option (List ℕ))
+    → (more : List Metric) → AllByRecursion (IsMetric common) more → Sub (names_of more) vdm_names → (family : Family)
     → AreMetrics common (module_metrics all (asked all third (told_in family memory)) (unless first (entries_in Inventory family memory)) (unless second (entries_in Monitors family memory))
-    (unless third (entries_in Flags family memory)) fault)
-of_family common added all memory first second third fault Cmis = cmis_right common added all memory first second third fault
-of_family common added all memory first second third fault Sff8636 = qsfp_right common added all memory first second third fault
-of_family common added all memory first second third fault Sff8472 = sfp_right common added all memory first second third fault
+    (unless third (entries_in Flags family memory)) fault ++ more)
+of_family common added all memory first second third fault more right named Cmis = cmis_right common added all memory first second third fault more right named
+of_family common added all memory first second third fault more right named Sff8636 = qsfp_right common added all memory first second third fault more right named
+of_family common added all memory first second third fault more right named Sff8472 = sfp_right common added all memory first second third fault more right named
 
 pub every_module_right : EveryModulesMetricsAreRight
 unfolding metrics_of told_flags entries_of flags_told
 every_module_right common all memory added =
-    of_family common added all memory (inventory_fault memory) (monitors_fault memory) (flags_fault memory) (option_map code_of (first_fault memory)) (family_of memory)
+    of_family common added all memory (inventory_fault memory) (monitors_fault memory) (flags_fault memory) (option_map code_of (first_fault memory))
+    (vdm_metrics (vdm_seen memory)) (vdm_right common added (vdm_seen memory) (seen_numbered memory)) (vdm_named_once (vdm_seen memory)) (family_of memory)

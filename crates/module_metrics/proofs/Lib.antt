@@ -7,6 +7,12 @@ pub mod RightMetrics
 pub mod MoreLabels
 pub mod SaidMetrics
 pub mod RowMetrics
+pub mod SeenInstances
+pub mod VdmWords
+pub mod VdmRight
+pub mod VdmApart
+pub mod VdmNumbers
+pub mod VdmTypes
 pub mod ModuleRight
 pub mod FamiliesRight
 pub mod LinesRight

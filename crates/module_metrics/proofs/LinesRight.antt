@@ -16,7 +16,7 @@ samples_are : (common : List Label) (name : List ℕ) → is_name name ≡ true 
 unfolding sample_line
 samples_are common name named [] all = tt
 samples_are common name named (s ∷ samples) all = (
-  inr (inr (record { name = name; labels = common ++ s.labels; parts = s.parts; places = s.places; named = named; labelled = all.0; is_line = refl })),
+  inr (inr (record { name = name; labels = common ++ s.labels; number = s.number; named = named; labelled = all.0; is_line = refl })),
   samples_are common name named samples all.1,
 )
 

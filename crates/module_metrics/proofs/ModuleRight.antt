@@ -12,11 +12,14 @@ use Rattle.module_metrics.specs.CommonLabels.{is_taken, row_keys}
 use Rattle.module_metrics.specs.Exposition.{Label, Metric, label, metric, sample}
 use Rattle.module_metrics.specs.ModuleMetrics.{entry_metrics, entry_sums, fault_help, fault_metric, fault_metrics, fault_name, info_help, info_labels, info_metric, info_name, module_metrics, sums_help, sums_metric, sums_name}
 use Rattle.module_metrics.specs.WellFormed.{AreApart, AreLabels, AreMetrics, IsMetric, keys}
-use Rattle.module_metrics.proofs.RightMetrics.{is_own, labels_right}
+use Rattle.module_metrics.proofs.RightMetrics.{all_then, is_own, labels_right}
 use Rattle.module_metrics.proofs.RowMetrics.{EntryIsPlain, both, entry_names, made_flat, names_of, row_names, row_sums, sum_labels}
 use Rattle.module_metrics.proofs.SaidMetrics.{flag_labels, labels_of, said_right}
 use Rattle.module_metrics.proofs.Sublists.{Sub, all_sub, apart_by, apart_sub, sub_all, sub_append, sub_none}
 use Rattle.module_metrics.proofs.Tested.{are_new, tested}
+use Rattle.module_metrics.proofs.SeenInstances.{apart_append}
+use Rattle.module_metrics.proofs.VdmApart.{is_other, unlike_vdm, vdm_names_apart}
+use Rattle.module_metrics.proofs.VdmRight.{vdm_names}
 
 -- ---- what is known of what three reports say, by the rows that they say it of
 
@@ -46,6 +49,7 @@ pub record AreRight (identity_rows measured_rows : List Row) (warned_names : Lis
   pub keys_new : are_new (flat_map row_keys identity_rows) ≡ true
   pub sums_new : are_new (map first_value (flat_map row_sums identity_rows ++ flat_map row_sums measured_rows)) ≡ true
   pub names_new : are_new (all_names identity_rows measured_rows warned_names) ≡ true
+  pub names_other : list_all is_other (all_names identity_rows measured_rows warned_names) ≡ true
 
 -- ---- tests of lists that lack some
 
@@ -85,10 +89,6 @@ IsSum labels = keys labels ≡ codes "sum" ∷ []
 sum_right : (common : List Label) → AreAdded common → (labels : List Label) → IsSum labels → AreLabels (common ++ labels)
 sum_right common added labels is =
     labels_right common labels added (ap (list_all is_own) is ∙ sum_own) (subst (λ ks. AreApart ks) (sym is) (tt, tt))
-
-all_then : {A : Type 0} (P Q : A → Type 0) → ((x : A) → P x → Q x) → (xs : List A) → AllByRecursion P xs → AllByRecursion Q xs
-all_then P Q then [] all = tt
-all_then P Q then (x ∷ xs) all = (then x all.0, all_then P Q then xs all.1)
 
 module _ (common : List Label) (added : AreAdded common) (identity measured warned : List Entry) (identity_rows measured_rows : List Row) (warned_names : List (List ℕ)) (all : Bool)
     (told : List (Flag × Bool)) (said : IsSaid identity measured warned identity_rows measured_rows warned_names all told) (right : AreRight identity_rows measured_rows warned_names)
@@ -146,22 +146,37 @@ module _ (common : List Label) (added : AreAdded common) (identity measured warn
       subst (λ zs. Sub zs (rows ++ fault_name ∷ [])) (sym (map-append (λ (m : Metric). m.name) entries (fault_metrics fault)))
       (sub_append (names_of entries) rows (names_of (fault_metrics fault)) (fault_name ∷ []) entries_names (fault_names fault))
 
-  pub module_right : (fault : Option (List ℕ)) → AreMetrics common (module_metrics all told identity measured warned fault)
-  unfolding module_metrics info_metric sums_metric metric
-  module_right fault =
-      let entries = flat_map (entry_metrics all told) (identity ++ (measured ++ warned)) in
-      let last = names_of (entries ++ fault_metrics fault) in
+  -- with metrics of VDM after them
+  more_names : (fault : Option (List ℕ)) (more : List Metric) → Sub (names_of more) vdm_names
+      → Sub (names_of ((flat_map (entry_metrics all told) (identity ++ (measured ++ warned)) ++ fault_metrics fault) ++ more))
+      (((flat_map row_names identity_rows ++ (flat_map row_names measured_rows ++ warned_names)) ++ fault_name ∷ []) ++ vdm_names)
+  more_names fault more named =
+      let first = flat_map (entry_metrics all told) (identity ++ (measured ++ warned)) ++ fault_metrics fault in
       let rows = (flat_map row_names identity_rows ++ (flat_map row_names measured_rows ++ warned_names)) ++ fault_name ∷ [] in
-      let sub : Sub (info_name ∷ sums_name ∷ last) (info_name ∷ sums_name ∷ rows) = inr (sums_name ∷ last, refl, inr (last, refl, last_names fault)) in
+      subst (λ zs. Sub zs (rows ++ vdm_names)) (sym (map-append (λ (m : Metric). m.name) first more))
+      (sub_append (names_of first) rows (names_of more) vdm_names (last_names fault) named)
+
+  pub module_right : (fault : Option (List ℕ)) (more : List Metric) → AllByRecursion (IsMetric common) more → Sub (names_of more) vdm_names
+      → AreMetrics common (module_metrics all told identity measured warned fault ++ more)
+  unfolding module_metrics info_metric sums_metric metric
+  module_right fault more more_right named =
+      let entries = flat_map (entry_metrics all told) (identity ++ (measured ++ warned)) in
+      let last = names_of ((entries ++ fault_metrics fault) ++ more) in
+      let rows = ((flat_map row_names identity_rows ++ (flat_map row_names measured_rows ++ warned_names)) ++ fault_name ∷ []) ++ vdm_names in
+      let names = all_names identity_rows measured_rows warned_names in
+      let sub : Sub (info_name ∷ sums_name ∷ last) (info_name ∷ sums_name ∷ rows) = inr (sums_name ∷ last, refl, inr (last, refl, more_names fault more named)) in
       record {
         each = (
           info_right common added identity identity_rows said.identity_keys right.keys_own right.keys_new,
           (
             sums_right,
-            both (IsMetric common) entries (fault_metrics fault)
+            both (IsMetric common) (entries ++ fault_metrics fault) more
+                (both (IsMetric common) entries (fault_metrics fault)
                 (entries_right (identity ++ (measured ++ warned)) (both EntryIsPlain identity (measured ++ warned) said.identity_plain (both EntryIsPlain measured warned said.measured_plain said.warned_plain)))
-                (fault_right fault),
+                (fault_right fault))
+                more_right,
           ),
         );
-        apart = apart_sub (info_name ∷ sums_name ∷ last) (info_name ∷ sums_name ∷ rows) sub (tested (info_name ∷ sums_name ∷ rows) right.names_new);
+        apart = apart_sub (info_name ∷ sums_name ∷ last) (info_name ∷ sums_name ∷ rows) sub
+            (apart_append names vdm_names (tested names right.names_new) vdm_names_apart (unlike_vdm names right.names_other));
       }

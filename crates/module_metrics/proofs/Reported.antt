@@ -5,7 +5,7 @@ use Rattle.report_entries.specs.Entries.{Entry}
 use Rattle.reports.specs.Answered.{Says}
 use Rattle.reports.specs.declared.fault.ReportFault.{ReportFault}
 use Rattle.reports.specs.declared.fault.ReportFault.TheVariants.{Memory}
-use Rattle.module_metrics.specs.Answers.{unless}
+use Rattle.module_metrics.specs.Unless.{unless}
 
 abbrev fault_of : {T : Type 0} → Result T ReportFault → Option ReportFault
 fault_of (Ok x) = None

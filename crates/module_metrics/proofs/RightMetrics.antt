@@ -42,6 +42,10 @@ pub all_append : {A : Type 0} (P : A → Type 0) (xs ys : List A) → AllByRecur
 all_append P [] ys all more = more
 all_append P (x ∷ xs) ys all more = (all.0, all_append P xs ys all.1 more)
 
+pub all_then : {A : Type 0} (P Q : A → Type 0) → ((x : A) → P x → Q x) → (xs : List A) → AllByRecursion P xs → AllByRecursion Q xs
+all_then P Q then [] all = tt
+all_then P Q then (x ∷ xs) all = (then x all.0, all_then P Q then xs all.1)
+
 owns_named : (owns : List (List ℕ)) → list_all is_own owns ≡ true → list_all is_name owns ≡ true
 owns_named [] all = refl
 owns_named (own ∷ owns) all =

@@ -1,6 +1,6 @@
--- What is answered to an image: its metrics, of the reports that have no fault, and the first fault. (docs/formats.md, "Metrics";
+-- What is answered to an image: its metrics, of the reports that have no fault and of VDM, and the first fault. (docs/formats.md, "Metrics";
 -- this project's own)
-use Rattle.std.specs.Prelude.{ℕ, Bool, if◌then◌else◌, get_or, List, [], Option, Some, None, option_map}
+use Rattle.std.specs.Prelude.{ℕ, ◌++◌, Bool, if◌then◌else◌, get_or, List, [], Option, Some, option_map}
 use Rattle.std.specs.Option.{option_or}
 use Rattle.paged_memory.specs.Images.{Memory}
 use Rattle.report_entries.specs.declared.flag.Flag.{Flag}
@@ -10,11 +10,8 @@ use Rattle.reports.specs.FaultWords.{report_fault_words}
 use Rattle.reports.specs.Reports.{flags_entries, flags_fault, flags_told, inventory_entries, inventory_fault, monitors_entries, monitors_fault}
 use Rattle.module_metrics.specs.Exposition.{Label, Metric, exposition}
 use Rattle.module_metrics.specs.ModuleMetrics.{fault_metrics, module_metrics}
-
--- what a report says if it has no fault
-abbrev pub unless : {A : Type 0} → Option ReportFault → List A → List A
-unless None said = said
-unless (Some fault) said = []
+use Rattle.module_metrics.specs.Unless.{unless}
+use Rattle.module_metrics.specs.VdmMetrics.{vdm_metrics, vdm_seen}
 
 -- the first word of a fault's line
 abbrev pub code_of : ReportFault → List ℕ
@@ -35,6 +32,7 @@ metrics_of all memory =
     (unless (monitors_fault memory) (monitors_entries memory))
     (unless (flags_fault memory) (flags_entries memory))
     (option_map code_of (first_fault memory))
+    ++ vdm_metrics (vdm_seen memory)
 
 -- ---- without an image
 

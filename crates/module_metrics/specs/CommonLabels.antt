@@ -36,7 +36,7 @@ row_keys row = if is_label row.source then snake row.name ∷ [] else []
 -- those of all other metrics
 abbrev pub sample_keys : List (List ℕ)
 sample_keys =
-    codes "lane" ∷ codes "flag" ∷ codes "limit" ∷ codes "state" ∷ codes "status" ∷ codes "sum" ∷ codes "code" ∷ []
+    codes "lane" ∷ codes "flag" ∷ codes "limit" ∷ codes "state" ∷ codes "status" ∷ codes "sum" ∷ codes "code" ∷ codes "scope" ∷ codes "vdm_instance" ∷ []
 
 abbrev pub is_row_key : List Row → List ℕ → Bool
 is_row_key rows key = list_any (bytes_eq key) (flat_map row_keys rows)

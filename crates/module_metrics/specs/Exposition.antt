@@ -3,7 +3,7 @@
 use Rattle.std.specs.Prelude.{ℕ, ◌==◌, if◌then◌else◌, Bool, true, false, length, ℤ, List, [], ◌∷◌, ◌++◌, map, codes}
 use Rattle.std.specs.List.{flat_map}
 use Rattle.text_lines.specs.Lines.{text_of}
-use Rattle.module_metrics.specs.Scaled.{scaled}
+use Rattle.module_metrics.specs.Numbers.{Number, number_text, parts}
 
 pub record Label : Type 0 where
   pub key : List ℕ
@@ -12,14 +12,14 @@ pub record Label : Type 0 where
 unfoldable pub label : List ℕ → List ℕ → Label
 label key value = record { key = key; value = value }
 
--- a number under labels: so many parts, of which 10 ^ places are one
+-- a number under labels
 pub record Sample : Type 0 where
   pub labels : List Label
-  pub parts : ℤ
-  pub places : ℕ
+  pub number : Number
 
+-- so many parts, of which 10 ^ places are one
 unfoldable pub sample : List Label → ℤ → ℕ → Sample
-sample labels parts places = record { labels = labels; parts = parts; places = places }
+sample labels z places = record { labels = labels; number = parts z places }
 
 -- what is told under a name
 pub record Metric : Type 0 where
@@ -65,7 +65,7 @@ bracketed labels = marked true labels ++ closing (length labels == 0)
 
 -- the labels that all samples have come first
 unfoldable pub sample_line : List ℕ → List Label → Sample → List ℕ
-sample_line name common s = name ++ (bracketed (common ++ s.labels) ++ 32 ∷ scaled s.places s.parts)
+sample_line name common s = name ++ (bracketed (common ++ s.labels) ++ 32 ∷ number_text s.number)
 
 unfoldable pub help_line : List ℕ → List ℕ → List ℕ
 help_line name help = codes "# HELP " ++ (name ++ 32 ∷ help)

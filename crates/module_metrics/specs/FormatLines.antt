@@ -1,9 +1,9 @@
 -- The lines of Prometheus' text format: of help, of a type, and of a sample. (Prometheus' text-based format, version 0.0.4; this
 -- project's own)
-use Rattle.std.specs.Prelude.{◌≡◌, ◌⊎◌, ℕ, ℤ, true, List, ◌∷◌, ◌++◌}
+use Rattle.std.specs.Prelude.{◌≡◌, ◌⊎◌, ℕ, true, List, ◌∷◌, ◌++◌}
 use Rattle.module_metrics.specs.Exposition.{Label, bracketed, help_line, type_line}
 use Rattle.module_metrics.specs.Grammar.{is_help, is_name}
-use Rattle.module_metrics.specs.Scaled.{scaled}
+use Rattle.module_metrics.specs.Numbers.{Number, number_text}
 use Rattle.module_metrics.specs.WellFormed.{AreLabels}
 
 -- what a metric is
@@ -23,11 +23,10 @@ pub record IsType (line : List ℕ) : Type 0 where
 pub record IsSample (line : List ℕ) : Type 0 where
   pub name : List ℕ
   pub labels : List Label
-  pub parts : ℤ
-  pub places : ℕ
+  pub number : Number
   pub named : is_name name ≡ true
   pub labelled : AreLabels labels
-  pub is_line : line ≡ name ++ (bracketed labels ++ 32 ∷ scaled places parts)
+  pub is_line : line ≡ name ++ (bracketed labels ++ 32 ∷ number_text number)
 
 abbrev pub IsLine : List ℕ → Type 0
 IsLine line = IsHelp line ⊎ (IsType line ⊎ IsSample line)

@@ -1,5 +1,6 @@
 pub mod Scales
 pub mod Scaled
+pub mod Numbers
 pub mod Exposition
 pub mod LabelCode
 pub mod Told
@@ -9,6 +10,10 @@ pub mod Amounts
 pub mod StateMetrics
 pub mod FlagMetrics
 pub mod ModuleMetrics
+pub mod Unless
+pub mod VdmUnits
+pub mod VdmNames
+pub mod VdmMetrics
 pub mod Grammar
 pub mod CommonLabels
 pub mod Answers
@@ -17,3 +22,4 @@ pub mod AddedLabels
 pub mod FormatLines
 pub mod Laws
 pub mod UnitLaws
+pub mod VdmLaws

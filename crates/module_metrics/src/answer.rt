@@ -7,7 +7,8 @@ ghost use Rattle.reports.specs.declared.fault.ReportFault.TheVariants.{Memory};
 ghost use Rattle.reports.specs.Answered.{Says};
 ghost use Rattle.reports.specs.Reports.{flags_entries, flags_fault, inventory_entries, inventory_fault, monitors_entries, monitors_fault};
 ghost use Rattle.module_metrics.specs.AddedLabels.{AreAdded};
-ghost use Rattle.module_metrics.specs.Answers.{code_of, fault_text, first_fault, metrics_of, told_flags, unless};
+ghost use Rattle.module_metrics.specs.Answers.{code_of, fault_text, first_fault, metrics_of, told_flags};
+ghost use Rattle.module_metrics.specs.Unless.{unless};
 ghost use Rattle.module_metrics.specs.Exposition.{exposition};
 ghost use Rattle.module_metrics.specs.ModuleMetrics.{fault_metrics, module_metrics};
 ghost use Rattle.module_metrics.specs.Told.{metrics_in};
@@ -17,6 +18,7 @@ use crate::labels::Labels;
 use crate::metric::{Metric, add_metric, no_metrics, one_label, one_sample};
 use crate::module_metrics::{add_entries, add_info, add_sums};
 use crate::scale::Scale;
+use crate::vdm_metrics::{add_vdm, vdm_seen};
 use paged_memory::Image;
 use report_entries::{Entry, Flag, TextIn};
 use reports::{ReportFault, flags_entries, flags_told, inventory_entries, monitors_entries};
@@ -30,8 +32,8 @@ pub struct Answer {
     pub fault: Option<ReportFault>,
 }
 
-/// What the reports of the module of an image say, as metrics whose samples all have these labels. Of its flags those that are raised
-/// are told, or all. The only refusal is out of memory: a report that has a fault says nothing, and the first fault is a metric.
+/// What the reports of the module of an image say, and then what it lists itself (VDM), as metrics whose samples all have these labels.
+/// Of its flags those that are raised are told, or all. The only refusal is out of memory: a report that has a fault says nothing, and the first fault is a metric.
 #[tactic(auto, unfolding(crate::specs::Answers::metrics_of, crate::specs::Answers::first_fault, crate::specs::Told::metrics_in, report_entries::specs::Entries::said_in))]
 pub fn metrics(
     alloc: Global,
@@ -49,7 +51,8 @@ pub fn metrics(
     let measured = measured(alloc, image, &mut fault)?;
     let warned = warned(alloc, image, &mut fault)?;
     let told = told(alloc, image, all)?;
-    let metrics = module_metrics(alloc, all, &told, &identity, &measured, &warned, fault)?;
+    let mut metrics = module_metrics(alloc, all, &told, &identity, &measured, &warned, fault)?;
+    add_vdm(alloc, &mut metrics, &vdm_seen(alloc, image)?)?;
     Ok(Answer {
         text: exposition::text(alloc, labels.as_slice(), &metrics)?,
         fault,

@@ -5,7 +5,7 @@ ghost use Rattle.module_metrics.specs.Exposition.{bracketed, closing, escape, es
 ghost use Rattle.module_metrics.specs.Told.{label_of, metric_of, sample_of};
 
 use crate::metric::{Label, Metric, Sample};
-use crate::scaled::push_scaled;
+use crate::number::push_number;
 use std::alloc::{AllocError, Global};
 
 /// The text of metrics. Some labels are common to all samples, before their own.
@@ -14,20 +14,25 @@ pub fn text(alloc: Global, common: &[Label], metrics: &[Metric]) -> Result<Vec<u
 {
     let mut text = Vec::new(alloc);
     for metric in metrics {
-        push_metric(&mut text, common, metric)?;
+        push_metric(alloc, &mut text, common, metric)?;
     }
     Ok(text)
 }
 
 #[tactic(auto, unfolding(crate::specs::Told::samples_in))]
-fn push_metric(text: &mut Vec<u8>, common: &[Label], metric: &Metric) -> Result<(), AllocError>
+fn push_metric(
+    alloc: Global,
+    text: &mut Vec<u8>,
+    common: &[Label],
+    metric: &Metric,
+) -> Result<(), AllocError>
     ensures { OnOk result (text.new.items
         ≡ text.old.items ++ text_of (metric_lines (map label_of common.now) (metric_of metric.now))) }
 {
     let name = metric.name.as_str();
     push_help(text, name, metric.help.as_str())?;
     push_type(text, name)?;
-    push_samples(text, name, common, &metric.samples)
+    push_samples(alloc, text, name, common, &metric.samples)
 }
 
 #[tactic(auto, unfolding(crate::specs::Exposition::help_line))]
@@ -52,6 +57,7 @@ fn push_type(text: &mut Vec<u8>, name: &str) -> Result<(), AllocError>
 }
 
 fn push_samples(
+    alloc: Global,
     text: &mut Vec<u8>,
     name: &str,
     common: &[Label],
@@ -61,13 +67,14 @@ fn push_samples(
         ++ text_of (map (sample_line name.now (map label_of common.now)) (map sample_of samples.now))) }
 {
     for sample in samples {
-        push_sample(text, name, common, sample)?;
+        push_sample(alloc, text, name, common, sample)?;
     }
     Ok(())
 }
 
 #[tactic(auto, unfolding(crate::specs::Exposition::sample_line, crate::specs::Told::labels_in))]
 fn push_sample(
+    alloc: Global,
     text: &mut Vec<u8>,
     name: &str,
     common: &[Label],
@@ -79,7 +86,7 @@ fn push_sample(
     text.extend_from_slice(name.as_bytes())?;
     push_labels(text, common, &sample.labels)?;
     text.push(b' ')?;
-    push_scaled(text, sample.parts, sample.scale.places())?;
+    push_number(alloc, text, sample.number)?;
     text.push(b'\n')?;
     Ok(())
 }

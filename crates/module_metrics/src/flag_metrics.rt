@@ -118,7 +118,8 @@ fn add_flag(
     add_sample(samples, labels, truth(is_raised), Scale::Ones)
 }
 
-fn add_lane(alloc: Global, labels: &mut Vec<Label>, lane: Option<u8>) -> Result<(), AllocError>
+/// Adds the label of a lane, if there is one.
+pub fn add_lane(alloc: Global, labels: &mut Vec<Label>, lane: Option<u8>) -> Result<(), AllocError>
     ensures { OnOk result (labels_in labels.new ≡ labels_in labels.old ++ lane_labels lane) }
 {
     match lane {

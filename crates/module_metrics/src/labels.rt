@@ -174,6 +174,8 @@ fn is_sample_key(key: &[u8]) -> bool
         || key == b"status".as_slice()
         || key == b"sum".as_slice()
         || key == b"code".as_slice()
+        || key == b"scope".as_slice()
+        || key == b"vdm_instance".as_slice()
 }
 
 fn is_row_key(lines: &'static [Line], key: &[u8]) -> bool

@@ -1,6 +1,7 @@
 //! What holds of all metrics. The functions are theorems: their contracts say it, and their bodies are empty.
 
 ghost use Rattle.module_metrics.specs.UnitLaws.{EachMetricCountsSteps, EachUnitHasItsPrefix};
+ghost use Rattle.module_metrics.specs.VdmLaws.{EachTypeHasAMetric, EachWordIsWritten};
 ghost use Rattle.module_metrics.specs.Laws.{EachAmountIsTheReports, EachLineIsOne, EachNumberIsWritten, EachValueReadsBack, EveryModulesMetricsAreRight};
 
 /// The metrics of each image, with labels that words have added: names of metrics and of labels are names of the format, help is one line,
@@ -30,4 +31,12 @@ pub fn each_number_is_written()
 pub fn each_metric_is_what_the_report_prints()
     ensures steps { EachMetricCountsSteps }
     ensures units { EachUnitHasItsPrefix }
+{}
+
+/// A metric of VDM writes what a word amounts to, as `observables` prints it, times a power of ten if the metric has another unit. Each type
+/// of instance that is decoded has a metric.
+#[tactic(auto, using(crate::proofs::VdmNumbers::each_word, crate::proofs::VdmTypes::each_type))]
+pub fn each_metric_of_vdm_is_what_was_measured()
+    ensures numbers { EachWordIsWritten }
+    ensures types { EachTypeHasAMetric }
 {}

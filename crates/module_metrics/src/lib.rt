@@ -1,4 +1,4 @@
-//! What the reports of a module say, as metrics in Prometheus' text format.
+//! What the reports of a module say and what it lists itself (VDM), as metrics in Prometheus' text format.
 #![tactic(auto)]
 
 mod amounts;
@@ -12,9 +12,12 @@ pub mod laws;
 mod metric;
 mod module_metrics;
 mod name;
+mod number;
 mod scale;
 mod scaled;
 mod state_metrics;
+mod vdm_metrics;
+mod vdm_name;
 
 pub use answer::{Answer, fault_metrics, metrics};
 pub use label_fault::LabelFault;

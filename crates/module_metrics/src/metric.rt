@@ -2,8 +2,9 @@
 ghost use Rattle.std.specs.Prelude.{◌≡◌, ◌++◌, ◌∷◌, [], IfOk, IfSome, OnErr, OnOk};
 ghost use Rattle.module_metrics.specs.Exposition.{label, metric, sample};
 ghost use Rattle.module_metrics.specs.Scales.{places_of};
-ghost use Rattle.module_metrics.specs.Told.{labels_in, metrics_in, samples_in};
+ghost use Rattle.module_metrics.specs.Told.{labels_in, metrics_in, number_in, samples_in};
 
+use crate::number::Number;
 use crate::scale::Scale;
 use std::alloc::{AllocError, Global};
 use std::fmt::Display;
@@ -15,12 +16,11 @@ pub struct Label {
     pub value: String,
 }
 
-/// So many parts of a scale, under labels.
+/// A number under labels.
 #[derive(Drop)]
 pub struct Sample {
     pub labels: Vec<Label>,
-    pub parts: i64,
-    pub scale: Scale,
+    pub number: Number,
 }
 
 /// What is told under a name.
@@ -92,8 +92,8 @@ pub fn one_sample(
     Ok(samples)
 }
 
-/// Adds a sample.
-#[tactic(auto, unfolding(crate::specs::Told::samples_in, crate::specs::Told::labels_in, crate::specs::Exposition::sample))]
+/// Adds a sample of so many parts of a scale.
+#[tactic(auto, unfolding(crate::specs::Exposition::sample))]
 pub fn add_sample(
     samples: &mut Vec<Sample>,
     labels: Vec<Label>,
@@ -103,11 +103,20 @@ pub fn add_sample(
     ensures { OnOk result (samples_in samples.new
         ≡ samples_in samples.old ++ sample (labels_in labels) parts (places_of scale) ∷ []) }
 {
-    samples.push(Sample {
-        labels,
-        parts,
-        scale,
-    })?;
+    add_number(samples, labels, Number::Parts(parts, scale))
+}
+
+/// Adds a sample.
+#[tactic(auto, unfolding(crate::specs::Told::samples_in, crate::specs::Told::labels_in))]
+pub fn add_number(
+    samples: &mut Vec<Sample>,
+    labels: Vec<Label>,
+    number: Number,
+) -> Result<(), AllocError>
+    ensures { OnOk result (samples_in samples.new
+        ≡ samples_in samples.old ++ record { labels = labels_in labels; number = number_in number } ∷ []) }
+{
+    samples.push(Sample { labels, number })?;
     Ok(())
 }
 
