@@ -71,6 +71,7 @@ def test_details_are_a_mapping_that_notebooks_show() -> None:
     assert found == DR4.details() and found != DR4.changed(LOWER, 14, b"\0").details()
     assert pickle.loads(pickle.dumps(found)) == found
     assert repr(Details({"family": "CMIS"})) == "Details({'family': 'CMIS'})"
+    assert len(Details({"family": "CMIS"})) == 1
     assert "<th>connector name</th><td>MPO 1x12</td>" in found._repr_html_()
     with pytest.raises(KeyError):
         found["fibre"]
