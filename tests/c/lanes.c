@@ -128,7 +128,8 @@ static void try_ends(void) {
     change = outputs_off();
     change.control = DOVECOUNTER_OUTPUT_DISABLE_RX;
     states[1] = 0x41;
-    expect_end("host lanes", (struct dovecounter_lane_end){DOVECOUNTER_LANES_NOT_PERMITTED, controls[10], 0x08, 0},
+    controls[10] = 0x81;
+    expect_end("host lanes", (struct dovecounter_lane_end){DOVECOUNTER_LANES_NOT_PERMITTED, 0x81, 0x08, 0},
                run_change(&change));
     change = outputs_off();
     deaf = true;

@@ -108,24 +108,29 @@ static void print_list(const char *name, unsigned lanes) {
     putchar(']');
 }
 
+/* `end` is NULL if the control is not known. */
 static void print_in_json(const struct port *port, const char *outcome, const struct dovecounter_lane_end *end) {
-    printf("{\"control\": \"%s\", \"outcome\": \"%s\", \"stores\": %u, ", control_names[port->change.control], outcome,
-           end->stores);
+    printf("{\"control\": \"%s\", \"outcome\": \"%s\", ", control_names[port->change.control], outcome);
     print_list("lanes", port->change.lanes);
-    fputs(", ", stdout);
-    print_list("set", end->byte);
-    fputs(", ", stdout);
-    print_list("up", end->lanes);
+    if (end != NULL) {
+        fputs(", ", stdout);
+        print_list("set", end->byte);
+        fputs(", ", stdout);
+        print_list("up", end->lanes);
+        printf(", \"stores\": %u", end->stores);
+    }
     puts("}");
 }
 
 static void print_end(const struct port *port, const struct dovecounter_lane_end *end) {
+    const char *outcome = outcome_words[end->outcome];
+    bool known = end->outcome <= DOVECOUNTER_LANES_NOT_PERMITTED;
     if (port->json) {
-        print_in_json(port, outcome_words[end->outcome], end);
+        print_in_json(port, outcome, known ? end : NULL);
         return;
     }
-    say_lanes(stdout, outcome_words[end->outcome], port->change.lanes, "");
-    if (end->outcome <= DOVECOUNTER_LANES_NOT_PERMITTED) print_lanes_of(control_names[port->change.control], end->byte);
+    say_lanes(stdout, outcome, port->change.lanes, "");
+    if (known) print_lanes_of(control_names[port->change.control], end->byte);
 }
 
 /* ---- the commands ---- */
@@ -156,8 +161,7 @@ enum status print_controls(struct port *port) {
 
 /* A signal, or a module that is gone, ended it: whether it was stored is known, what came of that isn't. */
 static enum status say_unknown(const struct port *port) {
-    const struct dovecounter_lane_end end = {0};
-    if (port->json) print_in_json(port, port->stored ? "unknown" : "unchanged", &end);
+    if (port->json) print_in_json(port, port->stored ? "unknown" : "unchanged", NULL);
     if (port->stored) say_lanes(stderr, "cmis-port: perhaps changed:", port->change.lanes, "");
     return port->stored ? NOT_PROVISIONED : REFUSED;
 }
