@@ -261,22 +261,18 @@ def test_states_are_those_of_the_page() -> None:
 
 
 def test_a_change_is_judged_before_it_is_made() -> None:
-    image = example("add_800g_dr8.txt")  # 8 1 1 and 8 3 2 carry traffic
+    image = example("add_800g_dr8.txt")  # all lanes are DPActivated, 8 1 1 and 8 3 2 active
     weights = {0x4F: 400, 0x0D: 100}
-    kept = [DataPath(8, 1, 1), DataPath(8, 3, 2)]
     free = plan(image, weights)
     assert judge(image, free).hindrance == Hindrance.WOULD_GO_DOWN
-    assert judge(image, free, may_take_down=0x0E).lanes == 0x01
-    assert judge(image, free, may_take_down=0x0F) == Effect(
-        *(0xFF, 0x0F, 0, 0), *(False, False, Hindrance.UNHINDERED, 0), None
-    )
-    best = plan(image, weights, kept)
-    assert judge(image, best) == Effect(
-        *(0xF0, 0, 0, 0x0F), *(False, False, Hindrance.UNHINDERED, 0), None
-    )
-    assert judge(image, best, activates=True).comes_up == 0xF0
+    assert judge(image, free, may_take_down=0xFE).lanes == 0x01
+    unhindered = (False, False, Hindrance.UNHINDERED, 0, None)
+    assert judge(image, free, may_take_down=0xFF) == Effect(0xFF, 0xFF, 0, 0, *unhindered)
+    best = plan(image, weights, [DataPath(8, 1, 1), DataPath(8, 3, 2)])
+    assert judge(image, best).lanes == 0xF0
+    assert judge(image, best, may_take_down=0xF0) == Effect(0xF0, 0xF0, 0, 0x0F, *unhindered)
     assert judge(image, plan(image, {})).hindrance == Hindrance.NO_PATH
-    assert judge(image, plan(image, {}), may_have_no_path=True).goes_down == 0x0F
+    assert judge(image, plan(image, {}), may_have_no_path=True).goes_down == 0xFF
     halves = dict(image.halves)
     del halves[page(0x11)]
     assert fault_of(judge, Image(halves), best) == "AD4 upper A0 00 11"
