@@ -1,5 +1,5 @@
 -- The answer of `metrics`, by what reporting the image, or the fault alone, answers.
-use Rattle.std.proofs.Common.{◌≡◌, ℕ, Bool, List, Option, Result, Ok, Err, IfOk, IfErr, inl, inr}
+use Rattle.std.proofs.Common.{◌≡◌, ℕ, Bool, not, List, Option, Result, Ok, Err, IfOk, IfErr, inl, inr}
 use Rattle.paged_memory.specs.Images.{Memory}
 use Rattle.module_metrics.specs.Exposition.{Label}
 use Rattle.reports.specs.declared.fault.ReportFault.{ReportFault}
@@ -15,7 +15,7 @@ module _ (bus all : Bool) (labels : List Label) (image : List ℕ) where
   IsOwn answer = IsOwnAnswer (IsMetricsAnswer bus all labels image) (answer_of answer)
 
   pub of_memory : (memory : Memory) → IsToReport bus image memory → (answer : Result CommandOutput Fault)
-      → IfOk answer (λ output. AreMetricsOf all labels memory output.text.items output.fault) → IfErr answer (λ f. f ≡ fault.Memory) → IsOwn answer
+      → IfOk answer (λ output. AreMetricsOf all (not bus) labels memory output.text.items output.fault) → IfErr answer (λ f. f ≡ fault.Memory) → IsOwn answer
   of_memory memory read (Ok output) are none = inl (memory, read, are)
   of_memory memory read (Err f) are none = rw none tt
 

@@ -18,11 +18,10 @@ use Rattle.command_line.specs.Coloring.{shown_as}
 use Rattle.command_line.specs.Commands.{in_form}
 use Rattle.command_line.specs.Limits.{input_limit}
 use Rattle.command_line.specs.OverBus.{IsFetchedFrom, window_at_start}
-use Rattle.command_line.specs.PartsRead.{text_in}
 use Rattle.command_line.specs.ReportCommands.{IsReported, entries_of, printed, refusal_of}
 use Rattle.command_line.specs.Parts.{parts_of}
 use Rattle.command_line.specs.Runs.{Answer, IsAnswerTo}
-use Rattle.command_line.specs.SameOverBus.{IsGivenUp, IsToldAlike}
+use Rattle.command_line.specs.SameOverBus.{IsGivenUp, IsToldAlike, image_of}
 use Rattle.command_line.specs.declared.choice.coloring.Coloring.{Coloring}
 use Rattle.command_line.specs.declared.choice.commands.Choice.TheVariants.{Report}
 use Rattle.command_line.specs.declared.choice.commands.ReportName.{ReportName}
@@ -46,14 +45,13 @@ reading_fault memory f (after, (history, ran, is)) = absurd is.answered
 
 -- ---- a command that reads an image alone, whose text has one answer without the flag, and that with it unless the reading came to no end
 
-module _ (IsMine : Bool → List ℕ → Answer → Type 0) (one_answer : (text : List ℕ) (a b : Answer) → IsMine false text a → IsMine false text b → a ≡ b)
-    (plain : (text : List ℕ) (a : Answer) → IsMine true text a → ¬ (IsGivenUp a) → IsMine false text a) where
+abbrev pub IsAnswerOver : (Bool → List ℕ → Answer → Type 0) → Bool → List ℕ → Answer → Type 0
+IsAnswerOver IsMine over = IsAnswerTo (Image ∷ []) (λ texts. IsMine over (texts Image))
+
+module _ (IsMine : Bool → List ℕ → Answer → Type 0) (one_answer : (text : List ℕ) (a b : Answer) → IsMine false text a → IsMine false text b → a ≡ b) where
   -- by what is the first to be judged of an input
   abbrev image_in : List ℕ → List ℕ
-  image_in input = text_in (Image ∷ []) (parts_of input) Image
-
-  abbrev IsAnswerOver : Bool → List ℕ → Answer → Type 0
-  IsAnswerOver over = IsAnswerTo (Image ∷ []) (λ texts. IsMine over (texts Image))
+  image_in input = image_of input
 
   abbrev IsCut : List ℕ → Answer → Type 0
   IsCut input a = ((length input ≤ input_limit) × (length (parts_of input) ≡ 1)) × IsMine false (image_in input) a
@@ -64,7 +62,7 @@ module _ (IsMine : Bool → List ℕ → Answer → Type 0) (one_answer : (text 
   abbrev IsJudged : List ℕ → Answer → Type 0
   IsJudged input a = ((input_limit < length input) × (a ≡ Err fault.TooLong)) ⊎ (IsMiscounted input a ⊎ IsCut input a)
 
-  judged : (input : List ℕ) (a : Answer) → IsAnswerOver false input a → a ≢ Err fault.Memory → a ≢ Err fault.Io → IsJudged input a
+  judged : (input : List ℕ) (a : Answer) → IsAnswerOver IsMine false input a → a ≢ Err fault.Memory → a ≢ Err fault.Io → IsJudged input a
   judged input (Ok told) is memory read = inr (inr ((is.0, is.1), is.2))
   judged input (Err fault.Memory) is memory read = absurd (memory refl)
   judged input (Err fault.Io) is memory read = absurd (read refl)
@@ -84,21 +82,28 @@ module _ (IsMine : Bool → List ℕ → Answer → Type 0) (one_answer : (text 
   agree input a b (inr (inr p)) (inr (inl q)) = absurd (q.0.1 p.0.1)
   agree input a b (inr (inr p)) (inr (inr q)) = one_answer (image_in input) a b p.1 q.1
 
-  plain_to : (input : List ℕ) (a : Answer) → IsAnswerOver true input a → ¬ (IsGivenUp a)
-      → IsAnswerOver false input a
-  plain_to input (Ok told) is ended = (is.0, is.1, plain (image_in input) (Ok told) is.2 ended)
+  -- two answers without the flag are the same
+  pub alone : (input : List ℕ) (a other : Answer) → IsAnswerOver IsMine false input a → a ≢ Err fault.Memory → a ≢ Err fault.Io
+      → IsAnswerOver IsMine false input other → other ≢ Err fault.Memory → other ≢ Err fault.Io → other ≡ a
+  alone input a other is memory read is_too memory_too read_too =
+      agree input other a (judged input other is_too memory_too read_too) (judged input a is memory read)
+
+module _ (IsMine : Bool → List ℕ → Answer → Type 0) (one_answer : (text : List ℕ) (a b : Answer) → IsMine false text a → IsMine false text b → a ≡ b)
+    (plain : (text : List ℕ) (a : Answer) → IsMine true text a → ¬ (IsGivenUp a) → IsMine false text a) where
+  plain_to : (input : List ℕ) (a : Answer) → IsAnswerOver IsMine true input a → ¬ (IsGivenUp a) → IsAnswerOver IsMine false input a
+  plain_to input (Ok told) is ended = (is.0, is.1, plain (image_of input) (Ok told) is.2 ended)
   plain_to input (Err fault.Memory) is ended = tt
   plain_to input (Err fault.Io) is ended = tt
   plain_to input (Err fault.TooLong) is ended = is
   plain_to input (Err (fault.Parts n)) is ended = is
-  plain_to input (Err f) is ended = (is.0, is.1, plain (image_in input) (Err f) is.2 ended)
+  plain_to input (Err f) is ended = (is.0, is.1, plain (image_of input) (Err f) is.2 ended)
 
-  pub told_alike : (input : List ℕ) (a : Answer) → IsAnswerOver true input a → ¬ (IsGivenUp a) → a ≢ Err fault.Memory → a ≢ Err fault.Io
-      → IsAnswerOver false input a × ((other : Answer) → IsAnswerOver false input other → other ≢ Err fault.Memory → other ≢ Err fault.Io → other ≡ a)
+  pub told_alike : (input : List ℕ) (a : Answer) → IsAnswerOver IsMine true input a → ¬ (IsGivenUp a) → a ≢ Err fault.Memory → a ≢ Err fault.Io
+      → IsAnswerOver IsMine false input a × ((other : Answer) → IsAnswerOver IsMine false input other → other ≢ Err fault.Memory → other ≢ Err fault.Io → other ≡ a)
   told_alike input a is ended memory read =
       let plain = plain_to input a is ended in (
         plain,
-        λ other is_too memory_too read_too. agree input other a (judged input other is_too memory_too read_too) (judged input a plain memory read),
+        λ other. alone IsMine one_answer input a other plain memory read,
       )
 
 -- ---- reports

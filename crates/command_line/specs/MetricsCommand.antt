@@ -1,6 +1,6 @@
 -- What the command `metrics` answers to the text of an image, with its labels, and with `--bus` and `--flags` or without them.
 -- (docs/formats.md, "Input", "Metrics" and "Reports over a bus"; this project's own)
-use Rattle.std.specs.Prelude.{◌≡◌, ◌⊎◌, ℕ, Bool, List, Option, Some, None, option_map, Ok, Err}
+use Rattle.std.specs.Prelude.{◌≡◌, ◌⊎◌, ℕ, Bool, not, List, Option, Some, None, option_map, Ok, Err}
 use Rattle.text_lines.specs.Lines.{lines_of}
 use Rattle.paged_memory.specs.Images.{Memory}
 use Rattle.paged_memory.specs.ImageFaults.{IsFirstFault}
@@ -13,9 +13,9 @@ use Rattle.command_line.specs.declared.told_fault.ToldFault.TheVariants.{Metrics
 use Rattle.command_line.specs.OverBus.{IsToReport, IsUnread}
 use Rattle.command_line.specs.Runs.{Answer}
 
--- the metrics of a memory, and the first fault of its reports
-pub record AreMetricsOf (all : Bool) (labels : List Label) (memory : Memory) (text : List ℕ) (told : Option ToldFault) : Type 0 where
-  pub text_is : text ≡ exposition labels (metrics_of all memory)
+-- the metrics of a memory, with those of VDM or without, and the first fault of its reports
+pub record AreMetricsOf (all with_vdm : Bool) (labels : List Label) (memory : Memory) (text : List ℕ) (told : Option ToldFault) : Type 0 where
+  pub text_is : text ≡ exposition labels (metrics_of all with_vdm memory)
   pub fault_is : told ≡ option_map Metrics (first_fault memory)
 
 -- there is nothing to report of, and the metrics have the fault alone
@@ -23,10 +23,10 @@ pub record IsFaultAlone (labels : List Label) (f : ReportFault) (text : List ℕ
   pub text_is : text ≡ fault_text labels f
   pub fault_is : told ≡ Some (Metrics f)
 
--- the answer; an image that is none has a line, as for other commands
+-- the answer, over a bus without VDM, whose pages a host doesn't read; an image that is none has a line, as for other commands
 abbrev pub IsMetricsAnswer : Bool → Bool → List Label → List ℕ → Answer → Type 0
 IsMetricsAnswer bus all labels image (Ok (text, told)) =
-    ((memory : Memory) × IsToReport bus image memory × AreMetricsOf all labels memory text told)
+    ((memory : Memory) × IsToReport bus image memory × AreMetricsOf all (not bus) labels memory text told)
     ⊎ ((f : ReportFault) × IsUnread bus image f × IsFaultAlone labels f text told)
 IsMetricsAnswer bus all labels image (Err (fault.Image f)) = IsFirstFault (lines_of image) f
 -- the faults of other commands don't come

@@ -1,12 +1,21 @@
--- That a report with `--bus` is the one without it. (docs/formats.md, "Reports over a bus"; this project's own)
-use Rattle.std.specs.Prelude.{◌≡◌, ◌≢◌, ℕ, Bool, true, false, List, Option, Some, option_map, Ok, Err}
+-- That a report with `--bus` is the one without it, and so are metrics, but for those of VDM. (docs/formats.md, "Reports over a bus"; this project's own)
+use Rattle.std.specs.Prelude.{◌≡◌, ◌≢◌, ◌∷◌, ◌++◌, [], ℕ, Bool, true, false, List, Option, Some, option_map, Ok, Err}
+use Rattle.text_lines.specs.Lines.{lines_of}
+use Rattle.paged_memory.specs.Images as images
+use Rattle.paged_memory.specs.ImageText.{IsTextOf}
+use Rattle.module_metrics.specs.Exposition.{Label, exposition}
+use Rattle.module_metrics.specs.VdmMetrics.{vdm_metrics, vdm_seen}
 use Rattle.reports.specs.declared.fault.ReportFault.TheVariants.{GaveUp}
 use Rattle.command_line.specs.Faults.{fault_of_told}
 use Rattle.command_line.specs.declared.fault.Fault.{Fault}
 use Rattle.command_line.specs.declared.fault.Fault.TheVariants.{Memory, Io, Report}
 use Rattle.command_line.specs.Commands.{IsAnswerOf}
+use Rattle.command_line.specs.Parts.{parts_of}
+use Rattle.command_line.specs.PartsRead.{text_in}
 use Rattle.command_line.specs.Runs.{Answer}
 use Rattle.command_line.specs.declared.choice.commands.Request.{Request}
+use Rattle.command_line.specs.declared.choice.part.Part.TheVariants.{Image}
+use Rattle.command_line.specs.declared.told_fault.ToldFault.{ToldFault}
 
 -- the fault of an answer, alone or beside a text
 abbrev pub answer_fault : Answer → Option Fault
@@ -28,3 +37,23 @@ abbrev pub IsToldAlike : (Bool → Request) → Type 0
 IsToldAlike request =
     (input : List ℕ) (answer : Answer) → IsAnswerOf (request true) input answer → ¬ (IsGivenUp answer) → answer ≢ Err Memory → answer ≢ Err Io
     → IsPlainAnswer request input answer
+
+-- the image of an input that has no other part
+abbrev pub image_of : List ℕ → List ℕ
+image_of input = text_in (Image ∷ []) (parts_of input) Image
+
+-- without `--bus` the same is followed by the metrics of what the module of the image lists itself (VDM)
+pub record IsFollowed (labels : List Label) (request : Bool → Request) (input text : List ℕ) (told : Option ToldFault) : Type 0 where
+  pub memory : images.Memory
+  pub is_image : IsTextOf (lines_of (image_of input)) memory
+  pub whole : IsPlainAnswer request input (Ok (text ++ exposition labels (vdm_metrics (vdm_seen memory)), told))
+
+abbrev pub IsFollowedAnswer : List Label → (Bool → Request) → List ℕ → Answer → Type 0
+IsFollowedAnswer labels request input (Ok (text, told)) = IsFollowed labels request input text told
+IsFollowedAnswer labels request input (Err f) = IsPlainAnswer request input (Err f)
+
+-- so is each answer with `--bus`, but for the same
+abbrev pub AreToldBefore : List Label → (Bool → Request) → Type 0
+AreToldBefore labels request =
+    (input : List ℕ) (answer : Answer) → IsAnswerOf (request true) input answer → ¬ (IsGivenUp answer) → answer ≢ Err Memory → answer ≢ Err Io
+    → IsFollowedAnswer labels request input answer

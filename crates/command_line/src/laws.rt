@@ -6,7 +6,7 @@ ghost use Rattle.command_line.specs.FaultTexts.{has_sentence};
 ghost use Rattle.command_line.specs.Limits.{input_limit};
 ghost use Rattle.command_line.specs.Parts.{parts_of};
 ghost use Rattle.command_line.specs.PlanThenCheck.{input_with, IsEnded, IsGoodBehind, IsGoodBehindInput, IsGoodInPlace};
-ghost use Rattle.command_line.specs.SameOverBus.{IsToldAlike};
+ghost use Rattle.command_line.specs.SameOverBus.{AreToldBefore, IsToldAlike};
 ghost use Rattle.module_metrics.specs.Exposition.{Label};
 ghost use Rattle.command_line.specs.declared.choice.coloring.Coloring.{Coloring};
 ghost use Rattle.command_line.specs.declared.choice.commands.Choice.TheVariants.{Metrics, Plan, Report};
@@ -31,10 +31,10 @@ pub fn what_is_planned_is_good()
 
 /// What a report prints with `--bus`, and how it ends, is what it prints without and how it ends then, with `--json` and without
 /// it, in colors or not, unless the module was not read whole, or an allocation or a read was refused. So it is with metrics, whatever labels they
-/// have, and whether all flags are told or those that are raised.
+/// have, and whether all flags are told or those that are raised; but without the flag, those of what the module lists itself (VDM) follow.
 pub fn a_bus_changes_no_report()
     ensures reports { (report : ReportName) (coloring : Coloring) (json : Bool) → IsToldAlike (λ bus. in_form json (Report report bus coloring)) }
-    ensures metrics { (labels : List Label) (all json : Bool) → IsToldAlike (λ bus. in_form json (Metrics bus all labels)) }
+    ensures metrics { (labels : List Label) (all json : Bool) → AreToldBefore labels (λ bus. in_form json (Metrics bus all labels)) }
 {}
 
 /// Each fault has a sentence, however the input begins.

@@ -1,5 +1,5 @@
 -- Each metric of VDM writes what was measured.
-use Rattle.std.proofs.Common.{◌≡◌, ◌∙◌, ℕ, ◌<◌, ◌==◌, true, ℤ, pos, Option, Some, None, List, [], ◌++◌, if◌then◌else◌, refl, sym, ap, append-nil}
+use Rattle.std.proofs.Common.{◌≡◌, ◌∙◌, ℕ, ◌==◌, true, ℤ, pos, Option, Some, None, List, [], ◌++◌, refl, sym, ap, append-nil}
 use Rattle.std.specs.Prelude.{⊤, unsigned_abs}
 use Rattle.std.specs.Option.{option_map_or}
 use Rattle.std.proofs.lemmas.Bool.{cond_both}
@@ -14,11 +14,11 @@ use Rattle.observables.specs.declared.quantity.Unit.{Unit}
 use Rattle.observables.specs.declared.quantity.Unit.TheVariants as units
 use Rattle.observable_reports.specs.declared.amount_text.ShownAmount.{ShownAmount}
 use Rattle.observable_reports.specs.declared.amount_text.ShownAmount.TheVariants as shown
-use Rattle.observable_reports.specs.AmountTexts.{fixed_of, is_small, places_of, rounded_of, shown_as, text_of}
+use Rattle.observable_reports.specs.AmountTexts.{is_small, places_of, rounded_of, shown_as, text_of}
 use Rattle.observable_reports.specs.WrittenAmounts.{IsNumber, IsWritten}
 use Rattle.observable_reports.proofs.ExactTexts.{each_is_written}
 use Rattle.observable_reports.proofs.WordNumbers.{each_is_a_number}
-use Rattle.module_metrics.specs.Numbers.{Number, float, fraction, number_of, power_text}
+use Rattle.module_metrics.specs.Numbers.{float, fraction, number_of, power_text}
 use Rattle.module_metrics.specs.VdmLaws.{EachWordIsWritten, HasNumber}
 use Rattle.module_metrics.specs.VdmUnits.{power_of}
 

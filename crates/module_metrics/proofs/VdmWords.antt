@@ -1,5 +1,5 @@
 -- The names of the metrics of VDM are names of the format, and what is said of them is one line.
-use Rattle.std.proofs.Common.{◌≡◌, ◌&&◌, Bool, true, false, ◌∷◌, ◌++◌, codes, refl}
+use Rattle.std.proofs.Common.{◌≡◌, Bool, true, false, ◌∷◌, ◌++◌, codes, refl}
 use Rattle.std.specs.List.{list_all}
 use Rattle.observables.specs.Quantities.{quantity_row}
 use Rattle.observables.specs.declared.observable.Figure.{Figure}

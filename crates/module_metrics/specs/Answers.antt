@@ -11,7 +11,7 @@ use Rattle.reports.specs.Reports.{flags_entries, flags_fault, flags_told, invent
 use Rattle.module_metrics.specs.Exposition.{Label, Metric, exposition}
 use Rattle.module_metrics.specs.ModuleMetrics.{fault_metrics, module_metrics}
 use Rattle.module_metrics.specs.Unless.{unless}
-use Rattle.module_metrics.specs.VdmMetrics.{vdm_metrics, vdm_seen}
+use Rattle.module_metrics.specs.VdmMetrics.{listed_metrics}
 
 -- the first word of a fault's line
 abbrev pub code_of : ReportFault → List ℕ
@@ -25,14 +25,15 @@ first_fault memory = option_or (option_or (inventory_fault memory) (monitors_fau
 unfoldable pub told_flags : Bool → Memory → List (Flag × Bool)
 told_flags all memory = if all then unless (flags_fault memory) (flags_told memory) else []
 
-unfoldable pub metrics_of : Bool → Memory → List Metric
-metrics_of all memory =
+-- with those of VDM, or without
+unfoldable pub metrics_of : Bool → Bool → Memory → List Metric
+metrics_of all with_vdm memory =
     module_metrics all (told_flags all memory)
     (unless (inventory_fault memory) (inventory_entries memory))
     (unless (monitors_fault memory) (monitors_entries memory))
     (unless (flags_fault memory) (flags_entries memory))
     (option_map code_of (first_fault memory))
-    ++ vdm_metrics (vdm_seen memory)
+    ++ listed_metrics with_vdm memory
 
 -- ---- without an image
 

@@ -18,7 +18,7 @@ use crate::labels::Labels;
 use crate::metric::{Metric, add_metric, no_metrics, one_label, one_sample};
 use crate::module_metrics::{add_entries, add_info, add_sums};
 use crate::scale::Scale;
-use crate::vdm_metrics::{add_vdm, vdm_seen};
+use crate::vdm_metrics::add_listed;
 use paged_memory::Image;
 use report_entries::{Entry, Flag, TextIn};
 use reports::{ReportFault, flags_entries, flags_told, inventory_entries, monitors_entries};
@@ -32,7 +32,7 @@ pub struct Answer {
     pub fault: Option<ReportFault>,
 }
 
-/// What the reports of the module of an image say, and then what it lists itself (VDM), as metrics whose samples all have these labels.
+/// What the reports of the module of an image say, and then, if asked for, what it lists itself (VDM), as metrics whose samples all have these labels.
 /// Of its flags those that are raised are told, or all. The only refusal is out of memory: a report that has a fault says nothing, and the first fault is a metric.
 #[tactic(auto, unfolding(crate::specs::Answers::metrics_of, crate::specs::Answers::first_fault, crate::specs::Told::metrics_in, report_entries::specs::Entries::said_in))]
 pub fn metrics(
@@ -40,8 +40,9 @@ pub fn metrics(
     image: &Image,
     labels: &Labels,
     all: bool,
+    with_vdm: bool,
 ) -> Result<Answer, ReportFault>
-    ensures text { IfOk result (λ answer. answer.text.items ≡ exposition labels.now (metrics_of all image.now)) }
+    ensures text { IfOk result (λ answer. answer.text.items ≡ exposition labels.now (metrics_of all with_vdm image.now)) }
     ensures fault { IfOk result (λ answer. answer.fault ≡ first_fault image.now) }
     ensures labels { IfOk result (λ answer. AreAdded labels.now) }
     ensures refused { IfErr result (λ refusal. refusal ≡ Memory) }
@@ -52,7 +53,7 @@ pub fn metrics(
     let warned = warned(alloc, image, &mut fault)?;
     let told = told(alloc, image, all)?;
     let mut metrics = module_metrics(alloc, all, &told, &identity, &measured, &warned, fault)?;
-    add_vdm(alloc, &mut metrics, &vdm_seen(alloc, image)?)?;
+    add_listed(alloc, &mut metrics, image, with_vdm)?;
     Ok(Answer {
         text: exposition::text(alloc, labels.as_slice(), &metrics)?,
         fault,

@@ -5,7 +5,7 @@ ghost use Rattle.module_metrics.specs.Unless.{unless};
 ghost use Rattle.module_metrics.specs.Exposition.{label};
 ghost use Rattle.module_metrics.specs.Told.{labels_in, metrics_in, number_in, samples_in};
 ghost use Rattle.module_metrics.specs.VdmMetrics as spec;
-ghost use Rattle.module_metrics.specs.VdmMetrics.{is_of, limit_sample, limit_samples, limits_metrics, listed, measure_metrics, number_labels, number_samples, place_labels, seen_before, some_metrics, value_sample, values_metrics, vdm_metrics, vdm_seen};
+ghost use Rattle.module_metrics.specs.VdmMetrics.{is_of, limit_sample, limit_samples, limits_metrics, listed, listed_metrics, measure_metrics, number_labels, number_samples, place_labels, seen_before, some_metrics, value_sample, values_metrics, vdm_metrics, vdm_seen};
 ghost use Rattle.reports.specs.Families.{detail_fault};
 
 use crate::flag_metrics::add_lane;
@@ -36,9 +36,9 @@ const MONITOR_PLACES: u16 = PLACES - INSTANCES;
 
 const INSTANCES: u16 = 1024;
 
-/// The instances that a module advertises, by rising number.
+// The instances that a module advertises, by rising number.
 #[tactic(auto, unfolding(crate::specs::VdmMetrics::vdm_seen, reports::specs::Families::detail_fault))]
-pub fn vdm_seen(alloc: Global, image: &Image) -> Result<Vec<Seen>, AllocError>
+fn vdm_seen(alloc: Global, image: &Image) -> Result<Vec<Seen>, AllocError>
     ensures { IfOk result (λ seen. seen.items ≡ vdm_seen image.now) }
 {
     match detail_family_of(image) {
@@ -83,9 +83,25 @@ fn add_seen(
 
 // ---- metrics
 
-/// Adds the metrics of instances: the values of each quantity and figure, then their limits, unless there are none.
+/// Adds the metrics of what a module lists itself, if they are asked for.
+pub fn add_listed(
+    alloc: Global,
+    metrics: &mut Vec<Metric>,
+    image: &Image,
+    with_vdm: bool,
+) -> Result<(), AllocError>
+    ensures { OnOk result (metrics_in metrics.new ≡ metrics_in metrics.old ++ listed_metrics with_vdm image.now) }
+{
+    if with_vdm {
+        add_vdm(alloc, metrics, &vdm_seen(alloc, image)?)
+    } else {
+        Ok(())
+    }
+}
+
+// The metrics of instances: the values of each quantity and figure, then their limits, unless there are none.
 #[tactic(auto, unfolding(crate::specs::VdmMetrics::vdm_metrics))]
-pub fn add_vdm(alloc: Global, metrics: &mut Vec<Metric>, seen: &[Seen]) -> Result<(), AllocError>
+fn add_vdm(alloc: Global, metrics: &mut Vec<Metric>, seen: &[Seen]) -> Result<(), AllocError>
     ensures { OnOk result (metrics_in metrics.new ≡ metrics_in metrics.old ++ vdm_metrics seen.now) }
 {
     add_measures(alloc, metrics, measures(), seen)

@@ -12,8 +12,8 @@ use paged_memory::Image;
 use reports::ReportFault;
 use std::alloc::Global;
 
-/// What the reports of the module of an image say, or of what is read of it over a bus, as metrics with these labels. Of its flags those
-/// that are raised are told, or all.
+/// What the reports of the module of an image say and what it lists itself (VDM), or what the reports of what is read of it over a bus say, as
+/// metrics with these labels. Of its flags those that are raised are told, or all.
 pub fn print_metrics(
     alloc: Global,
     is_over_bus: bool,
@@ -25,7 +25,7 @@ pub fn print_metrics(
     ensures read { IfErr result (λ fault. fault ≢ Fault.Io) }
 {
     match image_to_report(alloc, image, is_over_bus) {
-        Ok(image) => of_image(alloc, all, labels, &image),
+        Ok(image) => of_image(alloc, all, !is_over_bus, labels, &image),
         Err(Fault::Report(fault)) => of_fault(alloc, labels, fault),
         Err(fault) => Err(fault),
     }
@@ -35,13 +35,14 @@ pub fn print_metrics(
 fn of_image(
     alloc: Global,
     all: bool,
+    with_vdm: bool,
     labels: &Labels,
     image: &Image,
 ) -> Result<CommandOutput, Fault>
-    ensures told { IfOk result (λ output. AreMetricsOf all labels.now image.now output.text.items output.fault) }
+    ensures told { IfOk result (λ output. AreMetricsOf all with_vdm labels.now image.now output.text.items output.fault) }
     ensures memory { IfErr result (λ fault. fault ≡ Fault.Memory) }
 {
-    let Answer { text, fault } = metrics(alloc, image, labels, all)?;
+    let Answer { text, fault } = metrics(alloc, image, labels, all, with_vdm)?;
     Ok(CommandOutput {
         text,
         fault: told(fault),

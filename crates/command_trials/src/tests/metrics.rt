@@ -9,7 +9,7 @@ use std::test::Fail;
 // The text of an image's metrics.
 fn text_of(alloc: Global, image: &str, words: &[&str], all: bool) -> Result<String, Fail> {
     let image = Image::read(image.as_bytes())?;
-    let answer = metrics(alloc, &image, &labels_of(alloc, words)?, all)?;
+    let answer = metrics(alloc, &image, &labels_of(alloc, words)?, all, true)?;
     Ok(String::from_utf8(answer.text)?)
 }
 
@@ -88,7 +88,7 @@ fn a_report_with_a_fault_leaves_the_others(rt: HostRuntime) -> Result<(), Fail> 
     let page = |page| Key::upper(Dev::A0, 0, page);
     let kept = [Key::lower(Dev::A0), page(0x00), page(0x01), page(0x11)];
     let labels = Labels::new(rt.alloc());
-    let answer = metrics(rt.alloc(), &only(&module, &kept)?, &labels, false)?;
+    let answer = metrics(rt.alloc(), &only(&module, &kept)?, &labels, false, true)?;
     assert_eq!(rt; answer.fault, Some(ReportFault::Absent(page(0x02))));
     let text = String::from_utf8(answer.text)?;
     assert_eq!(rt; samples_in(&text), 26);
