@@ -1,28 +1,20 @@
 -- What is answered to words that `clap` takes: what they ask for, or that a word of a flag is wrong.
-use Rattle.std.proofs.Common.{◌≡◌, ◌∙◌, ◌+◌, ◌<◌, ℕ, suc, arith, length, drop, drop-cons, get_or, subst, Bool, Bor, true, List, [], ◌∷◌, Option, Some, None, IfSome, Result, Ok, Err, IfOk, IfErr, is_some, map, ap, sym, refl, inl, inr}
+use Rattle.std.proofs.Common.{◌≡◌, ◌∙◌, ◌+◌, ◌<◌, ℕ, suc, arith, length, drop, drop-cons, get_or, subst, Bor, true, List, [], ◌∷◌, Option, Some, None, IfSome, Result, Ok, Err, IfOk, IfErr, is_some, map, ap, sym, refl, inl, inr}
 use Rattle.std.specs.Prelude.{MatchOption}
 use Rattle.std.specs.Result.{result_ok}
-use Rattle.clap.specs.Words.{Row, Text, first_of}
+use Rattle.clap.specs.Words.{Text}
 use Rattle.module_metrics.specs.CommonLabels.{Adds, IsAdded, label_fault}
 use Rattle.module_metrics.specs.Exposition.{Label}
 use Rattle.module_metrics.specs.declared.label_fault.LabelFault.{LabelFault}
 use Rattle.module_metrics.specs.declared.label_fault.LabelFault.TheVariants as label
 use Rattle.command_line.specs.Choice.{faults_of, request_of}
 use Rattle.command_line.specs.ChoiceFault.{Gives, fault_of_label}
-use Rattle.command_line.specs.GivenFlags.{bus, flags_flag, is_given}
-use Rattle.command_line.specs.MetricsChoice.{all_by, labels_in, labels_with, metrics_with, more_labels, then_with}
+use Rattle.command_line.specs.MetricsChoice.{labels_with, more_labels, then_with}
 use Rattle.command_line.specs.Program.{IsRefusalOf}
-use Rattle.command_line.specs.declared.choice.commands.Choice.TheVariants.{Metrics}
 use Rattle.command_line.specs.declared.choice.commands.Request.{Request}
 use Rattle.command_line.specs.declared.choice.fault.ChoiceFault.{ChoiceFault}
 use Rattle.command_line.specs.declared.choice.fault.ChoiceFault.TheVariants.{Memory, Line, Word}
 use Rattle.command_line.specs.declared.choice.word_fault.WordFault.{WordFault}
-
--- a fault is that of what is done after it
-pub given_then : {A B : Type 0} (f : A → Result B WordFault) (told : Result A WordFault) (e : ChoiceFault) → Gives told (Err e) → Gives (then_with f told) (Err e)
-given_then f told Memory gives = tt
-given_then f told (Line error) gives = absurd gives
-given_then f told (Word w) gives = ap (then_with f) gives
 
 -- ---- labels
 
@@ -76,17 +68,6 @@ module _ (old new : List Label) (words : List (Bor Text)) (i : ℕ) (d : Bor Tex
       → Gives (labels_of old (drop i words)) (Err (fault_of_label fault))
   word_refused r fault same adds = subst (λ (told : Result (List Label) WordFault). Gives told (Err (fault_of_label fault))) (sym place_known)
       (label_refused old new (get_or words i d).now (map (λ word. word.now) (drop (i + 1) words)) r fault same adds)
-
--- ---- the flags of `metrics`
-
-module _ (rows : List Row) (labels : List Label) (are : labels_in rows ≡ Ok labels) where
-  pub metrics_given : (all : Bool) → all_by (first_of flags_flag rows) ≡ Ok all → metrics_with rows ≡ Ok (Metrics (is_given bus rows) all labels)
-  metrics_given all is = ap (then_with (λ ls. then_with (λ x. Ok (Metrics (is_given bus rows) x ls)) (all_by (first_of flags_flag rows)))) are
-      ∙ ap (then_with (λ x. Ok (Metrics (is_given bus rows) x labels))) is
-
-  pub metrics_wrong : (w : WordFault) → all_by (first_of flags_flag rows) ≡ Err w → metrics_with rows ≡ Err w
-  metrics_wrong w is = ap (then_with (λ ls. then_with (λ x. Ok (Metrics (is_given bus rows) x ls)) (all_by (first_of flags_flag rows)))) are
-      ∙ ap (then_with (λ x. Ok (Metrics (is_given bus rows) x labels))) is
 
 -- ---- what words ask for
 

@@ -1,10 +1,9 @@
 -- The answer of `metrics`, by what reporting the image, or the fault alone, answers.
-use Rattle.std.proofs.Common.{◌≡◌, ℕ, Bool, not, List, Option, Result, Ok, Err, IfOk, IfErr, inl, inr}
+use Rattle.std.proofs.Common.{◌≡◌, ℕ, Bool, not, List, Result, Ok, Err, IfOk, IfErr, inl}
 use Rattle.paged_memory.specs.Images.{Memory}
 use Rattle.module_metrics.specs.Exposition.{Label}
-use Rattle.reports.specs.declared.fault.ReportFault.{ReportFault}
-use Rattle.command_line.specs.MetricsCommand.{AreMetricsOf, IsFaultAlone, IsMetricsAnswer}
-use Rattle.command_line.specs.OverBus.{IsToReport, IsUnread}
+use Rattle.command_line.specs.MetricsCommand.{AreMetricsOf, IsMetricsAnswer}
+use Rattle.command_line.specs.OverBus.{IsToReport}
 use Rattle.command_line.specs.Runs.{IsOwnAnswer, answer_of}
 use Rattle.command_line.specs.declared.command_output.CommandOutput.{CommandOutput}
 use Rattle.command_line.specs.declared.fault.Fault.{Fault}
@@ -18,8 +17,3 @@ module _ (bus all : Bool) (labels : List Label) (image : List ℕ) where
       → IfOk answer (λ output. AreMetricsOf all (not bus) labels memory output.text.items output.fault) → IfErr answer (λ f. f ≡ fault.Memory) → IsOwn answer
   of_memory memory read (Ok output) are none = inl (memory, read, are)
   of_memory memory read (Err f) are none = rw none tt
-
-  pub of_fault_alone : (f : ReportFault) → IsUnread bus image f → (answer : Result CommandOutput Fault)
-      → IfOk answer (λ output. IsFaultAlone labels f output.text.items output.fault) → IfErr answer (λ g. g ≡ fault.Memory) → IsOwn answer
-  of_fault_alone f unread (Ok output) alone none = inr (f, unread, alone)
-  of_fault_alone f unread (Err g) alone none = rw none tt

@@ -40,12 +40,6 @@ few_parts (Provision wake activate false conventions) = omega arith
 few_parts (Trace wake activate true conventions) = omega arith
 few_parts (Trace wake activate false conventions) = omega arith
 
--- what holds of the bytes that were read holds of the input, where that is known
-pub of_input : (o : Option (List ℕ)) (bytes : List ℕ) (P : List ℕ → Type 0) → IfSome o (λ input. (bytes ≡ input) × (length input ≤ input_limit))
-    → ((input : List ℕ) → bytes ≡ input → length input ≤ input_limit → P input) → IfSome o P
-of_input None bytes P h k = tt
-of_input (Some input) bytes P h k = k input h.0 h.1
-
 -- what follows of the input holds of it, where it is known
 pub if_known : {T : Type 0} (o : Option T) (P Q : T → Type 0) → ((x : T) → P x → Q x) → IfSome o P → IfSome o Q
 if_known None P Q k h = tt

@@ -22,9 +22,6 @@ pub record Passed (text rest : List ℕ) (len : ℕ) : Type 0 where
   pub within : len ≤ length text
   pub plain : All (λ line. is_separator_line line ≡ false) front
 
-pub none_passed : (text : List ℕ) → Passed text text 0
-none_passed text = record { front = []; lines = refl; bytes = refl; behind = refl; within = omega arith; plain = λ k d lt. absurd (omega arith) }
-
 one_plain : (line : List ℕ) → is_separator_line line ≡ false → All (λ l. is_separator_line l ≡ false) (line ∷ [])
 one_plain line h zero d lt = h
 one_plain line h (suc k) d lt = absurd (omega arith)

@@ -2,7 +2,7 @@
 use Rattle.std.proofs.Common.{◌≡◌, ◌∙◌, ◌↔◌, ◌<◌, ℕ, Bool, true, false, ap, All, AllPairs, Contains, List, Ok, Err, map, sym, subst}
 use Rattle.applications.specs.declared.conventions.Conventions.{Conventions}
 use Rattle.applications.specs.Advertised.{Advertised}
-use Rattle.applications.specs.AppWeights.{PathWeights, app_weights}
+use Rattle.applications.specs.AppWeights.{app_weights}
 use Rattle.applications.specs.Weights.{ListedWeights}
 use Rattle.applications.specs.WeightFaults.{IsAnswer}
 use Rattle.applications.specs.declared.weights.fault.WeightsFault.{WeightsFault}
@@ -10,14 +10,13 @@ use Rattle.applications.specs.declared.weights.fault.WeightsFault.TheVariants as
 use Rattle.lane_planner.specs.FirstBest.{IsFirstBest}
 use Rattle.lane_planner.specs.Gains.{IsGain}
 use Rattle.plan_certificate.specs.Certificates.{Claim, IsGood, state_of}
-use Rattle.lane_planner.specs.CertifiedPlans.{IsCertified, IsPlanText}
-use Rattle.plan_certificate.specs.Plans.{IsAdmissible, IsBest}
+use Rattle.plan_certificate.specs.Plans.{IsBest}
 use Rattle.plan_certificate.specs.ReachedStates.{IsReached}
 use Rattle.plan_certificate.specs.Verdicts.{verdict}
 use Rattle.plan_certificate.specs.declared.path.Path.{Path}
 use Rattle.plan_certificate.specs.declared.state.State.{State}
 use Rattle.plan_certificate.specs.declared.verdict.Verdict.TheVariants.{Good}
-use Rattle.report_entries.specs.EntryJson.{IsJsonText, json_text}
+use Rattle.report_entries.specs.EntryJson.{json_text}
 use Rattle.plan_reports.specs.PlanJson.{plan_json}
 use Rattle.command_line.specs.Faults.{fault_of_weights}
 use Rattle.command_line.specs.GivenPlan.{IsGiven}
@@ -49,27 +48,6 @@ module _ (conventions : Conventions) (image_text weights_text kept_text : List �
     states = subst (λ (k : List Path). (state : State) → IsReached advert (app_weights advert listed) k state ↔ Contains (map state_of certificate.entries) state) (sym same) states;
     judged_again = judged;
   }
-
--- a plan that a certificate has
-abbrev pub HasCertificate : Advertised → PathWeights → List Path → List Path → Type 0
-HasCertificate advert weights kept plan = (certificate : Claim) × IsCertified advert weights kept certificate × (certificate.paths ≡ plan)
-
-pub certified_admissible : (advert : Advertised) (weights : PathWeights) (kept plan : List Path) → HasCertificate advert weights kept plan → IsAdmissible advert plan
-certified_admissible advert weights kept plan (certificate, certified, same) = subst (λ (paths : List Path). IsAdmissible advert paths) same certified.good.admissible
-
-pub tells_json : (json : Bool) (advert : Advertised) (weights : PathWeights) (kept plan : List Path) (text : List ℕ) → json ≡ true → HasCertificate advert weights kept plan
-    → IsJsonText (plan_json advert weights kept plan) text → TellsPlan json advert weights kept text
-tells_json true advert weights kept plan text is (certificate, certified, same) written = record {
-  certificate = certificate;
-  certified = certified;
-  written = written.spelled ∙ ap (λ (paths : List Path). json_text (plan_json advert weights kept paths)) (sym same);
-}
-tells_json false advert weights kept plan text is given written = absurd cc
-
-pub tells_text : (json : Bool) (advert : Advertised) (weights : PathWeights) (kept : List Path) (text : List ℕ) → json ≡ false
-    → IsPlanText advert weights kept text → TellsPlan json advert weights kept text
-tells_text false advert weights kept text is written = written
-tells_text true advert weights kept text is written = absurd cc
 
 -- what is told of a certified plan is told of the one that is given
 pub plan_told : (json : Bool) (conventions : Conventions) (image_text weights_text kept_text : List ℕ) (advert : Advertised) (listed : ListedWeights) (kept : List Path) (text : List ℕ)

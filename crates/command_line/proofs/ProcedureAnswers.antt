@@ -17,7 +17,6 @@ use Rattle.control_sets.specs.declared.fault.ProvisionFault.{ProvisionFault}
 use Rattle.control_sets.specs.declared.procedures.power.Power.TheVariants.{Awake}
 use Rattle.control_sets.specs.ControlBytes.{control_bytes}
 use Rattle.control_sets.specs.PlanLanes.{lanes_outside, plan_lanes}
-use Rattle.plan_certificate.specs.Plans.{IsAdmissible, Keeps}
 use Rattle.plan_certificate.specs.declared.path.Path.{Path}
 use Rattle.sim_module.specs.ActiveSets.{HasNoApply, IsAtRest}
 use Rattle.sim_module.specs.Lanes.{active_bytes, all_lanes, no_lane}
@@ -142,12 +141,6 @@ module _ (conventions : Conventions) (image listed kept script : List ℕ) (sess
 
   pub session_at_rest : HasNoApply session.bus.device
   session_at_rest = subst HasNoApply (sym session_module) (new_at_rest is.set_up.given.is_advert.memory delays)
-
-  pub session_admissible : IsAdmissible session.advert session.plan
-  session_admissible = rw (is.advert, is.plan) is.set_up.given.is_good.admissible
-
-  pub session_keeps : Keeps session.kept session.plan
-  session_keeps = rw (is.kept, is.plan) is.set_up.given.is_good.keeps
 
 -- by the same condition in other words
 pub makes_as : (given wanted : Bool) (Does : BusProcedure) (before after : ModuleBus) (ended : Option StepsOrFault)

@@ -1,6 +1,5 @@
 -- What is said beside an answer is what its input gives cause for.
 use Rattle.std.proofs.Common.{◌≡◌, ◌∙◌, ℕ, Bool, true, false, List, Option, Some, None, IfSome, Ok, Err, ap, sym, refl, subst}
-use Rattle.command_line.specs.Input.{IsReadOf}
 use Rattle.command_line.specs.Remarks.{clue_for}
 use Rattle.command_line.specs.RemarksBeside.{IsRemarkBeside}
 use Rattle.command_line.specs.ToldRemarks.{beside_told}
@@ -20,13 +19,6 @@ use Rattle.command_line.specs.declared.status.Status.{Status}
 use Rattle.command_line.specs.declared.status.Status.TheVariants.{ReadOrWrite}
 use Rattle.command_line.specs.declared.ending.Ending.{Ending}
 use Rattle.command_line.specs.Program.{refusal_ending, refusal_remark}
-
--- of a fault of reading the input tells nothing
-pub read_clue : (input : List ℕ) (f : Fault) → IsReadOf input (Err f) → record { opening = Other; weights_line = None } ≡ clue_for f input
-read_clue input fault.TooLong is = refl
-read_clue input fault.Io is = refl
-read_clue input fault.Memory is = refl
-read_clue input f is = absurd is
 
 -- nor of a fault that a text tells of
 told_clue : (told : ToldFault) (input : List ℕ) → record { opening = Other; weights_line = None } ≡ clue_for (fault_of_told told) input
