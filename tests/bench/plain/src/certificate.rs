@@ -158,8 +158,10 @@ fn check_entries(problem: &Problem, certificate: &Certificate) -> Result<(), Fau
         if problem.may_stay_free(state.0) {
             check_step((state.0 + 1, state.1), 0)?;
         }
-        for choice in problem.paths_from(*state) {
-            check_step(Problem::after(*state, choice), choice.weight)?;
+        let check = |choice: &Choice| check_step(Problem::after(*state, choice), choice.weight);
+        if problem.heaviest_from(*state).any(|choice| check(choice).is_err()) {
+            // the first that is not good says why
+            problem.paths_from(*state).try_for_each(check)?;
         }
     }
     if start != certificate.weight {

@@ -59,7 +59,7 @@ impl Flags {
     }
 }
 
-/// What a command prints, and the fault that ends it.
+/// What a command prints, and the fault that ends it, which it says itself.
 struct Answer {
     text: String,
     fault: Option<Fault>,
@@ -78,12 +78,11 @@ fn main() -> ExitCode {
         _ => return ExitCode::from(2),
     };
     let answer = read_input().and_then(|input| answer(&command, &flags, &input));
-    let answer = answer.unwrap_or_else(|fault| Answer { text: String::new(), fault: Some(fault) });
-    let mut text = answer.text;
-    if let (Some(fault), false) = (&answer.fault, flags.json || command == "metrics") {
-        writeln!(text, "{fault}").unwrap();
-    }
-    if std::io::stdout().write_all(text.as_bytes()).is_err() {
+    let answer = answer.unwrap_or_else(|fault| Answer {
+        text: if flags.json { String::new() } else { format!("{fault}\n") },
+        fault: Some(fault),
+    });
+    if std::io::stdout().write_all(answer.text.as_bytes()).is_err() {
         return ExitCode::from(6);
     }
     ExitCode::from(answer.fault.map_or(0, |fault| fault.status()))
@@ -222,7 +221,10 @@ fn provisioned(traced: bool, flags: &Flags, image: &[u8], weights: &[u8], kept: 
         outcome.active = Some(bus.module.active());
     }
     let steps = traced.then(|| &bus.steps[..]);
-    let text = if flags.json { json::outcome(steps, &outcome) } else { outcome_text(steps, &outcome) };
+    let mut text = if flags.json { json::outcome(steps, &outcome) } else { outcome_text(steps, &outcome) };
+    if let (Some(fault), false) = (&fault, flags.json) {
+        writeln!(text, "{fault}").unwrap();
+    }
     Ok(Answer { text, fault })
 }
 

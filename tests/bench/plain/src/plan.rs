@@ -116,6 +116,8 @@ pub type State = (u8, u8);
 pub struct Problem {
     /// The paths that may begin there, by Application and then media lane.
     pub choices: [Vec<Choice>; 8],
+    /// Of those that take the same lanes, one that weighs most.
+    heaviest: [Vec<Choice>; 8],
     /// The host lanes of kept paths, which can't stay free.
     pub kept_host: u8,
     pub kept: Vec<Choice>,
@@ -136,8 +138,9 @@ impl Problem {
                 }
             }
         }
+        let heaviest = std::array::from_fn(|index| heaviest_of(&choices[index]));
         let kept_host = kept.iter().fold(0, |lanes, choice| lanes | choice.host_mask);
-        Problem { choices, kept_host, kept }
+        Problem { choices, heaviest, kept_host, kept }
     }
 
     pub fn may_stay_free(&self, boundary: u8) -> bool {
@@ -149,6 +152,11 @@ impl Problem {
         self.choices[usize::from(boundary)].iter().filter(move |choice| choice.media_mask & used == 0)
     }
 
+    /// Of those that lead to the same state one that weighs most.
+    pub fn heaviest_from(&self, (boundary, used): State) -> impl Iterator<Item = &Choice> {
+        self.heaviest[usize::from(boundary)].iter().filter(move |choice| choice.media_mask & used == 0)
+    }
+
     pub fn after((boundary, used): State, choice: &Choice) -> State {
         (boundary + choice.host_lanes, used | choice.media_mask)
     }
@@ -156,6 +164,19 @@ impl Problem {
     pub fn is_kept(&self, choice: &Choice) -> bool {
         self.kept.iter().any(|other| other.path == choice.path)
     }
+}
+
+fn heaviest_of(choices: &[Choice]) -> Vec<Choice> {
+    let mut heaviest: Vec<Choice> = Vec::new();
+    for choice in choices {
+        let same = |other: &&mut Choice| other.host_mask == choice.host_mask && other.media_mask == choice.media_mask;
+        match heaviest.iter_mut().find(same) {
+            Some(other) if other.weight < choice.weight => *other = *choice,
+            Some(_) => {}
+            None => heaviest.push(*choice),
+        }
+    }
+    heaviest
 }
 
 /// A set of bytes.
@@ -199,7 +220,7 @@ impl Gains {
 
     fn best(&self, problem: &Problem, state: State) -> u64 {
         let free = if problem.may_stay_free(state.0) { self.at((state.0 + 1, state.1)) } else { 0 };
-        let paths = problem.paths_from(state);
+        let paths = problem.heaviest_from(state);
         paths.fold(free, |best, choice| best.max(choice.weight + self.at(Problem::after(state, choice))))
     }
 
@@ -246,7 +267,7 @@ fn reached(problem: &Problem) -> [Bytes; 9] {
             if problem.may_stay_free(boundary) {
                 reached[usize::from(boundary) + 1].insert(used);
             }
-            for choice in problem.paths_from((boundary, used)) {
+            for choice in problem.heaviest_from((boundary, used)) {
                 let (end, used) = Problem::after((boundary, used), choice);
                 reached[usize::from(end)].insert(used);
             }
