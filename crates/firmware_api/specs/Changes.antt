@@ -37,13 +37,16 @@ abbrev pub judge_refusal : List HalfBytes → PlanChange → Option Refusal
 judge_refusal halves change = option_or (half_refusal halves) (absence (judged (memory_of halves) (change_in change)))
 
 -- the number of what stands against it, its lanes and the state of the module
+abbrev pub numbers_of : Hindrance → ℕ × ℕ × ℕ
+numbers_of (OtherBytes lanes) = (1, byte_of lanes, 0)
+numbers_of (State state) = (2, 0, state)
+numbers_of (ComesUp lanes) = (3, byte_of lanes, 0)
+numbers_of NoPath = (4, 0, 0)
+numbers_of (GoesDown lanes) = (5, byte_of lanes, 0)
+
 abbrev pub hindrance_of : Option Hindrance → ℕ × ℕ × ℕ
 hindrance_of None = (0, 0, 0)
-hindrance_of (Some (OtherBytes lanes)) = (1, byte_of lanes, 0)
-hindrance_of (Some (State state)) = (2, 0, state)
-hindrance_of (Some (ComesUp lanes)) = (3, byte_of lanes, 0)
-hindrance_of (Some NoPath) = (4, 0, 0)
-hindrance_of (Some (GoesDown lanes)) = (5, byte_of lanes, 0)
+hindrance_of (Some hindrance) = numbers_of hindrance
 
 abbrev pub effect_of : Effect → ChangeEffect
 effect_of effect = record {

@@ -122,11 +122,19 @@ fn hindrance_of(against: Option<Hindrance>) -> (u8, u8, u8)
     ensures { result ≡ spec.hindrance_of against }
 {
     match against {
+        Some(hindrance) => numbers_of(hindrance),
         None => (0, 0, 0),
-        Some(Hindrance::OtherBytes(lanes)) => (1, lanes.byte(), 0),
-        Some(Hindrance::State(state)) => (2, 0, state),
-        Some(Hindrance::ComesUp(lanes)) => (3, lanes.byte(), 0),
-        Some(Hindrance::NoPath) => (4, 0, 0),
-        Some(Hindrance::GoesDown(lanes)) => (5, lanes.byte(), 0),
+    }
+}
+
+fn numbers_of(hindrance: Hindrance) -> (u8, u8, u8)
+    ensures { result ≡ spec.numbers_of hindrance }
+{
+    match hindrance {
+        Hindrance::OtherBytes(lanes) => (1, lanes.byte(), 0),
+        Hindrance::State(state) => (2, 0, state),
+        Hindrance::ComesUp(lanes) => (3, lanes.byte(), 0),
+        Hindrance::NoPath => (4, 0, 0),
+        Hindrance::GoesDown(lanes) => (5, lanes.byte(), 0),
     }
 }
