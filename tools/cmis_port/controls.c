@@ -33,8 +33,8 @@ static const char *const outcome_words[7] = {"unchanged",     "changed", "ignore
                                              "not-permitted", "overdue", "gave-up"};
 static const char *const outcome_sentences[7] = {"",
                                                  "",
-                                                 "the module took each store, and changed nothing",
-                                                 "the module refused the last store, and changed nothing",
+                                                 "the module took the last store, and shows something else",
+                                                 "the module refused the last store, and shows something else",
                                                  "",
                                                  "the module answers too seldom",
                                                  "4096 operations were not enough to change lanes"};

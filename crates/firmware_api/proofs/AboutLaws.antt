@@ -94,7 +94,7 @@ pub wanted_is : (saved : SavedConversation) (halves : List HalfBytes) (kept : Ke
 wanted_is saved halves kept next is asks = same_some (next_of kept) next (sym (ap (option_map next_of) is) ∙ asks)
 
 -- the reply that was taken is the one that the outcome stands for
-answers_or : (op : Op) (reply : Reply) → Answers op reply ⊎ (¬ (Answers op reply))
+pub answers_or : (op : Op) (reply : Reply) → Answers op reply ⊎ (¬ (Answers op reply))
 answers_or (Fetch dev offset count) (Bytes bytes) = by (eqb_tells (length bytes.items) count)
   where
     by : ((eqb (length bytes.items) count ≡ true) × (length bytes.items ≡ count)) ⊎ ((eqb (length bytes.items) count ≡ false) × (length bytes.items ≢ count)) →

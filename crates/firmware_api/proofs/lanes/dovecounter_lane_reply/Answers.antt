@@ -4,6 +4,7 @@ use Rattle.conversations.specs.declared.next.Next.{Next}
 use Rattle.conversations.specs.declared.pausing.Timed.{Timed}
 use Rattle.conversations.specs.declared.within.Spent.{Spent}
 use Rattle.conversations.specs.Patiently.{paused}
+use Rattle.conversations.specs.Wanted.{IsReplyTo}
 use Rattle.lane_controls.specs.declared.lane_change.LaneEnd.{LaneEnd}
 use Rattle.saved_lanes.specs.SavedLanes.{Procedure}
 use Rattle.saved_lanes.specs.Turns.{after}
@@ -13,15 +14,21 @@ use Rattle.firmware_api.specs.SavedConversations.{IsReplyFor}
 use Rattle.firmware_api.specs.Updates.{IsReplyTold}
 use Rattle.firmware_api.proofs.AboutLaws.{reply_is}
 use Rattle.firmware_api.proofs.SavedLaws.{same_some}
-use Rattle.firmware_api.proofs.ToldReplies.{told_of}
+use Rattle.firmware_api.proofs.ToldReplies.{answers_of, told_of}
 use Rattle.firmware_api.proofs.lanes.dovecounter_lane_reply.Goals as goal
+
+pub take_saved-requires : goal.take_saved-requires
+take_saved-requires c =
+    let wanted = sym c.next.ensures.value ∙ c.in-Do.is in
+    let answers = answers_of c.reply_to.result c.in-Do.op c.in-Some-reply_to.reply (reply_of c.args.outcome c.args.bytes.now) c.in-Some-reply_to.is c.reply_to.ensures in
+    subst (λ (next : Next (Spent (Timed LaneEnd))). IsReplyTo next c.in-Some-reply_to.reply) (sym wanted) answers
 
 pub returns-in-Some-reply_to-clause-told : goal.returns-in-Some-reply_to-clause-told
 returns-in-Some-reply_to-clause-told c =
     let told = reply_of c.args.outcome c.args.bytes.now in
     let wanted = ap wanted_of (sym c.restore.ensures ∙ c.in-Some.is) ∙ ap (λ (next : Next (Spent (Timed LaneEnd))). Some next) (sym c.next.ensures.value ∙ c.in-Do.is) in
     subst (λ (next : Option (Next (Spent (Timed LaneEnd)))). IsReplyTold 0 c.args.outcome told next) (sym wanted)
-    (told_of c.args.outcome c.reply_to.result c.in-Do.op c.in-Some-reply_to.reply told c.in-Some-reply_to.is c.reply_to.ensures)
+    (told_of (Spent (Timed LaneEnd)) c.args.outcome c.reply_to.result c.in-Do.op c.in-Some-reply_to.reply told c.in-Some-reply_to.is c.reply_to.ensures)
 
 pub returns-in-Some-reply_to-clause-taken : goal.returns-in-Some-reply_to-clause-taken
 returns-in-Some-reply_to-clause-taken c done procedure op reply is asks told =

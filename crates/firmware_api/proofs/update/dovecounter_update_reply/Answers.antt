@@ -20,7 +20,7 @@ returns-in-Some-reply_to-clause-told c =
     let told = reply_of c.args.outcome c.args.bytes.now in
     let wanted = ap wanted_of (sym c.restore.ensures.value ∙ c.in-Some.is) ∙ ap (λ (next : Next Ending). Some next) (sym c.next.ensures.value ∙ c.in-Do.is) in
     subst (λ (next : Option (Next Ending)). IsReplyTold 0 c.args.outcome told next) (sym wanted)
-    (told_of c.args.outcome c.reply_to.result c.in-Do.op c.in-Some-reply_to.reply told c.in-Some-reply_to.is c.reply_to.ensures)
+    (told_of Ending c.args.outcome c.reply_to.result c.in-Do.op c.in-Some-reply_to.reply told c.in-Some-reply_to.is c.reply_to.ensures)
 
 pub returns-in-Some-reply_to-clause-taken : goal.returns-in-Some-reply_to-clause-taken
 returns-in-Some-reply_to-clause-taken c done work op reply is asks told =
