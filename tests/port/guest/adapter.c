@@ -23,7 +23,7 @@ static struct bus {
     struct i2c_adapter adapter;
     struct platform_device *device;
     struct dentry *file;
-} *buses;
+} * buses;
 
 static void catch_up(struct bus *bus) { live_until(&bus->owner, ktime_get_ns() / NSEC_PER_MSEC); }
 
