@@ -1,5 +1,5 @@
 -- The answer to an image, by what making its report answers.
-use Rattle.std.proofs.Common.{◌≡◌, ◌∙◌, ℕ, Bool, List, [], Option, Some, None, Ok, Err, refl, ap, ◌⊎◌, inl, inr}
+use Rattle.std.proofs.Common.{◌≡◌, ◌∙◌, ℕ, Bool, true, List, [], Option, Some, None, Ok, Err, refl, ap, ◌⊎◌, inl, inr}
 use Rattle.std.specs.Prelude.{Vec}
 use Rattle.std.specs.declared.alloc.Global.{Global}
 use Rattle.text_lines.specs.Lines.{lines_of}
@@ -44,5 +44,5 @@ module _ (given : List ℕ) (image : Image) (read : IsTextOf (lines_of given) im
       (image, read, told.0, told.1)
 
   -- without labels of one's own
-  pub metrics_told : (all : Bool) (labels : List Label) (text : List ℕ) → labels ≡ [] → text ≡ exposition labels (metrics_of all image) → IsMetricsOf all given (Ok text)
-  metrics_told all labels text none is = (image, read, refl, is ∙ ap (λ (l : List Label). exposition l (metrics_of all image)) none)
+  pub metrics_told : (all : Bool) (labels : List Label) (text : List ℕ) → labels ≡ [] → text ≡ exposition labels (metrics_of all true image) → IsMetricsOf all given (Ok text)
+  metrics_told all labels text none is = (image, read, refl, is ∙ ap (λ (l : List Label). exposition l (metrics_of all true image)) none)

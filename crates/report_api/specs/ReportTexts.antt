@@ -1,6 +1,6 @@
 -- The reports of the module of an image that is given as a text. (docs/formats.md, "Image", "details", "JSON" and "Metrics"; this
 -- project's own)
-use Rattle.std.specs.Prelude.{◌≡◌, ℕ, ◌==◌, not, Bool, List, [], Option, Some, None, Ok, Err}
+use Rattle.std.specs.Prelude.{◌≡◌, ℕ, ◌==◌, not, Bool, true, List, [], Option, Some, None, Ok, Err}
 use Rattle.text_lines.specs.Lines.{lines_of}
 use Rattle.paged_memory.specs.Images.{Memory as Image}
 use Rattle.paged_memory.specs.ImageText.{IsTextOf}
@@ -25,7 +25,7 @@ IsDetails = IsReport details_fault (λ image. json_text (report_json (details_en
 
 -- faults of reports are among the metrics
 abbrev pub IsMetricsOf : Bool → List ℕ → Answer → Type 0
-IsMetricsOf all = IsReport (λ image. None) (λ image. exposition [] (metrics_of all image))
+IsMetricsOf all = IsReport (λ image. None) (λ image. exposition [] (metrics_of all true image))
 
 -- C has a number for whether all flags are wanted
 abbrev pub IsMetrics : ℕ → List ℕ → Answer → Type 0
