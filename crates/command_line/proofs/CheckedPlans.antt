@@ -2,7 +2,7 @@
 use Rattle.std.proofs.Common.{◌≡◌, ◌≢◌, ℕ, ◌≤◌, Bool, true, false, List, [], ◌∷◌, ◌++◌, length, get_or, map, codes, Option, None, Some, Ok, Err, refl, sym, ap, subst, ◌∙◌, arith}
 use Rattle.std.specs.List.{All, before_first}
 use Rattle.std.proofs.lemmas.List.Elements.{All-cons, All-nil}
-use Rattle.text_lines.specs.Lines.{is_lf, ended_lines, lines_of, text_of}
+use Rattle.text_lines.specs.Lines.{is_lf, ended_lines, lines_of}
 use Rattle.paged_memory.specs.Images.{Memory}
 use Rattle.paged_memory.specs.ImageText.{IsTextOf as IsImageText}
 use Rattle.paged_memory.proofs.OneAnswer.{same_answer as same_image_answer}
@@ -17,7 +17,10 @@ use Rattle.applications.specs.declared.weights.fault.WeightsFault.{WeightsFault}
 use Rattle.applications.specs.declared.weights.fault.WeightsFault.TheVariants as weights
 use Rattle.plan_certificate.specs.Certificates.{Claim}
 use Rattle.plan_certificate.specs.CertificateText.{IsTextOf, line_text, line_words, lines_in}
+use Rattle.lane_planner.specs.FirstBest.{IsFirstBest}
+use Rattle.plan_certificate.specs.Plans.{IsBest}
 use Rattle.plan_certificate.specs.Verdicts.{verdict}
+use Rattle.plan_certificate.specs.declared.path.Path.{Path}
 use Rattle.plan_certificate.specs.declared.line.Line.{Line}
 use Rattle.plan_certificate.specs.declared.line.Line.TheVariants.{Header, KeptHeader, Weight, KeepLine, PathLine, StateLine, End}
 use Rattle.plan_certificate.specs.Limits.{most_states}
@@ -25,15 +28,16 @@ use Rattle.plan_certificate.specs.declared.verdict.Verdict.{Verdict}
 use Rattle.plan_certificate.specs.declared.verdict.Verdict.TheVariants.{Good, Bad}
 use Rattle.plan_certificate.proofs.OneAnswer.{same_answer}
 use Rattle.command_line.specs.CheckCommand.{IsCheckAnswer, IsGoodAnswer, IsJudged, SaysFirst, good_output}
+use Rattle.command_line.specs.Inputs.{Inputs, inputs_in, parts_read}
 use Rattle.command_line.specs.Limits.{input_limit}
 use Rattle.command_line.specs.Parts.{is_separator_line, parts_of}
-use Rattle.command_line.specs.PartsRead.{parts_read, text_in}
-use Rattle.command_line.specs.PlanCommand.{IsPlanned}
+use Rattle.command_line.specs.PlanCommand.{IsPlanAnswer, IsPlanned}
 use Rattle.command_line.specs.PlanningInputs.{IsAdvertText}
-use Rattle.command_line.specs.PlanThenCheck.{first_if, good_text, input_with, IsCalledGood, IsEnded, IsGoodBehind, IsGoodBehindInput, IsGoodInPlace}
-use Rattle.command_line.specs.Commands.{IsAnswerOf, IsAnswerToTexts, in_form}
+use Rattle.command_line.specs.PlanThenCheck.{check_request, first_if, good_text, input_with, plan_inputs, plan_request, IsCalledGood, IsEnded, IsGoodBehind, IsGoodBehindInput, IsGoodInPlace}
+use Rattle.command_line.specs.Commands.{IsAnswerOf}
 use Rattle.command_line.specs.Runs.{Answer}
-use Rattle.command_line.specs.declared.choice.commands.Choice.TheVariants.{Check, Plan}
+use Rattle.command_line.specs.declared.choice.commands.CommandName.TheVariants.{Check, Plan}
+use Rattle.command_line.specs.declared.choice.options.Options.{Options}
 use Rattle.command_line.specs.declared.fault.Fault.TheVariants as fault
 use Rattle.command_line.proofs.TextBehind.{is_one_part, is_plain, parts_behind}
 
@@ -91,103 +95,127 @@ same_claim text a b p q = let same = same_answer most_states (lines_of text) (Ok
 -- ---- what `check` answers to the parts
 
 -- what each command answers to an input that is cut so
-abbrev IsCheckTo : Bool → Bool → Conventions → List (List ℕ) → Answer → Type 0
-IsCheckTo json first conventions parts = IsAnswerToTexts (Check first conventions) json (text_in (parts_read (Check first conventions)) parts)
+abbrev IsCheckTo : Options → List (List ℕ) → Answer → Type 0
+IsCheckTo options parts = IsCheckAnswer options (inputs_in (parts_read Check options.keep) parts)
 
-abbrev IsPlanTo : Bool → Conventions → List (List ℕ) → Answer → Type 0
-IsPlanTo keep conventions parts = IsAnswerToTexts (Plan keep conventions) false (text_in (parts_read (Plan keep conventions)) parts)
+abbrev IsPlanTo : Bool → Options → List (List ℕ) → Answer → Type 0
+IsPlanTo keep options parts = IsPlanAnswer (record options { keep = keep; json = false }) (inputs_in (parts_read Plan keep) parts)
 
-module _ (conventions : Conventions) (image_text weights_text kept_text text : List ℕ) (planned : IsPlanned conventions image_text weights_text kept_text text) where
+module _ (conventions : Conventions) (inputs : Inputs) (text : List ℕ) (planned : IsPlanned false conventions inputs text) where
+  abbrev advert : Advertised
+  advert = planned.planning.advert
+
   -- what paths weigh
   abbrev path_weights : PathWeights
-  path_weights = app_weights planned.given.advert planned.given.weights
+  path_weights = app_weights advert planned.planning.weights
 
-  says : (first : Bool) → SaysFirst first planned.given.advert path_weights planned.certificate (first_if first)
-  says true = ((λ _. planned.given.is_first), (λ _. refl))
+  abbrev certificate : Claim
+  certificate = planned.told.certificate
+
+  -- by the kept paths that the certificate names
+  is_best : IsBest advert path_weights certificate.kept certificate.paths
+  is_best = subst (λ (k : List Path). IsBest advert path_weights k certificate.paths) (sym planned.told.certified.keeps) planned.told.certified.best
+
+  is_first : IsFirstBest advert path_weights certificate.kept certificate.paths
+  is_first = subst (λ (k : List Path). IsFirstBest advert path_weights k certificate.paths) (sym planned.told.certified.keeps) planned.told.certified.first
+
+  is_advert : IsAdvertText conventions inputs.image advert
+  is_advert = record { memory = planned.planning.image; is_module = planned.is_planning.is_module }
+
+  says : (first : Bool) → SaysFirst first advert path_weights certificate (first_if first)
+  says true = ((λ _. is_first), (λ _. refl))
   says false = tt
 
-  good_answer : (json first : Bool) → IsGoodAnswer json first conventions image_text weights_text text (good_text json first planned)
-  good_answer json first = record {
-    judged = record {
-      advert = planned.given.advert;
-      weights = planned.given.weights;
-      certificate = planned.certificate;
-      is_advert = planned.given.is_advert;
-      are_weights = planned.given.are_weights;
-      is_certificate = planned.read_again;
-      is_verdict = planned.given.judged_again;
-    };
-    is_best = planned.given.is_best;
-    told = record { is_first = first_if first; says_first = says first; told = refl };
-  }
+  -- what `check` is given
+  abbrev checked : Inputs
+  checked = record { image = inputs.image; weights = inputs.weights; kept = []; certificate = text; script = [] }
 
-  module _ (judged : Verdict) (is : IsJudged conventions image_text weights_text text judged) where
-    the_advert : is.advert ≡ planned.given.advert
-    the_advert = same_advert conventions image_text is.advert planned.given.advert is.is_advert planned.given.is_advert
+  module _ (judged : Verdict) (is : IsJudged conventions checked judged) where
+    the_advert : is.advert ≡ advert
+    the_advert = same_advert conventions inputs.image is.advert advert is.is_advert is_advert
 
-    the_weights : is.weights ≡ planned.given.weights
-    the_weights = same_weights weights_text is.weights planned.given.weights is.are_weights planned.given.are_weights
+    the_weights : is.weights ≡ planned.planning.weights
+    the_weights = same_weights inputs.weights is.weights planned.planning.weights is.are_weights planned.is_planning.are_weights
 
     the_path_weights : app_weights is.advert is.weights ≡ path_weights
     the_path_weights = (λ i. app_weights (the_advert i) (the_weights i))
 
-    the_certificate : is.certificate ≡ planned.certificate
-    the_certificate = same_claim text is.certificate planned.certificate is.is_certificate planned.read_again
+    the_certificate : is.certificate ≡ certificate
+    the_certificate = same_claim text is.certificate certificate is.is_certificate planned.told.read_back
 
     judged_good : judged ≡ Good
-    judged_good = sym is.is_verdict ∙ (λ i. verdict (the_advert i) (the_path_weights i) (the_certificate i)) ∙ planned.given.judged_again
+    judged_good = sym is.is_verdict ∙ (λ i. verdict (the_advert i) (the_path_weights i) (the_certificate i)) ∙ planned.told.certified.judged
 
   -- the plan is the first of the best, so this is said of it where it is asked for
-  says_so : (first : Bool) (said : Option Bool) → SaysFirst first planned.given.advert path_weights planned.certificate said → said ≡ first_if first
-  says_so true (Some is_first) same = ap Some (same.1 planned.given.is_first)
+  says_so : (first : Bool) (said : Option Bool) → SaysFirst first advert path_weights certificate said → said ≡ first_if first
+  says_so true (Some first) same = ap Some (same.1 is_first)
   says_so true None never = absurd never
   says_so false None said = refl
-  says_so false (Some is_first) never = absurd never
+  says_so false (Some first) never = absurd never
 
-  told_good : (json first : Bool) (told : List ℕ) → IsGoodAnswer json first conventions image_text weights_text text told → told ≡ good_text json first planned
-  told_good json first told is =
-      let advert = the_advert Good is.judged in
-      let weights = the_path_weights Good is.judged in
-      let certificate = the_certificate Good is.judged in
-      let said = says_so first is.told.is_first (subst (λ (c : Claim). SaysFirst first planned.given.advert path_weights c is.told.is_first) certificate
-      (subst (λ (w : PathWeights). SaysFirst first planned.given.advert w is.judged.certificate is.told.is_first) weights
-      (subst (λ (a : Advertised). SaysFirst first a (app_weights is.judged.advert is.judged.weights) is.judged.certificate is.told.is_first) advert is.told.says_first))) in
-      is.told.told ∙ (λ i. good_output json (said i) (advert i) (weights i) (certificate i))
+  module _ (options : Options) where
+    -- by the same conventions
+    abbrev ours : Options
+    ours = record options { conventions = conventions }
 
-  alone : (json first : Bool) (answer : Answer) → IsCheckAnswer json first conventions image_text weights_text text answer → answer ≡ Ok (good_text json first planned, None)
-  alone json first (Ok (told, None)) is = let same = told_good json first told is in λ i. Ok (same i, None)
-  alone json first (Ok (told, Some f)) is = absurd is
-  alone json first (Err (fault.Bad reason number)) is = let good = judged_good (Bad reason number) is in absurd cc
-  alone json first (Err (fault.Certificate f)) is =
-      let same = same_answer most_states (lines_of text) (Ok planned.certificate) (Err f) planned.read_again is.2 in
-      absurd cc
-  alone json first (Err (fault.Weights f)) is = absurd (not_refused weights_text planned.given.weights f is.1.0 planned.given.are_weights is.1.1)
-  alone json first (Err (fault.Image f)) is =
-      let read = planned.given.is_advert in
-      let same = same_image_answer (lines_of image_text) (Ok read.memory) (Err f) read.is_module.is_text is in
-      absurd cc
-  alone json first (Err (fault.Advert f)) is =
-      let read = planned.given.is_advert in
-      let same = same_image image_text read.memory is.0 read.is_module.is_text is.1 in
-      let refused : ◌≡◌ {A = Option AdvertFault} None (Some f) = sym read.is_module.accepted ∙ ap (advert_fault_under conventions) same ∙ is.2 in
-      absurd cc
-  alone json first (Err f) is = absurd is
+    good_answer : IsGoodAnswer ours checked (good_text options planned)
+    good_answer = record {
+      judged = record {
+        advert = advert;
+        weights = planned.planning.weights;
+        certificate = certificate;
+        is_advert = is_advert;
+        are_weights = planned.is_planning.are_weights;
+        is_certificate = planned.told.read_back;
+        is_verdict = planned.told.certified.judged;
+      };
+      is_best = is_best;
+      told = record { is_first = first_if options.first; says_first = says options.first; told = refl };
+    }
 
-  module _ (input : List ℕ) (cut : parts_of input ≡ image_text ∷ weights_text ∷ text ∷ []) (within : length input ≤ input_limit) where
+    told_good : (told : List ℕ) → IsGoodAnswer ours checked told → told ≡ good_text options planned
+    told_good told is =
+        let same_advert = the_advert Good is.judged in
+        let weights = the_path_weights Good is.judged in
+        let same_certificate = the_certificate Good is.judged in
+        let said = says_so options.first is.told.is_first (subst (λ (c : Claim). SaysFirst options.first advert path_weights c is.told.is_first) same_certificate
+        (subst (λ (w : PathWeights). SaysFirst options.first advert w is.judged.certificate is.told.is_first) weights
+        (subst (λ (a : Advertised). SaysFirst options.first a (app_weights is.judged.advert is.judged.weights) is.judged.certificate is.told.is_first) same_advert is.told.says_first))) in
+        is.told.told ∙ (λ i. good_output options.json (said i) (same_advert i) (weights i) (same_certificate i))
+
+    alone : (answer : Answer) → IsCheckAnswer ours checked answer → answer ≡ Ok (good_text options planned, None)
+    alone (Ok (told, None)) is = let same = told_good told is in λ i. Ok (same i, None)
+    alone (Ok (told, Some f)) is = absurd is
+    alone (Err (fault.Bad reason number)) is = let good = judged_good (Bad reason number) is in absurd cc
+    alone (Err (fault.Certificate f)) is =
+        let same = same_answer most_states (lines_of text) (Ok certificate) (Err f) planned.told.read_back is.2 in
+        absurd cc
+    alone (Err (fault.Weights f)) is = absurd (not_refused inputs.weights planned.planning.weights f is.1.0 planned.is_planning.are_weights is.1.1)
+    alone (Err (fault.Image f)) is =
+        let same = same_image_answer (lines_of inputs.image) (Ok planned.planning.image) (Err f) planned.is_planning.is_module.is_text is in
+        absurd cc
+    alone (Err (fault.Advert f)) is =
+        let read = planned.is_planning.is_module in
+        let same = same_image inputs.image planned.planning.image is.0 read.is_text is.1 in
+        let refused : ◌≡◌ {A = Option AdvertFault} None (Some f) = sym read.accepted ∙ ap (advert_fault_under conventions) same ∙ is.2 in
+        absurd cc
+    alone (Err f) is = absurd is
+
+  module _ (input : List ℕ) (cut : parts_of input ≡ inputs.image ∷ inputs.weights ∷ text ∷ []) (within : length input ≤ input_limit) where
     counted : length (parts_of input) ≡ 3
     counted = ap (λ (l : List (List ℕ)). length l) cut
 
-    good_to : (json first : Bool) → IsAnswerOf (in_form json (Check first conventions)) input (Ok (good_text json first planned, None))
-    good_to json first = (within, counted, subst (λ l. IsCheckTo json first conventions l (Ok (good_text json first planned, None))) (sym cut) (good_answer json first))
+    good_to : (options : Options) → IsAnswerOf (check_request conventions options) input (Ok (good_text options planned, None))
+    good_to options = (within, counted, subst (λ l. IsCheckTo (ours options) l (Ok (good_text options planned, None))) (sym cut) (good_answer options))
 
-    alone_to : (json first : Bool) (answer : Answer) → IsAnswerOf (in_form json (Check first conventions)) input answer → answer ≢ Err fault.Memory → answer ≢ Err fault.Io
-        → answer ≡ Ok (good_text json first planned, None)
-    alone_to json first (Ok told) is memory read = alone json first (Ok told) (subst (λ l. IsCheckTo json first conventions l (Ok told)) cut is.2)
-    alone_to json first (Err fault.Memory) is memory read = absurd (memory refl)
-    alone_to json first (Err fault.Io) is memory read = absurd (read refl)
-    alone_to json first (Err fault.TooLong) is memory read = absurd (omega arith)
-    alone_to json first (Err (fault.Parts number)) is memory read = absurd (is.2 (is.1 ∙ counted))
-    alone_to json first (Err f) is memory read = alone json first (Err f) (subst (λ l. IsCheckTo json first conventions l (Err f)) cut is.2)
+    alone_to : (options : Options) (answer : Answer) → IsAnswerOf (check_request conventions options) input answer → answer ≢ Err fault.Memory → answer ≢ Err fault.Io
+        → answer ≡ Ok (good_text options planned, None)
+    alone_to options (Ok told) is memory read = alone options (Ok told) (subst (λ l. IsCheckTo (ours options) l (Ok told)) cut is.2)
+    alone_to options (Err fault.Memory) is memory read = absurd (memory refl)
+    alone_to options (Err fault.Io) is memory read = absurd (read refl)
+    alone_to options (Err fault.TooLong) is memory read = absurd (omega arith)
+    alone_to options (Err (fault.Parts number)) is memory read = absurd (is.2 (is.1 ∙ counted))
+    alone_to options (Err f) is memory read = alone options (Err f) (subst (λ l. IsCheckTo (ours options) l (Err f)) cut is.2)
 
     called_good : IsCalledGood planned input
     called_good = record { good = good_to; alone = alone_to }
@@ -195,80 +223,80 @@ module _ (conventions : Conventions) (image_text weights_text kept_text text : L
 -- ---- the two commands
 
 record Planned (conventions : Conventions) (input text : List ℕ) : Type 0 where
-  image_text : List ℕ
-  weights_text : List ℕ
-  parts : parts_of input ≡ image_text ∷ weights_text ∷ []
-  planned : IsPlanned conventions image_text weights_text [] text
+  image : List ℕ
+  weights : List ℕ
+  parts : parts_of input ≡ image ∷ weights ∷ []
+  planned : IsPlanned false conventions (plan_inputs image weights []) text
 
-planned_from : (conventions : Conventions) (input text : List ℕ) (parts : List (List ℕ)) → parts_of input ≡ parts → length parts ≡ 2 → IsPlanTo false conventions parts (Ok (text, None))
-    → Planned conventions input text
-planned_from conventions input text [] cut two is = absurd (omega (arith, two))
-planned_from conventions input text (image ∷ []) cut two is = absurd (omega (arith, two))
-planned_from conventions input text (image ∷ listed ∷ []) cut two is = record { image_text = image; weights_text = listed; parts = cut; planned = is }
-planned_from conventions input text (image ∷ listed ∷ more ∷ rest) cut two is = absurd (omega (arith, two))
+planned_from : (options : Options) (input text : List ℕ) (parts : List (List ℕ)) → parts_of input ≡ parts → length parts ≡ 2 → IsPlanTo false options parts (Ok (text, None))
+    → Planned options.conventions input text
+planned_from options input text [] cut two is = absurd (omega (arith, two))
+planned_from options input text (image ∷ []) cut two is = absurd (omega (arith, two))
+planned_from options input text (image ∷ listed ∷ []) cut two is = record { image = image; weights = listed; parts = cut; planned = is }
+planned_from options input text (image ∷ listed ∷ more ∷ rest) cut two is = absurd (omega (arith, two))
 
-pub good_behind_input : (conventions : Conventions) (input text : List ℕ) → IsEnded input → IsAnswerOf (in_form false (Plan false conventions)) input (Ok (text, None))
-    → length (input_with input text) ≤ input_limit → IsGoodBehindInput conventions input text
-good_behind_input conventions input text (before, ends) is within =
-    let from = planned_from conventions input text (parts_of input) refl is.1 is.2 in
-    let cut : parts_of (input_with input text) ≡ from.image_text ∷ from.weights_text ∷ text ∷ [] =
+pub good_behind_input : (options : Options) (input text : List ℕ) → IsEnded input → IsAnswerOf (plan_request false options) input (Ok (text, None))
+    → length (input_with input text) ≤ input_limit → IsGoodBehindInput options.conventions input text
+good_behind_input options input text (before, ends) is within =
+    let from = planned_from options input text (parts_of input) refl is.1 is.2 in
+    let cut : parts_of (input_with input text) ≡ from.image ∷ from.weights ∷ text ∷ [] =
     rw ends (parts_behind before text)
     ∙ ap (λ l. l ++ parts_of text) (ap parts_of (sym ends) ∙ from.parts)
-    ∙ ap (λ l. from.image_text ∷ from.weights_text ∷ l) (certificate_is_one_part text from.planned.certificate from.planned.read_again) in
+    ∙ ap (λ l. from.image ∷ from.weights ∷ l) (certificate_is_one_part text from.planned.told.certificate from.planned.told.read_back) in
     record {
-      image_text = from.image_text;
-      weights_text = from.weights_text;
+      image = from.image;
+      weights = from.weights;
       planned = from.planned;
       parts = cut;
-      good = called_good conventions from.image_text from.weights_text [] text from.planned (input_with input text) cut within;
+      good = called_good options.conventions (plan_inputs from.image from.weights []) text from.planned (input_with input text) cut within;
     }
 
-pub good_behind : (conventions : Conventions) (image listed kept text input : List ℕ) → parts_of input ≡ image ∷ listed ∷ kept ∷ []
-    → IsAnswerOf (in_form false (Plan true conventions)) input (Ok (text, None)) → IsGoodBehind conventions image listed kept text
-good_behind conventions image listed kept text input cut is =
-    let planned : IsPlanned conventions image listed kept text = subst (λ l. IsPlanTo true conventions l (Ok (text, None))) cut is.2 in
-    record { planned = planned; good = λ other within parts. called_good conventions image listed kept text planned other parts within }
+pub good_behind : (options : Options) (image listed kept text input : List ℕ) → parts_of input ≡ image ∷ listed ∷ kept ∷ []
+    → IsAnswerOf (plan_request true options) input (Ok (text, None)) → IsGoodBehind options.conventions image listed kept text
+good_behind options image listed kept text input cut is =
+    let planned : IsPlanned false options.conventions (plan_inputs image listed kept) text = subst (λ l. IsPlanTo true options l (Ok (text, None))) cut is.2 in
+    record { planned = planned; good = λ other within parts. called_good options.conventions (plan_inputs image listed kept) text planned other parts within }
 
 -- ---- kept paths, and the certificate in their place
 
 record Kept (conventions : Conventions) (input kept text : List ℕ) : Type 0 where
-  image_text : List ℕ
-  weights_text : List ℕ
+  image : List ℕ
+  weights : List ℕ
   kept_text : List ℕ
-  own : parts_of input ≡ image_text ∷ weights_text ∷ []
+  own : parts_of input ≡ image ∷ weights ∷ []
   last : parts_of kept ≡ kept_text ∷ []
-  planned : IsPlanned conventions image_text weights_text kept_text text
+  planned : IsPlanned false conventions (plan_inputs image weights kept_text) text
 
-kept_from : (conventions : Conventions) (input kept text : List ℕ) (own last : List (List ℕ)) → parts_of input ≡ own → parts_of kept ≡ last → length own ≡ 2 → length (own ++ last) ≡ 3
-    → IsPlanTo true conventions (own ++ last) (Ok (text, None)) → Kept conventions input kept text
-kept_from conventions input kept text [] last cut behind two three is = absurd (omega (arith, two))
-kept_from conventions input kept text (image ∷ []) last cut behind two three is = absurd (omega (arith, two))
-kept_from conventions input kept text (image ∷ listed ∷ []) [] cut behind two three is = absurd (omega (arith, three))
-kept_from conventions input kept text (image ∷ listed ∷ []) (own ∷ []) cut behind two three is =
-    record { image_text = image; weights_text = listed; kept_text = own; own = cut; last = behind; planned = is }
-kept_from conventions input kept text (image ∷ listed ∷ []) (own ∷ more ∷ rest) cut behind two three is = absurd (omega (arith, three))
-kept_from conventions input kept text (image ∷ listed ∷ more ∷ rest) last cut behind two three is = absurd (omega (arith, two))
+kept_from : (options : Options) (input kept text : List ℕ) (own last : List (List ℕ)) → parts_of input ≡ own → parts_of kept ≡ last → length own ≡ 2 → length (own ++ last) ≡ 3
+    → IsPlanTo true options (own ++ last) (Ok (text, None)) → Kept options.conventions input kept text
+kept_from options input kept text [] last cut behind two three is = absurd (omega (arith, two))
+kept_from options input kept text (image ∷ []) last cut behind two three is = absurd (omega (arith, two))
+kept_from options input kept text (image ∷ listed ∷ []) [] cut behind two three is = absurd (omega (arith, three))
+kept_from options input kept text (image ∷ listed ∷ []) (own ∷ []) cut behind two three is =
+    record { image = image; weights = listed; kept_text = own; own = cut; last = behind; planned = is }
+kept_from options input kept text (image ∷ listed ∷ []) (own ∷ more ∷ rest) cut behind two three is = absurd (omega (arith, three))
+kept_from options input kept text (image ∷ listed ∷ more ∷ rest) last cut behind two three is = absurd (omega (arith, two))
 
 parts_with : (input text : List ℕ) → IsEnded input → parts_of (input_with input text) ≡ parts_of input ++ parts_of text
 parts_with input text (before, ends) = rw ends (parts_behind before text)
 
-pub good_in_place : (conventions : Conventions) (input kept text : List ℕ) → IsEnded input → length (parts_of input) ≡ 2
-    → IsAnswerOf (in_form false (Plan true conventions)) (input_with input kept) (Ok (text, None))
-    → length (input_with input text) ≤ input_limit → IsGoodInPlace conventions input kept text
-good_in_place conventions input kept text ended two is within =
+pub good_in_place : (options : Options) (input kept text : List ℕ) → IsEnded input → length (parts_of input) ≡ 2
+    → IsAnswerOf (plan_request true options) (input_with input kept) (Ok (text, None))
+    → length (input_with input text) ≤ input_limit → IsGoodInPlace options.conventions input kept text
+good_in_place options input kept text ended two is within =
     let three = ap (λ (l : List (List ℕ)). length l) (sym (parts_with input kept ended)) ∙ is.1 in
-    let from = kept_from conventions input kept text (parts_of input) (parts_of kept) refl refl two three
-    (subst (λ l. IsPlanTo true conventions l (Ok (text, None))) (parts_with input kept ended) is.2) in
-    let cut : parts_of (input_with input text) ≡ from.image_text ∷ from.weights_text ∷ text ∷ [] =
+    let from = kept_from options input kept text (parts_of input) (parts_of kept) refl refl two three
+    (subst (λ l. IsPlanTo true options l (Ok (text, None))) (parts_with input kept ended) is.2) in
+    let cut : parts_of (input_with input text) ≡ from.image ∷ from.weights ∷ text ∷ [] =
     parts_with input text ended
     ∙ ap (λ l. l ++ parts_of text) from.own
-    ∙ ap (λ l. from.image_text ∷ from.weights_text ∷ l) (certificate_is_one_part text from.planned.certificate from.planned.read_again) in
+    ∙ ap (λ l. from.image ∷ from.weights ∷ l) (certificate_is_one_part text from.planned.told.certificate from.planned.told.read_back) in
     record {
-      image_text = from.image_text;
-      weights_text = from.weights_text;
+      image = from.image;
+      weights = from.weights;
       kept_text = from.kept_text;
       planned = from.planned;
-      parts_planned = parts_with input kept ended ∙ ap (λ l. l ++ parts_of kept) from.own ∙ ap (λ l. from.image_text ∷ from.weights_text ∷ l) from.last;
+      parts_planned = parts_with input kept ended ∙ ap (λ l. l ++ parts_of kept) from.own ∙ ap (λ l. from.image ∷ from.weights ∷ l) from.last;
       parts = cut;
-      good = called_good conventions from.image_text from.weights_text from.kept_text text from.planned (input_with input text) cut within;
+      good = called_good options.conventions (plan_inputs from.image from.weights from.kept_text) text from.planned (input_with input text) cut within;
     }

@@ -9,7 +9,7 @@ use Rattle.module_metrics.specs.declared.label_fault.LabelFault.{LabelFault}
 use Rattle.module_metrics.specs.declared.label_fault.LabelFault.TheVariants as label
 use Rattle.command_line.specs.Choice.{faults_of, request_of}
 use Rattle.command_line.specs.ChoiceFault.{Gives, fault_of_label}
-use Rattle.command_line.specs.MetricsChoice.{labels_with, more_labels, then_with}
+use Rattle.command_line.specs.Options.{labels_with, more_labels, then_with}
 use Rattle.command_line.specs.Program.{IsRefusalOf}
 use Rattle.command_line.specs.declared.choice.commands.Request.{Request}
 use Rattle.command_line.specs.declared.choice.fault.ChoiceFault.{ChoiceFault}

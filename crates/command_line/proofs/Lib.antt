@@ -11,8 +11,7 @@ mod OddLineLemmas
 mod OwnAnswers
 mod PartCuts
 mod PlainChoices
-mod PlanAnswers
-mod DrawAnswers
+mod PlanningRefusals
 mod ProcedureAnswers
 mod SameOverBus
 mod SameMetrics
@@ -20,4 +19,3 @@ mod ReportAnswers
 mod TextBehind
 mod CheckedPlans
 pub mod RemarkLemmas
-mod OnScreen

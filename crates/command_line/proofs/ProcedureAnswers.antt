@@ -8,9 +8,6 @@ use Rattle.bus_model.specs.declared.operation.Step.{Step}
 use Rattle.bus_model.specs.declared.script.Directive.{Directive}
 use Rattle.applications.specs.declared.conventions.Conventions.{Conventions}
 use Rattle.applications.specs.Advertised.{Advertised}
-use Rattle.applications.specs.WeightFaults.{IsAnswer}
-use Rattle.applications.specs.declared.weights.fault.WeightsFault.{WeightsFault}
-use Rattle.applications.specs.declared.weights.fault.WeightsFault.TheVariants as weights
 use Rattle.bus_model.specs.ScriptBuses.{seen_at}
 use Rattle.control_sets.specs.OutcomeAnswers.{most_steps}
 use Rattle.control_sets.specs.declared.fault.ProvisionFault.{ProvisionFault}
@@ -32,11 +29,11 @@ use Rattle.sim_module.proofs.ChangedPower.{power_rests}
 use Rattle.sim_module.proofs.Provisioned.{active_if_none}
 use Rattle.sim_module.proofs.SoundModule.{made_keeps, sound_start}
 use Rattle.sim_module.proofs.SoundRuns.{runs_leave_sound}
-use Rattle.command_line.specs.Faults.{fault_of_weights}
-use Rattle.command_line.specs.PlanningInputs.{Advertises, IsAdvertRefusal}
-use Rattle.command_line.specs.ProvisionCommand.{Activates, BusProcedure, CarriesOut, IsCarriedOut, IsProcedureAnswer, IsSetUpRefusal, MakesIf, ModuleBus, Provisions, StepsOrFault, Wakes, control_words, delays, fault_of, line_if, outcome_fault, outcome_lines, outcome_of, active_line, activated_line, provisioned_line, steps_of, told_output, woken_line}
+use Rattle.command_line.specs.Inputs.{Inputs}
+use Rattle.command_line.specs.PlanningInputs.{IsPlanningRefusal}
+use Rattle.command_line.specs.declared.choice.options.Options.{Options}
+use Rattle.command_line.specs.ProvisionCommand.{Activates, BusProcedure, CarriesOut, IsCarriedOut, IsSetUpRefusal, MakesIf, ModuleBus, Provisions, StepsOrFault, Wakes, control_words, delays, fault_of, line_if, outcome_fault, outcome_lines, outcome_of, active_line, activated_line, provisioned_line, steps_of, told_output, woken_line}
 use Rattle.plan_reports.specs.declared.json_procedure.Outcome.{Outcome}
-use Rattle.command_line.specs.Runs.{IsOwnAnswer}
 use Rattle.command_line.proofs.OwnAnswers.{if_known}
 use Rattle.command_line.specs.Sessions.{IsSessionOf}
 use Rattle.command_line.specs.declared.commands.outcome.ProcedureResults.{ProcedureResults}
@@ -46,27 +43,11 @@ use Rattle.command_line.specs.declared.told_fault.ToldFault.TheVariants.{Procedu
 use Rattle.command_line.specs.declared.fault.Fault.{Fault}
 use Rattle.command_line.specs.declared.fault.Fault.TheVariants as fault
 
--- a refusal of the texts is the command's own
-pub refused_answer : (json traced wake activate : Bool) (conventions : Conventions) (image listed kept script : List ℕ) (f : Fault) → IsSetUpRefusal conventions image listed kept script f
-    → IsOwnAnswer (IsProcedureAnswer json traced wake activate conventions image listed kept script) (Err f)
-refused_answer json traced wake activate conventions image listed kept script fault.Memory is = tt
-refused_answer json traced wake activate conventions image listed kept script fault.Io is = absurd is
-refused_answer json traced wake activate conventions image listed kept script fault.TooLong is = absurd is
-refused_answer json traced wake activate conventions image listed kept script (fault.Parts n) is = absurd is
-refused_answer json traced wake activate conventions image listed kept script f is = is
-
-module _ (conventions : Conventions) (image listed kept script : List ℕ) where
-  pub weights_refused : (f : WeightsFault) → Advertises conventions image → IsAnswer listed (Err f) → IsSetUpRefusal conventions image listed kept script (fault_of_weights f)
-  weights_refused weights.Memory told is = tt
-  weights_refused f told is = (told, (λ same. absurd cc, is))
-
-  pub advert_refused : (f : Fault) → IsAdvertRefusal conventions image f → IsSetUpRefusal conventions image listed kept script f
-  advert_refused fault.Memory is = tt
-  advert_refused (fault.Module g) is = absurd is
-  advert_refused (fault.Script g) is = absurd is
-  advert_refused (fault.Kept g) is = absurd is
-  advert_refused (fault.Weights g) is = absurd is
-  advert_refused f is = is
+-- a refusal of what is planned for is one of what is set up
+pub planning_refused : (conventions : Conventions) (inputs : Inputs) (f : Fault) → IsPlanningRefusal conventions inputs f → IsSetUpRefusal conventions inputs f
+planning_refused conventions inputs (fault.Module g) is = absurd is
+planning_refused conventions inputs (fault.Script g) is = absurd is
+planning_refused conventions inputs f is = is
 
 -- a module or why there is none, by what is answered of an image
 abbrev Answers : Option SimFault → SimModule → Result SimModule SimFault → Type 0
@@ -117,30 +98,30 @@ new_at_rest : (memory : Memory) (given : Delays) → HasNoApply (start memory gi
 unfolding start
 new_at_rest memory given lane is = made_keeps (λ (l : Lane). l.applying ≡ None) (start_lane memory) no_lane (λ n. refl) refl all_lanes (lane - 1)
 
-module _ (conventions : Conventions) (image listed kept script : List ℕ) (session : Session) (is : IsSessionOf conventions image listed kept script session) where
+module _ (options : Options) (inputs : Inputs) (session : Session) (is : IsSessionOf options.conventions inputs session) where
   -- what a session's bus makes of the plan
-  pub carried : (json traced wake activate : Bool) (text : List ℕ) (after : ModuleBus) (results : ProcedureResults) (ended : Option ProvisionFault) (told_fault : Option ToldFault)
-      → CarriesOut wake activate session.advert session.plan session.kept (seen_at session.bus) after results
-      → text ≡ told_output json traced after.steps (outcome_of results (active_bytes after.state.1)) ended → ended ≡ outcome_fault results → told_fault ≡ option_map (λ f. Procedure f session.inactive) ended
-      → IsCarriedOut json traced wake activate conventions image listed kept script text told_fault
-  carried json traced wake activate text after results ended told_fault done told fault same = record {
+  pub carried : (traced : Bool) (text : List ℕ) (after : ModuleBus) (results : ProcedureResults) (ended : Option ProvisionFault) (told_fault : Option ToldFault)
+      → CarriesOut options.wake options.activate session.advert session.plan session.kept (seen_at session.bus) after results
+      → text ≡ told_output options.json traced after.steps (outcome_of results (active_bytes after.state.1)) ended → ended ≡ outcome_fault results → told_fault ≡ option_map (λ f. Procedure f session.inactive) ended
+      → IsCarriedOut traced options inputs text told_fault
+  carried traced text after results ended told_fault done told fault same = record {
     set_up = is.set_up;
     after = after;
     results = results;
     done = rw (is.advert, is.plan, is.kept, is.bus) at done;
-    told = told ∙ ap (told_output json traced after.steps (outcome_of results (active_bytes after.state.1))) fault;
+    told = told ∙ ap (told_output options.json traced after.steps (outcome_of results (active_bytes after.state.1))) fault;
     fault = same ∙ ap₂ (λ (o : Option Path) (e : Option ProvisionFault). option_map (λ f. Procedure f o) e) is.inactive fault;
   }
 
-  session_module : session.bus.device ≡ start is.set_up.given.is_advert.memory delays
+  session_module : session.bus.device ≡ start is.set_up.planning.image delays
   session_module = ap (λ (bus : ModuleBus). bus.state.1) is.bus
 
   -- its module is sound, and in no apply
   pub session_sound : IsSound session.bus.device
-  session_sound = subst IsSound (sym session_module) (sound_start is.set_up.given.is_advert.memory delays)
+  session_sound = subst IsSound (sym session_module) (sound_start is.set_up.planning.image delays)
 
   pub session_at_rest : HasNoApply session.bus.device
-  session_at_rest = subst HasNoApply (sym session_module) (new_at_rest is.set_up.given.is_advert.memory delays)
+  session_at_rest = subst HasNoApply (sym session_module) (new_at_rest is.set_up.planning.image delays)
 
 -- by the same condition in other words
 pub makes_as : (given wanted : Bool) (Does : BusProcedure) (before after : ModuleBus) (ended : Option StepsOrFault)

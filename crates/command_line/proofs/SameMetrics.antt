@@ -1,36 +1,31 @@
 -- Metrics of what is read over a bus are those of the image, but for VDM.
-use Rattle.std.proofs.Common.{◌≡◌, ◌≢◌, ◌∙◌, ◌⊎◌, ℕ, Bool, true, false, List, [], ◌∷◌, ◌++◌, append-nil, Option, Some, None, Result, Ok, Err, refl, sym, ap, ap₂, inl, inr}
+use Rattle.std.proofs.Common.{◌≡◌, ◌≢◌, ◌∙◌, ℕ, Bool, true, false, List, [], ◌∷◌, ◌++◌, append-nil, Option, Some, None, Ok, Err, refl, sym, ap, ap₂, inl, inr}
 use Rattle.std.proofs.lemmas.Bool.{false≢true}
 use Rattle.std.proofs.lemmas.Grind.{flat_map-append}
 use Rattle.std.specs.Prelude.{option_map}
 use Rattle.std.specs.Option.{option_or}
 use Rattle.text_lines.specs.Lines.{lines_of, text_of}
 use Rattle.paged_memory.specs.Images.{Memory}
-use Rattle.paged_memory.specs.ImageFaults.{IsAnswer}
-use Rattle.paged_memory.specs.ImageText.{IsImage, IsTextOf}
-use Rattle.paged_memory.specs.declared.fault.ImageFault.{ImageFault}
-use Rattle.paged_memory.proofs.OneAnswer.{same_answer}
+use Rattle.paged_memory.specs.ImageText.{IsTextOf}
 use Rattle.module_metrics.specs.Answers.{code_of, first_fault, metrics_of, told_flags}
 use Rattle.module_metrics.specs.Exposition.{Label, Metric, exposition, metric_lines, metrics_lines}
 use Rattle.module_metrics.specs.ModuleMetrics.{module_metrics}
 use Rattle.module_metrics.specs.Unless.{unless}
 use Rattle.module_metrics.specs.VdmMetrics.{vdm_metrics, vdm_seen}
-use Rattle.reports.proofs.FetchedReports.{fetched_reports}
 use Rattle.reports.specs.Reports.{flags_entries, flags_fault, flags_told, inventory_entries, inventory_fault, monitors_entries, monitors_fault}
-use Rattle.reports.specs.SameReports.{FetchedReportsSame, IsSame, ReportsSame}
+use Rattle.reports.specs.SameReports.{IsSame, ReportsSame}
 use Rattle.reports.specs.declared.fault.ReportFault.{ReportFault}
-use Rattle.command_line.specs.Commands.{in_form}
 use Rattle.command_line.specs.Faults.{fault_of_told}
 use Rattle.command_line.specs.MetricsCommand.{IsMetricsAnswer}
-use Rattle.command_line.specs.OverBus.{IsFetchedFrom, window_at_start}
 use Rattle.command_line.specs.Runs.{Answer}
-use Rattle.command_line.specs.SameOverBus.{AreToldBefore, IsFollowedAnswer, IsGivenUp, IsPlainAnswer, answer_fault, image_of}
-use Rattle.command_line.specs.declared.choice.commands.Choice.TheVariants as choice
+use Rattle.command_line.specs.SameOverBus.{AreToldBefore, IsFollowedAnswer, IsGivenUp, IsPlainAnswer, image_of, over_bus}
+use Rattle.command_line.specs.declared.choice.commands.CommandName.TheVariants as name
+use Rattle.command_line.specs.declared.choice.options.Options.{Options}
 use Rattle.command_line.specs.declared.fault.Fault.{Fault}
 use Rattle.command_line.specs.declared.fault.Fault.TheVariants as fault
 use Rattle.command_line.specs.declared.told_fault.ToldFault.{ToldFault}
 use Rattle.command_line.specs.declared.told_fault.ToldFault.TheVariants.{Metrics}
-use Rattle.command_line.proofs.SameOverBus.{IsAnswerOver, alone, reading_fault}
+use Rattle.command_line.proofs.SameOverBus.{IsAnswerOver, IsTold, alone, one_told, reading_fault, same_reports}
 
 -- ---- memories with the same reports have the same metrics
 
@@ -90,80 +85,70 @@ is_fault (Err f) = true
 never_both : (told : List ℕ × Option ToldFault) (f : Fault) → Ok told ≢ Err f
 never_both told f same = false≢true (ap is_fault same)
 
-module _ (all : Bool) (labels : List Label) where
+module _ (options : Options) where
+  abbrev IsMine : Bool → List ℕ → Answer → Type 0
+  IsMine bus = IsMetricsAnswer (record options { bus = bus })
+
   -- ---- without the flag a text has one answer
 
-  abbrev told_by : Result Memory ImageFault → Answer
-  told_by (Ok memory) = Ok (exposition labels (metrics_of all true memory), option_map Metrics (first_fault memory))
-  told_by (Err f) = Err (fault.Image f)
+  abbrev told_of : Memory → Answer
+  told_of memory = Ok (exposition options.labels (metrics_of options.all_flags true memory), option_map Metrics (first_fault memory))
 
-  record IsTold (text : List ℕ) (answer : Answer) : Type 0 where
-    read : Result Memory ImageFault
-    is_read : IsAnswer (lines_of text) read
-    is_told : answer ≡ told_by read
-
-  is_told : (text : List ℕ) (a : Answer) → IsMetricsAnswer false all labels text a → IsTold text a
+  is_told : (text : List ℕ) (a : Answer) → IsMine false text a → IsTold told_of text a
   is_told text (Ok (t, told)) (inl (memory, is, are)) =
       record { read = Ok memory; is_read = is; is_told = ap₂ (λ (x : List ℕ) (y : Option ToldFault). Ok (x, y)) are.text_is are.fault_is }
   is_told text (Ok (t, told)) (inr (f, never, alone)) = absurd never
   is_told text (Err (fault.Image f)) first = record { read = Err f; is_read = first; is_told = refl }
   is_told text (Err f) never = absurd never
 
-  one_answer : (text : List ℕ) (a b : Answer) → IsMetricsAnswer false all labels text a → IsMetricsAnswer false all labels text b → a ≡ b
-  one_answer text a b p q =
-      let first = is_told text a p in
-      let other = is_told text b q in
-      first.is_told ∙ (ap told_by (same_answer (lines_of text) first.read other.read first.is_read other.is_read) ∙ sym other.is_told)
+  one_answer : (text : List ℕ) (a b : Answer) → IsMine false text a → IsMine false text b → a ≡ b
+  one_answer text a b p q = one_told told_of text a b (is_told text a p) (is_told text b q)
 
   -- ---- with it, it has the same
 
-  module _ (law : FetchedReportsSame) where
-    same : (memory fetched : Memory) → IsImage memory → IsFetchedFrom memory (Ok fetched) → ReportsSame fetched memory
-    same memory fetched image (after, (history, ran, is)) = law (window_at_start memory) after history memory fetched image refl ran is
-
-    plain : (text t : List ℕ) (told : Option ToldFault) → IsMetricsAnswer true all labels text (Ok (t, told)) → ¬ (IsGivenUp (Ok (t, told)))
-        → (memory : Memory) × IsTextOf (lines_of text) memory × IsMetricsAnswer false all labels text (Ok (t ++ vdm_text labels memory, told))
-    plain text t told (inl (fetched, read, are)) ended =
-        let alike = same read.memory fetched read.is_text.image read.fetched in (
+  plain : (text t : List ℕ) (told : Option ToldFault) → IsMine true text (Ok (t, told)) → ¬ (IsGivenUp (Ok (t, told)))
+      → (memory : Memory) × IsTextOf (lines_of text) memory × IsMine false text (Ok (t ++ vdm_text options.labels memory, told))
+  plain text t told (inl (fetched, read, are)) ended =
+      let alike = same_reports read.memory fetched read.is_text.image read.fetched in (
+        read.memory,
+        read.is_text,
+        inl (
           read.memory,
           read.is_text,
-          inl (
-            read.memory,
-            read.is_text,
-            record {
-              text_is = ap (λ (bytes : List ℕ). bytes ++ vdm_text labels read.memory) (are.text_is ∙ ap (exposition labels) (metrics_same fetched read.memory alike all))
-                  ∙ sym (followed all labels read.memory);
-              fault_is = are.fault_is ∙ ap (option_map Metrics) (first_same fetched read.memory alike);
-            },
-          ),
-        )
-    plain text t told (inr (f, unread, alone)) ended =
-        let gave_up = reading_fault unread.memory f unread.fetched in
-        absurd (ended (ap (option_map fault_of_told) alone.fault_is ∙ ap (λ (g : ReportFault). Some (fault_of_told (Metrics g))) gave_up))
+          record {
+            text_is = ap (λ (bytes : List ℕ). bytes ++ vdm_text options.labels read.memory)
+                (are.text_is ∙ ap (exposition options.labels) (metrics_same fetched read.memory alike options.all_flags))
+                ∙ sym (followed options.all_flags options.labels read.memory);
+            fault_is = are.fault_is ∙ ap (option_map Metrics) (first_same fetched read.memory alike);
+          },
+        ),
+      )
+  plain text t told (inr (f, unread, alone)) ended =
+      let gave_up = reading_fault unread.memory f unread.fetched in
+      absurd (ended (ap (option_map fault_of_told) alone.fault_is ∙ ap (λ (g : ReportFault). Some (fault_of_told (Metrics g))) gave_up))
 
-    abbrev IsMine : Bool → List ℕ → Answer → Type 0
-    IsMine over = IsMetricsAnswer over all labels
+  abbrev IsFollowedBy : List ℕ → Answer → Type 0
+  IsFollowedBy input a = IsFollowedAnswer options.labels (over_bus name.Metrics options) input a
 
-    followed_by : (json : Bool) (input : List ℕ) (a : Answer) → IsAnswerOver IsMine true input a → ¬ (IsGivenUp a) → a ≢ Err fault.Memory → a ≢ Err fault.Io
-        → IsFollowedAnswer labels (λ over. in_form json (choice.Metrics over all labels)) input a
-    followed_by json input (Ok (t, told)) is ended memory read =
-        let found = plain (image_of input) t told is.2 ended in
-        let more : List ℕ × Option ToldFault = (t ++ vdm_text labels found.0, told) in
-        let without : IsAnswerOver IsMine false input (Ok more) = (is.0, is.1, found.2) in
-        let whole : IsPlainAnswer (λ over. in_form json (choice.Metrics over all labels)) input (Ok more) = record {
-          plain = without;
-          alone = λ other. alone IsMine one_answer input (Ok more) other without (never_both more fault.Memory) (never_both more fault.Io);
-        } in
-        record { memory = found.0; is_image = found.1; whole = whole }
-    followed_by json input (Err fault.Memory) is ended memory read = absurd (memory refl)
-    followed_by json input (Err fault.Io) is ended memory read = absurd (read refl)
-    followed_by json input (Err fault.TooLong) is ended memory read =
-        record { plain = is; alone = λ other. alone IsMine one_answer input (Err fault.TooLong) other is memory read }
-    followed_by json input (Err (fault.Parts n)) is ended memory read =
-        record { plain = is; alone = λ other. alone IsMine one_answer input (Err (fault.Parts n)) other is memory read }
-    followed_by json input (Err (fault.Image f)) is ended memory read =
-        record { plain = is; alone = λ other. alone IsMine one_answer input (Err (fault.Image f)) other is memory read }
-    followed_by json input (Err f) is ended memory read = absurd is.2
+  followed_by : (input : List ℕ) (a : Answer) → IsAnswerOver IsMine true input a → ¬ (IsGivenUp a) → a ≢ Err fault.Memory → a ≢ Err fault.Io → IsFollowedBy input a
+  followed_by input (Ok (t, told)) is ended memory read =
+      let found = plain (image_of input) t told is.2 ended in
+      let more : List ℕ × Option ToldFault = (t ++ vdm_text options.labels found.0, told) in
+      let without : IsAnswerOver IsMine false input (Ok more) = (is.0, is.1, found.2) in
+      let whole : IsPlainAnswer (over_bus name.Metrics options) input (Ok more) = record {
+        plain = without;
+        alone = λ other. alone IsMine one_answer input (Ok more) other without (never_both more fault.Memory) (never_both more fault.Io);
+      } in
+      record { memory = found.0; is_image = found.1; whole = whole }
+  followed_by input (Err fault.Memory) is ended memory read = absurd (memory refl)
+  followed_by input (Err fault.Io) is ended memory read = absurd (read refl)
+  followed_by input (Err fault.TooLong) is ended memory read =
+      record { plain = is; alone = λ other. alone IsMine one_answer input (Err fault.TooLong) other is memory read }
+  followed_by input (Err (fault.Parts n)) is ended memory read =
+      record { plain = is; alone = λ other. alone IsMine one_answer input (Err (fault.Parts n)) other is memory read }
+  followed_by input (Err (fault.Image f)) is ended memory read =
+      record { plain = is; alone = λ other. alone IsMine one_answer input (Err (fault.Image f)) other is memory read }
+  followed_by input (Err f) is ended memory read = absurd is.2
 
-pub metrics_told_before : (labels : List Label) (all json : Bool) → AreToldBefore labels (λ over. in_form json (choice.Metrics over all labels))
-metrics_told_before labels all json input a is ended memory read = followed_by all labels fetched_reports json input a is ended memory read
+  pub metrics_told_before : AreToldBefore options.labels (over_bus name.Metrics options)
+  metrics_told_before input a is ended memory read = followed_by input a is ended memory read

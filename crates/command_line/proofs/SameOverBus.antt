@@ -10,22 +10,21 @@ use Rattle.paged_memory.specs.declared.fault.ImageFault.{ImageFault}
 use Rattle.paged_memory.specs.PageAddressing.{History}
 use Rattle.paged_memory.proofs.OneAnswer.{same_answer}
 use Rattle.reports.proofs.FetchedReports.{fetched_reports}
-use Rattle.reports.specs.SameReports.{FetchedReportsSame, IsSame, ReportsSame}
+use Rattle.reports.specs.SameReports.{IsSame, ReportsSame}
 use Rattle.reports.specs.declared.fault.ReportFault.{ReportFault}
 use Rattle.reports.specs.declared.fault.ReportFault.TheVariants as report
 use Rattle.report_entries.specs.Entries.{Entry}
 use Rattle.command_line.specs.Coloring.{shown_as}
-use Rattle.command_line.specs.Commands.{in_form}
 use Rattle.command_line.specs.Limits.{input_limit}
 use Rattle.command_line.specs.OverBus.{IsFetchedFrom, window_at_start}
 use Rattle.command_line.specs.ReportCommands.{IsReported, entries_of, printed, refusal_of}
 use Rattle.command_line.specs.Parts.{parts_of}
 use Rattle.command_line.specs.Runs.{Answer, IsAnswerTo}
-use Rattle.command_line.specs.SameOverBus.{IsGivenUp, IsToldAlike, image_of}
-use Rattle.command_line.specs.declared.choice.coloring.Coloring.{Coloring}
-use Rattle.command_line.specs.declared.choice.commands.Choice.TheVariants.{Report}
+use Rattle.command_line.specs.SameOverBus.{IsGivenUp, IsToldAlike, image_of, over_bus}
+use Rattle.command_line.specs.declared.choice.commands.CommandName.TheVariants.{Report}
 use Rattle.command_line.specs.declared.choice.commands.ReportName.{ReportName}
 use Rattle.command_line.specs.declared.choice.commands.ReportName.TheVariants.{Inventory, Apps, Monitors, Flags, Details}
+use Rattle.command_line.specs.declared.choice.options.Options.{Options}
 use Rattle.command_line.specs.declared.choice.part.Part.TheVariants.{Image}
 use Rattle.command_line.specs.declared.fault.Fault.TheVariants as fault
 
@@ -46,7 +45,7 @@ reading_fault memory f (after, (history, ran, is)) = absurd is.answered
 -- ---- a command that reads an image alone, whose text has one answer without the flag, and that with it unless the reading came to no end
 
 abbrev pub IsAnswerOver : (Bool → List ℕ → Answer → Type 0) → Bool → List ℕ → Answer → Type 0
-IsAnswerOver IsMine over = IsAnswerTo (Image ∷ []) (λ texts. IsMine over (texts Image))
+IsAnswerOver IsMine over = IsAnswerTo (Image ∷ []) (λ inputs. IsMine over inputs.image)
 
 module _ (IsMine : Bool → List ℕ → Answer → Type 0) (one_answer : (text : List ℕ) (a b : Answer) → IsMine false text a → IsMine false text b → a ≡ b) where
   -- by what is the first to be judged of an input
@@ -106,44 +105,54 @@ module _ (IsMine : Bool → List ℕ → Answer → Type 0) (one_answer : (text 
         λ other. alone IsMine one_answer input a other plain memory read,
       )
 
+-- what is answered to a text by what is told of a memory
+
+module _ (told_of : Memory → Answer) where
+  abbrev told_by : Result Memory ImageFault → Answer
+  told_by (Ok memory) = told_of memory
+  told_by (Err f) = Err (fault.Image f)
+
+  pub record IsTold (text : List ℕ) (answer : Answer) : Type 0 where
+    pub read : Result Memory ImageFault
+    pub is_read : IsAnswer (lines_of text) read
+    pub is_told : answer ≡ told_by read
+
+  pub one_told : (text : List ℕ) (a b : Answer) → IsTold text a → IsTold text b → a ≡ b
+  one_told text a b first other =
+      first.is_told ∙ (ap told_by (same_answer (lines_of text) first.read other.read first.is_read other.is_read) ∙ sym other.is_told)
+
+pub same_reports : (memory fetched : Memory) → IsImage memory → IsFetchedFrom memory (Ok fetched) → ReportsSame fetched memory
+same_reports memory fetched image (after, (history, ran, is)) = fetched_reports (window_at_start memory) after history memory fetched image refl ran is
+
 -- ---- reports
 
 module _ (refusal : Memory → Option ReportFault) (text_of : Memory → List ℕ) where
   -- ---- without the flag a text has one answer, by what reading it answers
 
-  abbrev told_of : Memory → Option ReportFault → Answer
-  told_of memory None = Ok (text_of memory, None)
-  told_of memory (Some f) = Err (fault.Report f)
+  abbrev by_refusal : Memory → Option ReportFault → Answer
+  by_refusal memory None = Ok (text_of memory, None)
+  by_refusal memory (Some f) = Err (fault.Report f)
 
-  abbrev told_by : Result Memory ImageFault → Answer
-  told_by (Ok memory) = told_of memory (refusal memory)
-  told_by (Err f) = Err (fault.Image f)
+  abbrev report_of : Memory → Answer
+  report_of memory = by_refusal memory (refusal memory)
 
-  record IsTold (text : List ℕ) (answer : Answer) : Type 0 where
-    read : Result Memory ImageFault
-    is_read : IsAnswer (lines_of text) read
-    is_told : answer ≡ told_by read
-
-  is_told : (text : List ℕ) (a : Answer) → IsReported false refusal text_of text a → IsTold text a
+  is_told : (text : List ℕ) (a : Answer) → IsReported false refusal text_of text a → IsTold report_of text a
   is_told text (Ok (t, None)) (memory, is, none, said) =
-      record { read = Ok memory; is_read = is; is_told = (λ i. Ok (said i, None)) ∙ ap (told_of memory) (sym none) }
+      record { read = Ok memory; is_read = is; is_told = (λ i. Ok (said i, None)) ∙ ap (by_refusal memory) (sym none) }
   is_told text (Ok (t, Some f)) never = absurd never
   is_told text (Err (fault.Report f)) (inl never) = absurd never
-  is_told text (Err (fault.Report f)) (inr (memory, is, some)) = record { read = Ok memory; is_read = is; is_told = ap (told_of memory) (sym some) }
+  is_told text (Err (fault.Report f)) (inr (memory, is, some)) = record { read = Ok memory; is_read = is; is_told = ap (by_refusal memory) (sym some) }
   is_told text (Err (fault.Image f)) first = record { read = Err f; is_read = first; is_told = refl }
   is_told text (Err f) never = absurd never
 
   one_report : (text : List ℕ) (a b : Answer) → IsReported false refusal text_of text a → IsReported false refusal text_of text b → a ≡ b
-  one_report text a b p q =
-      let first = is_told text a p in
-      let other = is_told text b q in
-      first.is_told ∙ (ap told_by (same_answer (lines_of text) first.read other.read first.is_read other.is_read) ∙ sym other.is_told)
+  one_report text a b p q = one_told report_of text a b (is_told text a p) (is_told text b q)
 
   -- ---- with it, it has the same
 
-  module _ (law : FetchedReportsSame) (pick : (fetched memory : Memory) → ReportsSame fetched memory → IsSame refusal text_of fetched memory) where
+  module _ (pick : (fetched memory : Memory) → ReportsSame fetched memory → IsSame refusal text_of fetched memory) where
     same : (memory fetched : Memory) → IsImage memory → IsFetchedFrom memory (Ok fetched) → IsSame refusal text_of fetched memory
-    same memory fetched image (after, (history, ran, is)) = pick fetched memory (law (window_at_start memory) after history memory fetched image refl ran is)
+    same memory fetched image read = pick fetched memory (same_reports memory fetched image read)
 
     plain_report : (text : List ℕ) (a : Answer) → IsReported true refusal text_of text a → ¬ (IsGivenUp a) → IsReported false refusal text_of text a
     plain_report text (Ok (t, None)) (fetched, read, none, said) ended =
@@ -159,20 +168,20 @@ module _ (refusal : Memory → Option ReportFault) (text_of : Memory → List �
     plain_report text (Err f) never ended = absurd never
 
 -- what is printed of the same entries is the same, in each form
-printed_told_alike : (name : ReportName) (coloring : Coloring) (json : Bool) → ((fetched memory : Memory) → ReportsSame fetched memory → IsSame (refusal_of name) (entries_of name) fetched memory)
-    → IsToldAlike (λ over. in_form json (Report name over coloring))
-printed_told_alike name coloring json pick input a is ended memory read =
-    let text_of = λ (m : Memory). shown_as coloring json (printed json (entries_of name m)) in
+printed_told_alike : (name : ReportName) (options : Options) → ((fetched memory : Memory) → ReportsSame fetched memory → IsSame (refusal_of name) (entries_of name) fetched memory)
+    → IsToldAlike (over_bus (Report name) options)
+printed_told_alike name options pick input a is ended memory read =
+    let shown : List Entry → List ℕ = λ entries. shown_as options.coloring options.json (printed options.json entries) in
+    let text_of = λ (m : Memory). shown (entries_of name m) in
     let same : (fetched memory : Memory) → ReportsSame fetched memory → IsSame (refusal_of name) text_of fetched memory = λ fetched image all.
     let alike = pick fetched image all in
-    record { fault = alike.fault; said = λ none. ap (λ (entries : List Entry). shown_as coloring json (printed json entries)) (alike.said none) } in
-    let told = told_alike (λ over. IsReported over (refusal_of name) text_of) (one_report (refusal_of name) text_of)
-    (plain_report (refusal_of name) text_of fetched_reports same) input a is ended memory read in
+    record { fault = alike.fault; said = λ none. ap shown (alike.said none) } in
+    let told = told_alike (λ over. IsReported over (refusal_of name) text_of) (one_report (refusal_of name) text_of) (plain_report (refusal_of name) text_of same) input a is ended memory read in
     record { plain = told.0; alone = told.1 }
 
-pub each_told_alike : (name : ReportName) (coloring : Coloring) (json : Bool) → IsToldAlike (λ over. in_form json (Report name over coloring))
-each_told_alike Inventory coloring json = printed_told_alike Inventory coloring json (λ fetched memory all. all.inventory)
-each_told_alike Apps coloring json = printed_told_alike Apps coloring json (λ fetched memory all. all.apps)
-each_told_alike Monitors coloring json = printed_told_alike Monitors coloring json (λ fetched memory all. all.monitors)
-each_told_alike Flags coloring json = printed_told_alike Flags coloring json (λ fetched memory all. all.flags)
-each_told_alike Details coloring json = printed_told_alike Details coloring json (λ fetched memory all. all.details)
+pub each_told_alike : (name : ReportName) (options : Options) → IsToldAlike (over_bus (Report name) options)
+each_told_alike Inventory options = printed_told_alike Inventory options (λ fetched memory all. all.inventory)
+each_told_alike Apps options = printed_told_alike Apps options (λ fetched memory all. all.apps)
+each_told_alike Monitors options = printed_told_alike Monitors options (λ fetched memory all. all.monitors)
+each_told_alike Flags options = printed_told_alike Flags options (λ fetched memory all. all.flags)
+each_told_alike Details options = printed_told_alike Details options (λ fetched memory all. all.details)

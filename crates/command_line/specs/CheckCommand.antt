@@ -22,7 +22,9 @@ use Rattle.report_entries.specs.EntryJson.{json_text}
 use Rattle.plan_reports.specs.PlanText.{plan_lines}
 use Rattle.plan_reports.specs.VerdictJson.{good_json}
 use Rattle.plan_certificate.specs.Limits.{most_states}
+use Rattle.command_line.specs.declared.choice.options.Options.{Options}
 use Rattle.command_line.specs.declared.fault.Fault.TheVariants as fault
+use Rattle.command_line.specs.Inputs.{Inputs}
 use Rattle.command_line.specs.PlanningInputs.{Advertises, IsAdvertText, IsAdvertRefusal, IsWeightsRefusal}
 use Rattle.command_line.specs.Runs.{Answer}
 
@@ -68,27 +70,28 @@ pub record TellsGood (json first : Bool) (advert : Advertised) (weights : PathWe
   pub told : text ≡ good_output json is_first advert weights certificate
 
 -- the texts are those of an image, of weights and of a certificate, of which this is the verdict
-pub record IsJudged (conventions : Conventions) (image_text weights_text certificate_text : List ℕ) (judged : Verdict) : Type 0 where
+pub record IsJudged (conventions : Conventions) (inputs : Inputs) (judged : Verdict) : Type 0 where
   pub advert : Advertised
   pub weights : ListedWeights
   pub certificate : Claim
-  pub is_advert : IsAdvertText conventions image_text advert
-  pub are_weights : IsAnswer weights_text (Ok weights)
-  pub is_certificate : IsTextOf most_states (lines_of certificate_text) certificate
+  pub is_advert : IsAdvertText conventions inputs.image advert
+  pub are_weights : IsAnswer inputs.weights (Ok weights)
+  pub is_certificate : IsTextOf most_states (lines_of inputs.certificate) certificate
   pub is_verdict : verdict advert (app_weights advert weights) certificate ≡ judged
 
 -- the certificate is good, so its plan is best among those that hold the kept paths, and the plan is told
-pub record IsGoodAnswer (json first : Bool) (conventions : Conventions) (image_text weights_text certificate_text text : List ℕ) : Type 0 where
-  pub judged : IsJudged conventions image_text weights_text certificate_text Good
+pub record IsGoodAnswer (options : Options) (inputs : Inputs) (text : List ℕ) : Type 0 where
+  pub judged : IsJudged options.conventions inputs Good
   pub is_best : IsBest judged.advert (app_weights judged.advert judged.weights) judged.certificate.kept judged.certificate.paths
-  pub told : TellsGood json first judged.advert (app_weights judged.advert judged.weights) judged.certificate text
+  pub told : TellsGood options.json options.first judged.advert (app_weights judged.advert judged.weights) judged.certificate text
 
 -- the answer to the texts of an image, of weights and of a certificate
-abbrev pub IsCheckAnswer : Bool → Bool → Conventions → List ℕ → List ℕ → List ℕ → Answer → Type 0
-IsCheckAnswer json first conventions image weights certificate (Ok (text, None)) = IsGoodAnswer json first conventions image weights certificate text
-IsCheckAnswer json first conventions image weights certificate (Ok (text, ended)) = ⊥
-IsCheckAnswer json first conventions image weights certificate (Err (fault.Bad reason number)) = IsJudged conventions image weights certificate (Bad reason number)
-IsCheckAnswer json first conventions image weights certificate (Err (fault.Certificate f)) =
-    Advertises conventions image × ((listed : ListedWeights) × IsAnswer weights (Ok listed)) × IsFirstFault most_states (lines_of certificate) f
-IsCheckAnswer json first conventions image weights certificate (Err (fault.Weights f)) = Advertises conventions image × IsWeightsRefusal weights f
-IsCheckAnswer json first conventions image weights certificate (Err f) = IsAdvertRefusal conventions image f
+abbrev pub IsCheckAnswer : Options → Inputs → Answer → Type 0
+IsCheckAnswer options inputs (Ok (text, None)) = IsGoodAnswer options inputs text
+IsCheckAnswer options inputs (Ok (text, ended)) = ⊥
+IsCheckAnswer options inputs (Err (fault.Bad reason number)) = IsJudged options.conventions inputs (Bad reason number)
+IsCheckAnswer options inputs (Err (fault.Certificate f)) =
+    Advertises options.conventions inputs.image × ((listed : ListedWeights) × IsAnswer inputs.weights (Ok listed))
+    × IsFirstFault most_states (lines_of inputs.certificate) f
+IsCheckAnswer options inputs (Err (fault.Weights f)) = Advertises options.conventions inputs.image × IsWeightsRefusal inputs.weights f
+IsCheckAnswer options inputs (Err f) = IsAdvertRefusal options.conventions inputs.image f

@@ -7,8 +7,6 @@ use Rattle.std.specs.declared.env.VarError.{VarError}
 use Rattle.std.specs.declared.env.VarError.TheVariants.{NotPresent}
 use Rattle.clap.specs.Words.{Text}
 use Rattle.terminal_text.specs.Colors.{colored}
-use Rattle.command_line.specs.declared.choice.commands.Choice.{Choice}
-use Rattle.command_line.specs.declared.choice.commands.Choice.TheVariants.{Report, Observables}
 use Rattle.command_line.specs.declared.choice.commands.Request.{Request}
 use Rattle.command_line.specs.declared.choice.coloring.Coloring.{Coloring}
 use Rattle.command_line.specs.declared.choice.coloring.Coloring.TheVariants.{Auto, Always, Never}
@@ -53,13 +51,8 @@ on_screen false Auto = Never
 on_screen shows Always = Always
 on_screen shows Never = Never
 
-abbrev pub choice_on_screen : Bool → Choice → Choice
-choice_on_screen shows (Report report bus coloring) = Report report bus (on_screen shows coloring)
-choice_on_screen shows (Observables bus coloring) = Observables bus (on_screen shows coloring)
-choice_on_screen shows choice = choice
-
 abbrev pub request_on_screen : Bool → Request → Request
-request_on_screen shows request = record { choice = choice_on_screen shows request.choice; json = request.json }
+request_on_screen shows request = record request { options = record (request.options) { coloring = on_screen shows request.options.coloring } }
 
 -- how a report is shown; JSON has no colors
 abbrev pub shown_as : Coloring → Bool → List ℕ → List ℕ

@@ -7,6 +7,7 @@ use Rattle.clap.specs.Words.{Text}
 use Rattle.command_line.specs.declared.choice.commands.CommandName.{CommandName}
 use Rattle.command_line.specs.declared.choice.commands.CommandName.TheVariants.{Report, Observables, Metrics, Plan, Draw, Check, Provision, Trace}
 use Rattle.command_line.specs.declared.choice.commands.ReportName.TheVariants.{Inventory, Apps, Monitors, Flags, Details}
+use Rattle.command_line.specs.Inputs.{parts_of_command}
 use Rattle.command_line.specs.declared.choice.part.Part.{Part}
 use Rattle.command_line.specs.declared.choice.part.Part.TheVariants.{Image, Weights, Kept, Certificate, Script}
 
@@ -23,17 +24,6 @@ lines_told Kept =
     ∷ []
 lines_told Certificate = codes "then, after a line '---', a certificate, as 'cmisctl plan' prints it" ∷ []
 lines_told Script = codes "then, after a line '---', a script of the bus: lines such as 'ok 4' and 'nack 1', or no line" ∷ []
-
--- the parts that a command reads, with all of its flags
-abbrev pub parts_told : CommandName → List Part
-parts_told (Report report) = Image ∷ []
-parts_told Observables = Image ∷ []
-parts_told Metrics = Image ∷ []
-parts_told Plan = Image ∷ Weights ∷ Kept ∷ []
-parts_told Draw = Image ∷ Weights ∷ Kept ∷ []
-parts_told Check = Image ∷ Weights ∷ Certificate ∷ []
-parts_told Provision = Image ∷ Weights ∷ Kept ∷ Script ∷ []
-parts_told Trace = Image ∷ Weights ∷ Kept ∷ Script ∷ []
 
 -- what is typed after the program's name
 abbrev pub examples : CommandName → List Text
@@ -112,7 +102,7 @@ lines_after beginning lines = flat_map (λ line. codes "\n" ++ beginning ++ line
 abbrev pub help_of : CommandName → Text
 help_of command =
     codes "INPUT is read from standard input:"
-    ++ lines_after (codes "  ") (flat_map lines_told (parts_told command))
+    ++ lines_after (codes "  ") (flat_map lines_told (parts_of_command command))
     ++ codes "\n\nExamples, in the repository's folder:"
     ++ lines_after (codes "  ./cmisctl ") (examples command)
     ++ codes "\n\nStatus: 0 answered, 1 input refused, 2 command line refused,\n"

@@ -1,6 +1,6 @@
 pub mod GivenFlags
-pub mod MetricsChoice
 pub mod Coloring
+pub mod Options
 pub mod Choice
 pub mod WordFaults
 pub mod ChoiceFault
@@ -13,7 +13,7 @@ pub mod RememberingReader
 pub mod StoppingWriter
 pub mod Input
 pub mod Parts
-pub mod PartsRead
+pub mod Inputs
 pub mod PartsLeft
 pub mod Help
 pub mod Faults
@@ -33,7 +33,6 @@ pub mod ReportCommands
 pub mod MetricsCommand
 pub mod ObservablesCommand
 pub mod PlanningInputs
-pub mod GivenPlan
 pub mod PlanCommand
 pub mod DrawCommand
 pub mod CheckCommand

@@ -1,12 +1,13 @@
 -- What the command `metrics` answers to the text of an image, with its labels, and with `--bus` and `--flags` or without them.
 -- (docs/formats.md, "Input", "Metrics" and "Reports over a bus"; this project's own)
-use Rattle.std.specs.Prelude.{◌≡◌, ◌⊎◌, ℕ, Bool, not, List, Option, Some, None, option_map, Ok, Err}
+use Rattle.std.specs.Prelude.{◌≡◌, ◌⊎◌, ℕ, Bool, not, List, Option, Some, option_map, Ok, Err}
 use Rattle.text_lines.specs.Lines.{lines_of}
 use Rattle.paged_memory.specs.Images.{Memory}
 use Rattle.paged_memory.specs.ImageFaults.{IsFirstFault}
 use Rattle.module_metrics.specs.Answers.{fault_text, first_fault, metrics_of}
 use Rattle.module_metrics.specs.Exposition.{Label, exposition}
 use Rattle.reports.specs.declared.fault.ReportFault.{ReportFault}
+use Rattle.command_line.specs.declared.choice.options.Options.{Options}
 use Rattle.command_line.specs.declared.fault.Fault.TheVariants as fault
 use Rattle.command_line.specs.declared.told_fault.ToldFault.{ToldFault}
 use Rattle.command_line.specs.declared.told_fault.ToldFault.TheVariants.{Metrics}
@@ -24,10 +25,10 @@ pub record IsFaultAlone (labels : List Label) (f : ReportFault) (text : List ℕ
   pub fault_is : told ≡ Some (Metrics f)
 
 -- the answer, over a bus without VDM, whose pages a host doesn't read; an image that is none has a line, as for other commands
-abbrev pub IsMetricsAnswer : Bool → Bool → List Label → List ℕ → Answer → Type 0
-IsMetricsAnswer bus all labels image (Ok (text, told)) =
-    ((memory : Memory) × IsToReport bus image memory × AreMetricsOf all (not bus) labels memory text told)
-    ⊎ ((f : ReportFault) × IsUnread bus image f × IsFaultAlone labels f text told)
-IsMetricsAnswer bus all labels image (Err (fault.Image f)) = IsFirstFault (lines_of image) f
+abbrev pub IsMetricsAnswer : Options → List ℕ → Answer → Type 0
+IsMetricsAnswer options image (Ok (text, told)) =
+    ((memory : Memory) × IsToReport options.bus image memory × AreMetricsOf options.all_flags (not options.bus) options.labels memory text told)
+    ⊎ ((f : ReportFault) × IsUnread options.bus image f × IsFaultAlone options.labels f text told)
+IsMetricsAnswer options image (Err (fault.Image f)) = IsFirstFault (lines_of image) f
 -- the faults of other commands don't come
-IsMetricsAnswer bus all labels image answer = ⊥
+IsMetricsAnswer options image answer = ⊥

@@ -8,7 +8,7 @@ use Rattle.reports.specs.Families.{detail_fault}
 use Rattle.observable_reports.specs.Answered.{json_of}
 use Rattle.observable_reports.specs.ObservationText.{observables_lines}
 use Rattle.command_line.specs.Coloring.{shown_as}
-use Rattle.command_line.specs.declared.choice.coloring.Coloring.{Coloring}
+use Rattle.command_line.specs.declared.choice.options.Options.{Options}
 use Rattle.command_line.specs.ReportCommands.{IsReported}
 use Rattle.command_line.specs.Runs.{Answer}
 
@@ -18,5 +18,5 @@ observed_text true memory = json_text (json_of memory)
 observed_text false memory = text_of (observables_lines memory)
 
 -- the modules are those of which details are told
-abbrev pub IsObservablesAnswer : Bool → Coloring → Bool → List ℕ → Answer → Type 0
-IsObservablesAnswer bus coloring json = IsReported bus detail_fault (λ memory. shown_as coloring json (observed_text json memory))
+abbrev pub IsObservablesAnswer : Options → List ℕ → Answer → Type 0
+IsObservablesAnswer options = IsReported options.bus detail_fault (λ memory. shown_as options.coloring options.json (observed_text options.json memory))

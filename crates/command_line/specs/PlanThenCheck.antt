@@ -4,8 +4,11 @@ use Rattle.std.specs.Prelude.{◌≡◌, ◌≢◌, ℕ, ◌≤◌, Bool, true, 
 use Rattle.applications.specs.declared.conventions.Conventions.{Conventions}
 use Rattle.applications.specs.AppWeights.{app_weights}
 use Rattle.command_line.specs.CheckCommand.{good_output}
-use Rattle.command_line.specs.Commands.{IsAnswerOf, in_form}
-use Rattle.command_line.specs.declared.choice.commands.Choice.TheVariants.{Check}
+use Rattle.command_line.specs.Commands.{IsAnswerOf}
+use Rattle.command_line.specs.declared.choice.commands.CommandName.TheVariants.{Check, Plan}
+use Rattle.command_line.specs.declared.choice.commands.Request.{Request}
+use Rattle.command_line.specs.declared.choice.options.Options.{Options}
+use Rattle.command_line.specs.Inputs.{Inputs}
 use Rattle.command_line.specs.Limits.{input_limit}
 use Rattle.command_line.specs.Parts.{parts_of}
 use Rattle.command_line.specs.PlanCommand.{IsPlanned}
@@ -26,35 +29,48 @@ first_if true = Some true
 first_if false = None
 
 -- that it is good, and the plan that was given
-abbrev pub good_text : {conventions : Conventions} {image_text weights_text kept_text text : List ℕ} → Bool → Bool → IsPlanned conventions image_text weights_text kept_text text → List ℕ
-good_text json first planned = good_output json (first_if first) planned.given.advert (app_weights planned.given.advert planned.given.weights) planned.certificate
+abbrev pub good_text : {conventions : Conventions} {inputs : Inputs} {text : List ℕ} → Options → IsPlanned false conventions inputs text → List ℕ
+good_text options planned = good_output options.json (first_if options.first) planned.planning.advert
+    (app_weights planned.planning.advert planned.planning.weights) planned.told.certificate
+
+-- `plan` with or without `--keep`, and not as JSON
+abbrev pub plan_request : Bool → Options → Request
+plan_request keep options = record { command = Plan; options = record options { keep = keep; json = false } }
+
+-- `check` by the same conventions
+abbrev pub check_request : Conventions → Options → Request
+check_request conventions options = record { command = Check; options = record options { conventions = conventions } }
 
 -- whatever other flags are given, `check` answers `good` and the plan to this input, as JSON or not, and, if no allocation and no read
 -- is refused, nothing else
-pub record IsCalledGood {conventions : Conventions} {image_text weights_text kept_text text : List ℕ} (planned : IsPlanned conventions image_text weights_text kept_text text) (input : List ℕ) : Type 0 where
-  pub good : (json first : Bool) → IsAnswerOf (in_form json (Check first conventions)) input (Ok (good_text json first planned, None))
-  pub alone : (json first : Bool) (answer : Answer) → IsAnswerOf (in_form json (Check first conventions)) input answer → answer ≢ Err Memory → answer ≢ Err Io
-      → answer ≡ Ok (good_text json first planned, None)
+pub record IsCalledGood {conventions : Conventions} {inputs : Inputs} {text : List ℕ} (planned : IsPlanned false conventions inputs text) (input : List ℕ) : Type 0 where
+  pub good : (options : Options) → IsAnswerOf (check_request conventions options) input (Ok (good_text options planned, None))
+  pub alone : (options : Options) (answer : Answer) → IsAnswerOf (check_request conventions options) input answer → answer ≢ Err Memory → answer ≢ Err Io
+      → answer ≡ Ok (good_text options planned, None)
+
+-- the inputs of `plan` that have these texts
+abbrev pub plan_inputs : List ℕ → List ℕ → List ℕ → Inputs
+plan_inputs image weights kept = record { image = image; weights = weights; kept = kept; certificate = []; script = [] }
 
 -- the text is of the plan of these texts, and after the image and the weights `check` calls it good
-pub record IsGoodBehind (conventions : Conventions) (image_text weights_text kept_text text : List ℕ) : Type 0 where
-  pub planned : IsPlanned conventions image_text weights_text kept_text text
-  pub good : (input : List ℕ) → length input ≤ input_limit → parts_of input ≡ image_text ∷ weights_text ∷ text ∷ [] → IsCalledGood planned input
+pub record IsGoodBehind (conventions : Conventions) (image weights kept text : List ℕ) : Type 0 where
+  pub planned : IsPlanned false conventions (plan_inputs image weights kept) text
+  pub good : (input : List ℕ) → length input ≤ input_limit → parts_of input ≡ image ∷ weights ∷ text ∷ [] → IsCalledGood planned input
 
 -- the text is of the plan of an input without kept paths, and is the third part after that input
 pub record IsGoodBehindInput (conventions : Conventions) (input text : List ℕ) : Type 0 where
-  pub image_text : List ℕ
-  pub weights_text : List ℕ
-  pub planned : IsPlanned conventions image_text weights_text [] text
-  pub parts : parts_of (input_with input text) ≡ image_text ∷ weights_text ∷ text ∷ []
+  pub image : List ℕ
+  pub weights : List ℕ
+  pub planned : IsPlanned false conventions (plan_inputs image weights []) text
+  pub parts : parts_of (input_with input text) ≡ image ∷ weights ∷ text ∷ []
   pub good : IsCalledGood planned (input_with input text)
 
 -- of an input that ends with kept paths: the text is of its plan, keeps them, and in their place is called good
 pub record IsGoodInPlace (conventions : Conventions) (input kept text : List ℕ) : Type 0 where
-  pub image_text : List ℕ
-  pub weights_text : List ℕ
+  pub image : List ℕ
+  pub weights : List ℕ
   pub kept_text : List ℕ
-  pub planned : IsPlanned conventions image_text weights_text kept_text text
-  pub parts_planned : parts_of (input_with input kept) ≡ image_text ∷ weights_text ∷ kept_text ∷ []
-  pub parts : parts_of (input_with input text) ≡ image_text ∷ weights_text ∷ text ∷ []
+  pub planned : IsPlanned false conventions (plan_inputs image weights kept_text) text
+  pub parts_planned : parts_of (input_with input kept) ≡ image ∷ weights ∷ kept_text ∷ []
+  pub parts : parts_of (input_with input text) ≡ image ∷ weights ∷ text ∷ []
   pub good : IsCalledGood planned (input_with input text)

@@ -18,6 +18,8 @@ use Rattle.plan_certificate.specs.Verdicts.{kept_fault}
 use Rattle.plan_certificate.specs.declared.fault.KeptFault.{KeptFault}
 use Rattle.plan_certificate.specs.declared.fault.KeptFault.TheVariants.{NotAdmissible}
 use Rattle.plan_certificate.specs.declared.path.Path.{Path}
+use Rattle.command_line.specs.Inputs.{Inputs}
+use Rattle.command_line.specs.declared.commands.planning_inputs.Planning.{Planning}
 use Rattle.command_line.specs.declared.fault.Fault.{Fault}
 use Rattle.command_line.specs.declared.fault.Fault.TheVariants as fault
 
@@ -56,19 +58,25 @@ abbrev pub AreNotKept : Advertised → List ℕ → KeptFault → Type 0
 AreNotKept advert text (NotAdmissible number) = (kept : List Path) × IsKeptText (lines_of text) kept × (kept_fault advert kept ≡ Some number)
 AreNotKept advert text f = IsFirstKeptFault (lines_of text) f
 
--- the image and the weights are accepted, and the kept paths are not
-pub record IsKeptRefusal (conventions : Conventions) (image_text weights_text kept_text : List ℕ) (refused : KeptFault) : Type 0 where
-  pub advert : Advertised
-  pub weights : ListedWeights
-  pub is_advert : IsAdvertText conventions image_text advert
-  pub are_weights : IsAnswer weights_text (Ok weights)
-  pub are_not_kept : AreNotKept advert kept_text refused
+-- ---- what a plan is made for
 
--- the image, the weights and the kept paths are accepted
-pub record ArePlanningInputs (conventions : Conventions) (image_text weights_text kept_text : List ℕ) : Type 0 where
+-- the texts are those of an image, of weights and of kept paths, and this is what they say
+pub record IsPlanning (conventions : Conventions) (inputs : Inputs) (planning : Planning) : Type 0 where
+  pub is_module : IsModuleText conventions inputs.image planning.image planning.advert
+  pub are_weights : IsAnswer inputs.weights (Ok planning.weights)
+  pub are_kept : AreKept planning.advert inputs.kept planning.kept
+
+-- the image and the weights are accepted, and the kept paths are not
+pub record IsKeptRefusal (conventions : Conventions) (inputs : Inputs) (refused : KeptFault) : Type 0 where
   pub advert : Advertised
   pub weights : ListedWeights
-  pub kept : List Path
-  pub is_advert : IsAdvertText conventions image_text advert
-  pub are_weights : IsAnswer weights_text (Ok weights)
-  pub are_kept : AreKept advert kept_text kept
+  pub is_advert : IsAdvertText conventions inputs.image advert
+  pub are_weights : IsAnswer inputs.weights (Ok weights)
+  pub are_not_kept : AreNotKept advert inputs.kept refused
+
+-- the first of the texts that is none
+abbrev pub IsPlanningRefusal : Conventions → Inputs → Fault → Type 0
+IsPlanningRefusal conventions inputs fault.Memory = Unit {0}
+IsPlanningRefusal conventions inputs (fault.Kept f) = IsKeptRefusal conventions inputs f
+IsPlanningRefusal conventions inputs (fault.Weights f) = Advertises conventions inputs.image × IsWeightsRefusal inputs.weights f
+IsPlanningRefusal conventions inputs f = IsAdvertRefusal conventions inputs.image f

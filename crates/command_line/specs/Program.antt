@@ -92,7 +92,7 @@ abbrev pub IsProgramRun : {R W : Type 0} → (R → Option (List ℕ)) → (W �
     → CountedReader R → CountedReader R → StoppingWriter W → StoppingWriter W → Ending → Type 0
 IsProgramRun remaining contents shows_colors (Ok words) reader reader_after writer writer_after ending =
     ((request : Request) × (request_of words ≡ Some (Ok request))
-    × IsCommandRun remaining contents request.json (IsAnswerOf (request_on_screen shows_colors request)) reader reader_after writer writer_after ending)
+    × IsCommandRun remaining contents request.options.json (IsAnswerOf (request_on_screen shows_colors request)) reader reader_after writer writer_after ending)
     ⊎ ((fault : ChoiceFault) × IsRefusalOf words fault × IsRefusalRun contents (IsRefusalSaid fault) reader reader_after writer writer_after ending)
 IsProgramRun remaining contents shows_colors (Err error) reader reader_after writer writer_after ending =
     IsRefusalRun contents (IsWordsRefusalSaid error) reader reader_after writer writer_after ending

@@ -16,8 +16,10 @@ use Rattle.bus_model.specs.declared.script.Directive.{Directive}
 use Rattle.paged_memory.specs.Images.{Memory}
 use Rattle.applications.specs.declared.conventions.Conventions.{Conventions}
 use Rattle.applications.specs.Advertised.{Advertised}
+use Rattle.applications.specs.AppWeights.{app_weights}
 use Rattle.plan_certificate.specs.Certificates.{Claim}
 use Rattle.plan_certificate.specs.declared.path.Path.{Path}
+use Rattle.lane_planner.specs.CertifiedPlans.{IsCertified}
 use Rattle.control_sets.specs.ControlBytes.{control_bytes}
 use Rattle.control_sets.specs.PlanLanes.{lanes_outside, plan_lanes}
 use Rattle.control_sets.specs.OutcomeAnswers.{most_steps}
@@ -41,9 +43,11 @@ use Rattle.plan_reports.specs.declared.json_procedure.Outcome.{Outcome}
 use Rattle.command_line.specs.Faults.{fault_words}
 use Rattle.command_line.specs.FaultTexts.{fault_sentence}
 use Rattle.command_line.specs.declared.remark.opening.Opening.TheVariants.{Other}
-use Rattle.command_line.specs.GivenPlan.{IsGiven}
 use Rattle.command_line.specs.InactivePaths.{first_inactive}
-use Rattle.command_line.specs.PlanningInputs.{Advertises, ArePlanningInputs, IsAdvertRefusal, IsKeptRefusal, IsWeightsRefusal}
+use Rattle.command_line.specs.Inputs.{Inputs}
+use Rattle.command_line.specs.PlanningInputs.{IsPlanning, IsPlanningRefusal}
+use Rattle.command_line.specs.declared.choice.options.Options.{Options}
+use Rattle.command_line.specs.declared.commands.planning_inputs.Planning.{Planning}
 use Rattle.command_line.specs.Runs.{Answer}
 use Rattle.command_line.specs.declared.commands.outcome.ProcedureResults.{ProcedureResults}
 use Rattle.command_line.specs.declared.told_fault.ToldFault.{ToldFault}
@@ -182,45 +186,43 @@ told_output true traced steps outcome refused = json_text (told_tree traced step
 told_output false traced steps outcome refused = told_text traced steps outcome
 
 -- the texts are those of an image, of weights, of kept paths and of a script; their plan, and the module that the image makes
-pub record IsSetUp (conventions : Conventions) (image_text weights_text kept_text script_text : List ℕ) : Type 0 where
+pub record IsSetUp (conventions : Conventions) (inputs : Inputs) : Type 0 where
+  pub planning : Planning
+  pub is_planning : IsPlanning conventions inputs planning
   pub certificate : Claim
-  pub given : IsGiven conventions image_text weights_text kept_text certificate
+  pub certified : IsCertified planning.advert (app_weights planning.advert planning.weights) planning.kept certificate
   pub script : List Directive
-  pub is_script : IsTextOf (lines_of script_text) script
-  pub starts : start_fault given.is_advert.memory delays ≡ None
+  pub is_script : IsTextOf (lines_of inputs.script) script
+  pub starts : start_fault planning.image delays ≡ None
 
 -- the first kept path that the module of the image has not in its Active Control Set
-abbrev pub inactive_of : {conventions : Conventions} {image_text weights_text kept_text script_text : List ℕ} → IsSetUp conventions image_text weights_text kept_text script_text → Option Path
-inactive_of set_up = first_inactive set_up.given.advert set_up.certificate.kept (active_bytes (start set_up.given.is_advert.memory delays))
+abbrev pub inactive_of : {conventions : Conventions} {inputs : Inputs} → IsSetUp conventions inputs → Option Path
+inactive_of set_up = first_inactive set_up.planning.advert set_up.planning.kept (active_bytes (start set_up.planning.image delays))
 
 -- the image makes no module
-pub record IsNoModule (conventions : Conventions) (image_text weights_text kept_text script_text : List ℕ) (refused : SimFault) : Type 0 where
-  pub inputs : ArePlanningInputs conventions image_text weights_text kept_text
+pub record IsNoModule (conventions : Conventions) (inputs : Inputs) (refused : SimFault) : Type 0 where
+  pub planning : Planning
+  pub is_planning : IsPlanning conventions inputs planning
   pub script : List Directive
-  pub is_script : IsTextOf (lines_of script_text) script
-  pub stops : start_fault inputs.is_advert.memory delays ≡ Some refused
+  pub is_script : IsTextOf (lines_of inputs.script) script
+  pub stops : start_fault planning.image delays ≡ Some refused
 
 -- the first of the texts that is none
-abbrev pub IsSetUpRefusal : Conventions → List ℕ → List ℕ → List ℕ → List ℕ → Fault → Type 0
-IsSetUpRefusal conventions image weights kept script fault.Memory = Unit {0}
-IsSetUpRefusal conventions image weights kept script (fault.Module f) = IsNoModule conventions image weights kept script f
-IsSetUpRefusal conventions image weights kept script (fault.Script f) = ArePlanningInputs conventions image weights kept × IsFirstFault (lines_of script) f
-IsSetUpRefusal conventions image weights kept script (fault.Kept f) = IsKeptRefusal conventions image weights kept f
-IsSetUpRefusal conventions image weights kept script (fault.Weights f) = Advertises conventions image × IsWeightsRefusal weights f
-IsSetUpRefusal conventions image weights kept script f = IsAdvertRefusal conventions image f
+abbrev pub IsSetUpRefusal : Conventions → Inputs → Fault → Type 0
+IsSetUpRefusal conventions inputs (fault.Module f) = IsNoModule conventions inputs f
+IsSetUpRefusal conventions inputs (fault.Script f) = ((planning : Planning) × IsPlanning conventions inputs planning) × IsFirstFault (lines_of inputs.script) f
+IsSetUpRefusal conventions inputs f = IsPlanningRefusal conventions inputs f
 
 -- what was done, and what is told of it
-pub record IsCarriedOut (json traced wake activate : Bool) (conventions : Conventions) (image_text weights_text kept_text script_text text : List ℕ) (told_fault : Option ToldFault) : Type 0 where
-  pub set_up : IsSetUp conventions image_text weights_text kept_text script_text
+pub record IsCarriedOut (traced : Bool) (options : Options) (inputs : Inputs) (text : List ℕ) (told_fault : Option ToldFault) : Type 0 where
+  pub set_up : IsSetUp options.conventions inputs
   pub after : ModuleBus
   pub results : ProcedureResults
-  pub done : CarriesOut wake activate set_up.given.advert set_up.certificate.paths set_up.certificate.kept (bus_at_start set_up.given.is_advert.memory set_up.script) after results
-  pub told : text ≡ told_output json traced after.steps (outcome_of results (active_bytes after.state.1)) (outcome_fault results)
+  pub done : CarriesOut options.wake options.activate set_up.planning.advert set_up.certificate.paths set_up.planning.kept (bus_at_start set_up.planning.image set_up.script) after results
+  pub told : text ≡ told_output options.json traced after.steps (outcome_of results (active_bytes after.state.1)) (outcome_fault results)
   pub fault : told_fault ≡ option_map (λ f. Procedure f (inactive_of set_up)) (outcome_fault results)
 
--- the answer to the texts of an image, of weights, of kept paths and of a script, by whether it is JSON, the steps are shown,
--- waking up and activation are asked for and the module pairs first lanes
-abbrev pub IsProcedureAnswer : Bool → Bool → Bool → Bool → Conventions → List ℕ → List ℕ → List ℕ → List ℕ → Answer → Type 0
-IsProcedureAnswer json traced wake activate conventions image weights kept script (Ok (text, told)) =
-    IsCarriedOut json traced wake activate conventions image weights kept script text told
-IsProcedureAnswer json traced wake activate conventions image weights kept script (Err f) = IsSetUpRefusal conventions image weights kept script f
+-- the answer to the texts of an image, of weights, of kept paths and of a script, by whether the steps are shown
+abbrev pub IsProcedureAnswer : Bool → Options → Inputs → Answer → Type 0
+IsProcedureAnswer traced options inputs (Ok (text, told)) = IsCarriedOut traced options inputs text told
+IsProcedureAnswer traced options inputs (Err f) = IsSetUpRefusal options.conventions inputs f

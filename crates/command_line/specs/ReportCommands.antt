@@ -19,7 +19,7 @@ use Rattle.command_line.specs.declared.choice.commands.ReportName.{ReportName}
 use Rattle.command_line.specs.declared.choice.commands.ReportName.TheVariants.{Inventory, Apps, Monitors, Flags, Details}
 use Rattle.command_line.specs.declared.fault.Fault.TheVariants as fault
 use Rattle.command_line.specs.Coloring.{shown_as}
-use Rattle.command_line.specs.declared.choice.coloring.Coloring.{Coloring}
+use Rattle.command_line.specs.declared.choice.options.Options.{Options}
 use Rattle.command_line.specs.OverBus.{IsToReport, IsUnread}
 use Rattle.command_line.specs.Runs.{Answer}
 
@@ -65,6 +65,6 @@ entries_of Flags memory = flags_entries memory
 entries_of Details memory = details_entries memory
 
 -- the answer of a report to the text of an image, with the flags `--bus` and `--json` or without them, in colors or not
-abbrev pub IsReportAnswer : ReportName → Bool → Coloring → Bool → List ℕ → Answer → Type 0
-IsReportAnswer report bus coloring json =
-    IsReported bus (refusal_of report) (λ memory. shown_as coloring json (printed json (entries_of report memory)))
+abbrev pub IsReportAnswer : ReportName → Options → List ℕ → Answer → Type 0
+IsReportAnswer report options =
+    IsReported options.bus (refusal_of report) (λ memory. shown_as options.coloring options.json (printed options.json (entries_of report memory)))

@@ -25,7 +25,7 @@ use Rattle.command_line.specs.FaultTexts.{fault_text}
 use Rattle.command_line.specs.Input.{TakesWithinLimit}
 use Rattle.command_line.specs.Limits.{input_limit, read_limit}
 use Rattle.command_line.specs.Parts.{parts_of}
-use Rattle.command_line.specs.PartsRead.{Texts, text_in}
+use Rattle.command_line.specs.Inputs.{Inputs, inputs_in}
 use Rattle.command_line.specs.declared.choice.part.Part.{Part}
 use Rattle.command_line.specs.StoppingWriter.{contents_of, writing_failed}
 use Rattle.command_line.specs.declared.input.counted_reader.CountedReader.{CountedReader}
@@ -72,13 +72,13 @@ IsOwnAnswer IsAnswer answer = IsAnswer answer
 
 -- the answer of a command that reads these parts: its own to their texts, or that there are other than so many, or that the
 -- input is too long; an allocation or a read may fail on any input
-abbrev pub IsAnswerTo : List Part → (Texts → Answer → Type 0) → List ℕ → Answer → Type 0
+abbrev pub IsAnswerTo : List Part → (Inputs → Answer → Type 0) → List ℕ → Answer → Type 0
 IsAnswerTo parts IsAnswer input (Err Memory) = Unit {0}
 IsAnswerTo parts IsAnswer input (Err Io) = Unit {0}
 IsAnswerTo parts IsAnswer input (Err TooLong) = input_limit < length input
 IsAnswerTo parts IsAnswer input (Err (Parts n)) = (length input ≤ input_limit) × (n ≡ length (parts_of input)) × (n ≢ length parts)
 IsAnswerTo parts IsAnswer input answer =
-    (length input ≤ input_limit) × (length (parts_of input) ≡ length parts) × IsAnswer (text_in parts (parts_of input)) answer
+    (length input ≤ input_limit) × (length (parts_of input) ≡ length parts) × IsAnswer (inputs_in parts (parts_of input)) answer
 
 -- how the run ends if it was to end so: a failed write is said before all else
 abbrev pub ended : Bool → Status → Status

@@ -10,10 +10,12 @@ use Rattle.command_line.specs.Faults.{fault_of_told}
 use Rattle.command_line.specs.declared.fault.Fault.{Fault}
 use Rattle.command_line.specs.declared.fault.Fault.TheVariants.{Memory, Io, Report}
 use Rattle.command_line.specs.Commands.{IsAnswerOf}
+use Rattle.command_line.specs.Inputs.{text_in}
 use Rattle.command_line.specs.Parts.{parts_of}
-use Rattle.command_line.specs.PartsRead.{text_in}
 use Rattle.command_line.specs.Runs.{Answer}
+use Rattle.command_line.specs.declared.choice.commands.CommandName.{CommandName}
 use Rattle.command_line.specs.declared.choice.commands.Request.{Request}
+use Rattle.command_line.specs.declared.choice.options.Options.{Options}
 use Rattle.command_line.specs.declared.choice.part.Part.TheVariants.{Image}
 use Rattle.command_line.specs.declared.told_fault.ToldFault.{ToldFault}
 
@@ -31,6 +33,10 @@ IsGivenUp answer = answer_fault answer ≡ Some (Report GaveUp)
 pub record IsPlainAnswer (request : Bool → Request) (input : List ℕ) (answer : Answer) : Type 0 where
   pub plain : IsAnswerOf (request false) input answer
   pub alone : (other : Answer) → IsAnswerOf (request false) input other → other ≢ Err Memory → other ≢ Err Io → other ≡ answer
+
+-- a command with `--bus` or without it
+abbrev pub over_bus : CommandName → Options → Bool → Request
+over_bus command options bus = record { command = command; options = record options { bus = bus } }
 
 -- so is each answer with `--bus`, but for a reading that came to no end, a refused allocation and failed reads
 abbrev pub IsToldAlike : (Bool → Request) → Type 0

@@ -3,6 +3,7 @@ mod check_command;
 mod command;
 mod draw_command;
 mod inactive;
+mod inputs;
 mod metrics_command;
 mod observables_command;
 mod outcome;
@@ -12,6 +13,5 @@ mod planning_inputs;
 mod provision_command;
 mod report_commands;
 mod session;
-mod texts;
 
 pub use command::run;

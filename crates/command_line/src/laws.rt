@@ -1,16 +1,14 @@
 //! What holds of two runs: one command after the other, and one command with a flag and without it; and of all faults.
-ghost use Rattle.std.specs.Prelude.{◌≡◌, ℕ, ◌≤◌, Bool, true, false, IsTrue, List, [], ◌∷◌, length, None, Ok};
-ghost use Rattle.applications.specs.declared.conventions.Conventions.{Conventions};
-ghost use Rattle.command_line.specs.Commands.{IsAnswerOf, in_form};
+ghost use Rattle.std.specs.Prelude.{◌≡◌, ℕ, ◌≤◌, true, false, IsTrue, List, [], ◌∷◌, length, None, Ok};
+ghost use Rattle.command_line.specs.Commands.{IsAnswerOf};
 ghost use Rattle.command_line.specs.FaultTexts.{has_sentence};
 ghost use Rattle.command_line.specs.Limits.{input_limit};
 ghost use Rattle.command_line.specs.Parts.{parts_of};
-ghost use Rattle.command_line.specs.PlanThenCheck.{input_with, IsEnded, IsGoodBehind, IsGoodBehindInput, IsGoodInPlace};
-ghost use Rattle.command_line.specs.SameOverBus.{AreToldBefore, IsToldAlike};
-ghost use Rattle.module_metrics.specs.Exposition.{Label};
-ghost use Rattle.command_line.specs.declared.choice.coloring.Coloring.{Coloring};
-ghost use Rattle.command_line.specs.declared.choice.commands.Choice.TheVariants.{Metrics, Plan, Report};
+ghost use Rattle.command_line.specs.PlanThenCheck.{input_with, plan_request, IsEnded, IsGoodBehind, IsGoodBehindInput, IsGoodInPlace};
+ghost use Rattle.command_line.specs.SameOverBus.{AreToldBefore, IsToldAlike, over_bus};
+ghost use Rattle.command_line.specs.declared.choice.commands.CommandName.TheVariants.{Metrics, Report};
 ghost use Rattle.command_line.specs.declared.choice.commands.ReportName.{ReportName};
+ghost use Rattle.command_line.specs.declared.choice.options.Options.{Options};
 ghost use Rattle.command_line.specs.declared.fault.Fault.{Fault};
 ghost use Rattle.command_line.specs.declared.remark.opening.Opening.{Opening};
 
@@ -20,21 +18,21 @@ ghost use Rattle.command_line.specs.declared.remark.opening.Opening.{Opening};
 /// `--counts-by-id` and `--now`.
 /// With `--first` it says that the plan is the first of the best, and with `--json` it says the same as JSON.
 pub fn what_is_planned_is_good()
-    ensures nothing_kept { (conventions : Conventions) (input text : List ℕ) → IsEnded input → IsAnswerOf (in_form false (Plan false conventions)) input (Ok (text, None))
-        → length (input_with input text) ≤ input_limit → IsGoodBehindInput conventions input text }
-    ensures kept { (conventions : Conventions) (image weights kept text input : List ℕ) → parts_of input ≡ image ∷ weights ∷ kept ∷ []
-        → IsAnswerOf (in_form false (Plan true conventions)) input (Ok (text, None)) → IsGoodBehind conventions image weights kept text }
-    ensures in_place { (conventions : Conventions) (input kept text : List ℕ) → IsEnded input → length (parts_of input) ≡ 2
-        → IsAnswerOf (in_form false (Plan true conventions)) (input_with input kept) (Ok (text, None))
-        → length (input_with input text) ≤ input_limit → IsGoodInPlace conventions input kept text }
+    ensures nothing_kept { (options : Options) (input text : List ℕ) → IsEnded input → IsAnswerOf (plan_request false options) input (Ok (text, None))
+        → length (input_with input text) ≤ input_limit → IsGoodBehindInput options.conventions input text }
+    ensures kept { (options : Options) (image weights kept text input : List ℕ) → parts_of input ≡ image ∷ weights ∷ kept ∷ []
+        → IsAnswerOf (plan_request true options) input (Ok (text, None)) → IsGoodBehind options.conventions image weights kept text }
+    ensures in_place { (options : Options) (input kept text : List ℕ) → IsEnded input → length (parts_of input) ≡ 2
+        → IsAnswerOf (plan_request true options) (input_with input kept) (Ok (text, None))
+        → length (input_with input text) ≤ input_limit → IsGoodInPlace options.conventions input kept text }
 {}
 
 /// What a report prints with `--bus`, and how it ends, is what it prints without and how it ends then, with `--json` and without
 /// it, in colors or not, unless the module was not read whole, or an allocation or a read was refused. So it is with metrics, whatever labels they
 /// have, and whether all flags are told or those that are raised; but without the flag, those of what the module lists itself (VDM) follow.
 pub fn a_bus_changes_no_report()
-    ensures reports { (report : ReportName) (coloring : Coloring) (json : Bool) → IsToldAlike (λ bus. in_form json (Report report bus coloring)) }
-    ensures metrics { (labels : List Label) (all json : Bool) → AreToldBefore labels (λ bus. in_form json (Metrics bus all labels)) }
+    ensures reports { (report : ReportName) (options : Options) → IsToldAlike (over_bus (Report report) options) }
+    ensures metrics { (options : Options) → AreToldBefore options.labels (over_bus Metrics options) }
 {}
 
 /// Each fault has a sentence, however the input begins.

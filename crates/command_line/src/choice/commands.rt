@@ -1,12 +1,10 @@
 //! The commands of the program and their flags, one line each.
 ghost use Rattle.std.specs.Prelude.{◌≡◌, map, option_copied, option_map};
 ghost use Rattle.command_line.specs.Choice.{commands, entry_named};
-ghost use Rattle.command_line.specs.Coloring.{choice_on_screen, request_on_screen};
+ghost use Rattle.command_line.specs.Coloring.{request_on_screen};
 ghost use Rattle.command_line.specs.Entries.{entry_of};
 
-use super::coloring::Coloring;
-use applications::Conventions;
-use module_metrics::Labels;
+use super::options::Options;
 
 /// A report of a module.
 #[derive(Clone, Copy)]
@@ -31,107 +29,20 @@ pub enum CommandName {
     Trace,
 }
 
-/// A command, with the flags that are its own.
-#[derive(Drop)]
-pub enum Choice {
-    Report {
-        report: ReportName,
-        /// Whether the module is to be read over a bus.
-        bus: bool,
-        coloring: Coloring,
-    },
-    Observables {
-        /// As for `Report`.
-        bus: bool,
-        coloring: Coloring,
-    },
-    Metrics {
-        /// As for `Report`.
-        bus: bool,
-        /// Whether each flag is to be told, raised or not.
-        all: bool,
-        /// What is added to all samples.
-        labels: Labels,
-    },
-    Plan {
-        /// Whether the plan is to keep data paths that the input names.
-        keep: bool,
-        /// How what the module advertises is to be read.
-        conventions: Conventions,
-    },
-    Draw {
-        /// Whether the drawing is to be an SVG.
-        svg: bool,
-        /// Both as for `Plan`.
-        keep: bool,
-        conventions: Conventions,
-    },
-    Check {
-        /// Whether the plan of the certificate is to be compared with the one that `plan` gives.
-        first: bool,
-        /// As for `Plan`.
-        conventions: Conventions,
-    },
-    Provision {
-        /// Whether the module is to be woken up before.
-        wake: bool,
-        /// Whether the plan is to be activated too.
-        activate: bool,
-        /// Both as for `Plan`.
-        keep: bool,
-        conventions: Conventions,
-    },
-    /// The same, with each transaction.
-    Trace {
-        wake: bool,
-        activate: bool,
-        keep: bool,
-        conventions: Conventions,
-    },
-}
-
-/// What the command line asks for: a command, and the form of its answer.
+/// What the command line asks for.
 #[derive(Drop)]
 pub struct Request {
-    pub choice: Choice,
-    /// Whether the answer is to be JSON.
-    pub json: bool,
-}
-
-impl Choice {
-    /// The same, now that it is known whether the program writes to a terminal that shows colors.
-    #[tactic(auto, using(crate::proofs::OnScreen::other_on_screen))]
-    fn on_screen(self, shows_colors: bool) -> Choice
-        ensures { result ≡ choice_on_screen shows_colors self }
-    {
-        match self {
-            Choice::Report {
-                report,
-                bus,
-                coloring,
-            } => Choice::Report {
-                report,
-                bus,
-                coloring: coloring.on_screen(shows_colors),
-            },
-            Choice::Observables { bus, coloring } => Choice::Observables {
-                bus,
-                coloring: coloring.on_screen(shows_colors),
-            },
-            other => other,
-        }
-    }
+    pub command: CommandName,
+    pub options: Options,
 }
 
 impl Request {
-    /// As for `Choice`.
-    pub fn on_screen(self, shows_colors: bool) -> Request
+    /// The same, now that it is known whether the program writes to a terminal that shows colors.
+    pub fn on_screen(mut self, shows_colors: bool) -> Request
         ensures { result ≡ request_on_screen shows_colors self }
     {
-        Request {
-            choice: self.choice.on_screen(shows_colors),
-            json: self.json,
-        }
+        self.options.coloring = self.options.coloring.on_screen(shows_colors);
+        self
     }
 }
 

@@ -1,8 +1,8 @@
 //! What commands read: the parts of an input, by what each is the text of.
 ghost use Rattle.std.specs.Prelude.{◌≡◌};
-ghost use Rattle.command_line.specs.PartsRead.{parts_read};
+ghost use Rattle.command_line.specs.Inputs.{parts_read};
 
-use super::commands::Choice;
+use super::commands::CommandName;
 
 /// What a part of the input is the text of.
 #[derive(Clone, Copy, Debug, PartialEq, Eq)]
@@ -16,27 +16,29 @@ pub enum Part {
     Script,
 }
 
-impl Choice {
-    /// The parts that the input has, in their order.
-    pub fn parts(&self) -> &'static [Part]
-        ensures { result.now ≡ parts_read self.now }
+impl CommandName {
+    /// The parts that the input has, in their order; kept paths are among them only if the plan is to keep some.
+    pub fn parts(self, keep: bool) -> &'static [Part]
+        ensures { result.now ≡ parts_read self keep }
     {
         match self {
-            Choice::Report { .. } | Choice::Observables { .. } | Choice::Metrics { .. } => {
+            CommandName::Report(_) | CommandName::Observables | CommandName::Metrics => {
                 &[Part::Image]
             }
-            Choice::Plan { keep: false, .. } | Choice::Draw { keep: false, .. } => {
-                &[Part::Image, Part::Weights]
+            CommandName::Check => &[Part::Image, Part::Weights, Part::Certificate],
+            CommandName::Plan | CommandName::Draw => {
+                if keep {
+                    &[Part::Image, Part::Weights, Part::Kept]
+                } else {
+                    &[Part::Image, Part::Weights]
+                }
             }
-            Choice::Plan { keep: true, .. } | Choice::Draw { keep: true, .. } => {
-                &[Part::Image, Part::Weights, Part::Kept]
-            }
-            Choice::Check { .. } => &[Part::Image, Part::Weights, Part::Certificate],
-            Choice::Provision { keep: false, .. } | Choice::Trace { keep: false, .. } => {
-                &[Part::Image, Part::Weights, Part::Script]
-            }
-            Choice::Provision { keep: true, .. } | Choice::Trace { keep: true, .. } => {
-                &[Part::Image, Part::Weights, Part::Kept, Part::Script]
+            CommandName::Provision | CommandName::Trace => {
+                if keep {
+                    &[Part::Image, Part::Weights, Part::Kept, Part::Script]
+                } else {
+                    &[Part::Image, Part::Weights, Part::Script]
+                }
             }
         }
     }

@@ -1,17 +1,19 @@
-ghost use Rattle.std.specs.Prelude.{◌≡◌, ◌≢◌, ◌++◌, ◌∷◌, [], ℕ, List, IfErr, IfOk, Ok, OnOk};
+ghost use Rattle.std.specs.Prelude.{◌≡◌, ◌≢◌, ◌++◌, IfErr, IfOk, Ok, OnOk};
 ghost use Rattle.applications.specs.WeightFaults.{IsAnswer};
-ghost use Rattle.applications.specs.declared.conventions.Conventions.{Conventions};
 ghost use Rattle.text_lines.specs.Lines.{text_of};
 ghost use Rattle.plan_certificate.specs.Certificates.{IsGood};
 ghost use Rattle.command_line.specs.CheckCommand.{IsCheckAnswer, SaysFirst, TellsGood, first_lines, good_lines, kept_lines};
+ghost use Rattle.command_line.specs.Inputs.{inputs_of};
 ghost use Rattle.command_line.specs.PlanningInputs.{IsAdvertText};
 ghost use Rattle.command_line.specs.Runs.{IsOwnAnswer, answer_of};
 
+use super::inputs::Inputs;
 use super::planning_inputs::read_advert;
+use crate::choice::options::Options;
 use crate::command_output::CommandOutput;
 use crate::fault::Fault;
 use crate::remark::Warnings;
-use applications::{Advert, AppWeights, Conventions, Weights};
+use applications::{Advert, AppWeights, Weights};
 use lane_planner::{Problem, first_best};
 use plan_certificate::{Certificate, STATES, Verdict};
 use plan_reports::{good_json, plan_text};
@@ -19,21 +21,13 @@ use std::alloc::{AllocError, Global};
 use text_lines::ToWords;
 
 /// Whether the certificate is good, and if it is, its plan, and whether that is the first of the best, if that is asked for.
-pub fn check(
-    alloc: Global,
-    is_json: bool,
-    tells_first: bool,
-    conventions: Conventions,
-    image: &[u8],
-    weights: &[u8],
-    certificate: &[u8],
-) -> Result<CommandOutput, Fault>
-    ensures answer { IsOwnAnswer (IsCheckAnswer is_json tells_first conventions image.now weights.now certificate.now) (answer_of result) }
+pub fn check(alloc: Global, options: &Options, inputs: &Inputs<'_>) -> Result<CommandOutput, Fault>
+    ensures answer { IsOwnAnswer (IsCheckAnswer options.now (inputs_of inputs.now)) (answer_of result) }
     ensures read { IfErr result (λ fault. fault ≢ Fault.Io) }
 {
-    let advert = read_advert(conventions, image)?;
-    let weights = Weights::read(alloc, weights)?;
-    judged(alloc, is_json, tells_first, &advert, &weights, certificate)
+    let advert = read_advert(options.conventions, inputs.image)?;
+    let weights = Weights::read(alloc, inputs.weights)?;
+    judged(alloc, options, &advert, &weights, inputs)
 }
 
 // What is told of the certificate. A function of its own, since a certificate has room for all states, which is blanked
@@ -41,22 +35,22 @@ pub fn check(
 #[inline(never)]
 fn judged(
     alloc: Global,
-    is_json: bool,
-    tells_first: bool,
+    options: &Options,
     advert: &Advert,
     weights: &Weights,
-    text: &[u8],
+    inputs: &Inputs<'_>,
 ) -> Result<CommandOutput, Fault>
-    ensures answer { (conventions : Conventions) (image listed : List ℕ) → IsAdvertText conventions image advert.now → IsAnswer listed (Ok weights.now)
-        → IsOwnAnswer (IsCheckAnswer is_json tells_first conventions image listed text.now) (answer_of result) }
+    requires advert { IsAdvertText options.now.conventions inputs.now.image.now advert.now }
+    requires weights { IsAnswer inputs.now.weights.now (Ok weights.now) }
+    ensures answer { IsOwnAnswer (IsCheckAnswer options.now (inputs_of inputs.now)) (answer_of result) }
     ensures read { IfErr result (λ fault. fault ≢ Fault.Io) }
 {
     let weighed = AppWeights::of(advert, weights);
     let mut read = Certificate::<STATES>::blank();
-    match read.take(text) {
+    match read.take(inputs.certificate) {
         Ok(()) => match plan_certificate::check(advert, &weighed, &read) {
             Verdict::Good => Ok(CommandOutput {
-                text: good_output(alloc, is_json, tells_first, advert, &weighed, &read)?,
+                text: good_output(alloc, options.json, options.first, advert, &weighed, &read)?,
                 fault: None,
                 warnings: Warnings::of(advert, weights, !read.plan.paths.is_empty()),
             }),

@@ -1,23 +1,22 @@
 // What all commands do: read the input, cut it into parts, answer them, and write the answer.
-ghost use Rattle.std.specs.Prelude.{◌≡◌, ◌≢◌, ◌≤◌, length, map, Err, IfErr, IfSome};
-ghost use Rattle.command_line.specs.Commands.{IsAnswerOf, IsAnswerToTexts};
+ghost use Rattle.std.specs.Prelude.{◌≡◌, ◌≢◌, ◌≤◌, length, Err, IfErr, IfSome};
+ghost use Rattle.command_line.specs.Commands.{IsAnswerOf, IsAnswerToInputs};
 ghost use Rattle.command_line.specs.CountedReader.{reading_failed, reads_of, remaining_of};
 ghost use Rattle.command_line.specs.Input.{TakesWithinLimit};
 ghost use Rattle.command_line.specs.Limits.{input_limit, read_limit};
-ghost use Rattle.command_line.specs.PartsRead.{text_in};
+ghost use Rattle.command_line.specs.Inputs.{inputs_of};
 ghost use Rattle.command_line.specs.Runs.{IsCommandRun, IsOwnAnswer, SaysReading, answer_of, clue_beside, output_of};
 ghost use Rattle.command_line.specs.FaultForms.{output_in};
 
 use super::check_command::check;
 use super::draw_command::draw;
+use super::inputs::Inputs;
 use super::metrics_command::print_metrics;
 use super::observables_command::print_observables;
 use super::plan_command::plan;
 use super::provision_command::provision;
 use super::report_commands::report;
-use super::texts::Texts;
-use crate::choice::commands::{Choice, Request};
-use crate::choice::part::Part;
+use crate::choice::commands::{CommandName, Request};
 use crate::command_output::CommandOutput;
 use crate::ending::Ending;
 use crate::fault::Fault;
@@ -35,7 +34,7 @@ pub fn run<R: Read, W: Write>(
     reader: &mut CountedReader<R>,
     writer: &mut StoppingWriter<W>,
 ) -> Ending
-    ensures { IsCommandRun R.remaining W.contents request.json (IsAnswerOf request)
+    ensures { IsCommandRun R.remaining W.contents request.options.json (IsAnswerOf request)
         reader.old reader.new writer.old writer.new result }
 {
     let Reply { answer, clue, form } = read_and_answer(alloc, &request, reader);
@@ -68,7 +67,7 @@ fn read_and_answer<R: Read>(
     ensures clue { IfSome (remaining_of R.remaining reader.old)
         (λ input. result.clue ≡ clue_beside (answer_of result.answer) input) }
     ensures output { output_in result.form (answer_of result.answer)
-        ≡ output_of request.now.json result.clue.opening (answer_of result.answer) }
+        ≡ output_of request.now.options.json result.clue.opening (answer_of result.answer) }
 {
     let input = match read_input(alloc, reader) {
         Ok(input) => input,
@@ -76,7 +75,7 @@ fn read_and_answer<R: Read>(
             return Reply {
                 answer: Err(fault),
                 clue: Clue::none(),
-                form: FaultForm::of_reading(request.json),
+                form: FaultForm::of_reading(request.options.json),
             };
         }
     };
@@ -92,16 +91,16 @@ fn answered(alloc: Global, request: &Request, input: &[u8]) -> Reply
     ensures length { IfErr result.answer (λ fault. fault ≢ Fault.TooLong) }
     ensures clue { result.clue ≡ clue_beside (answer_of result.answer) input.now }
     ensures output { output_in result.form (answer_of result.answer)
-        ≡ output_of request.now.json result.clue.opening (answer_of result.answer) }
+        ≡ output_of request.now.options.json result.clue.opening (answer_of result.answer) }
 {
     let answer = answer(alloc, request, input);
     let clue = Clue::of(&answer, input);
-    match FaultForm::of(alloc, request.json, &answer, clue) {
+    match FaultForm::of(alloc, request.options.json, &answer, clue) {
         Ok(form) => Reply { answer, clue, form },
         Err(error) => Reply {
             answer: Err(Fault::from(error)),
             clue: Clue::none(),
-            form: FaultForm::of_reading(request.json),
+            form: FaultForm::of_reading(request.options.json),
         },
     }
 }
@@ -112,68 +111,26 @@ fn answer(alloc: Global, request: &Request, input: &[u8]) -> Result<CommandOutpu
     ensures read { IfErr result (λ fault. fault ≢ Fault.Io) }
     ensures length { IfErr result (λ fault. fault ≢ Fault.TooLong) }
 {
-    let read = request.choice.parts();
+    let read = request.command.parts(request.options.keep);
     let texts = parts(input, read.len())?;
-    let texts = Texts {
-        parts: read,
-        texts: texts.as_slice(),
-    };
-    answer_to(alloc, request, &texts)
+    let inputs = Inputs::of(read, texts.as_slice());
+    answer_to(alloc, request, &inputs)
 }
 
-// What the command itself answers to the texts of its parts.
-fn answer_to(alloc: Global, request: &Request, texts: &Texts<'_>) -> Result<CommandOutput, Fault>
-    ensures answer { IsOwnAnswer (IsAnswerToTexts request.now.choice request.now.json
-        (text_in texts.now.parts.now (map (λ text. text.now) texts.now.texts.now))) (answer_of result) }
+// What the command itself answers to its inputs.
+fn answer_to(alloc: Global, request: &Request, inputs: &Inputs<'_>) -> Result<CommandOutput, Fault>
+    ensures answer { IsOwnAnswer (IsAnswerToInputs request.now.command request.now.options (inputs_of inputs.now)) (answer_of result) }
     ensures read { IfErr result (λ fault. fault ≢ Fault.Io) }
 {
-    let image = texts.of(Part::Image);
-    let weights = texts.of(Part::Weights);
-    let kept = texts.of(Part::Kept);
-    let script = texts.of(Part::Script);
-    let json = request.json;
-    match &request.choice {
-        Choice::Report {
-            report: name,
-            bus,
-            coloring,
-        } => report(alloc, *name, *bus, *coloring, json, image),
-        Choice::Observables { bus, coloring } => {
-            print_observables(alloc, *bus, *coloring, json, image)
-        }
-        Choice::Metrics { bus, all, labels } => print_metrics(alloc, *bus, *all, labels, image),
-        Choice::Plan { conventions, .. } => plan(alloc, json, *conventions, image, weights, kept),
-        Choice::Draw {
-            svg,
-            conventions,
-            ..
-        } => draw(alloc, *svg, *conventions, image, weights, kept),
-        Choice::Check { first, conventions } => {
-            check(
-                alloc,
-                json,
-                *first,
-                *conventions,
-                image,
-                weights,
-                texts.of(Part::Certificate),
-            )
-        }
-        Choice::Provision {
-            wake,
-            activate,
-            conventions: how,
-            ..
-        } => provision(
-            alloc, json, false, *wake, *activate, *how, image, weights, kept, script,
-        ),
-        Choice::Trace {
-            wake,
-            activate,
-            conventions: how,
-            ..
-        } => provision(
-            alloc, json, true, *wake, *activate, *how, image, weights, kept, script,
-        ),
+    let options = &request.options;
+    match request.command {
+        CommandName::Report(name) => report(alloc, name, options, inputs.image),
+        CommandName::Observables => print_observables(alloc, options, inputs.image),
+        CommandName::Metrics => print_metrics(alloc, options, inputs.image),
+        CommandName::Plan => plan(alloc, options, inputs),
+        CommandName::Draw => draw(alloc, options, inputs),
+        CommandName::Check => check(alloc, options, inputs),
+        CommandName::Provision => provision(alloc, false, options, inputs),
+        CommandName::Trace => provision(alloc, true, options, inputs),
     }
 }

@@ -1,8 +1,9 @@
-ghost use Rattle.std.specs.Prelude.{◌≡◌, ◌≢◌, IfErr, IfOk, option_map};
+ghost use Rattle.std.specs.Prelude.{◌≡◌, ◌≢◌, not, IfErr, IfOk, option_map};
 ghost use Rattle.command_line.specs.MetricsCommand.{AreMetricsOf, IsFaultAlone, IsMetricsAnswer};
 ghost use Rattle.command_line.specs.Runs.{IsOwnAnswer, answer_of};
 
 use super::over_bus::image_to_report;
+use crate::choice::options::Options;
 use crate::command_output::CommandOutput;
 use crate::fault::Fault;
 use crate::remark::Warnings;
@@ -14,35 +15,26 @@ use std::alloc::Global;
 
 /// What the reports of the module of an image say and what it lists itself (VDM), or what the reports of what is read of it over a bus say, as
 /// metrics with these labels. Of its flags those that are raised are told, or all.
-pub fn print_metrics(
-    alloc: Global,
-    is_over_bus: bool,
-    all: bool,
-    labels: &Labels,
-    image: &[u8],
-) -> Result<CommandOutput, Fault>
-    ensures answer { IsOwnAnswer (IsMetricsAnswer is_over_bus all labels.now image.now) (answer_of result) }
+pub fn print_metrics(alloc: Global, options: &Options, image: &[u8]) -> Result<CommandOutput, Fault>
+    ensures answer { IsOwnAnswer (IsMetricsAnswer options.now image.now) (answer_of result) }
     ensures read { IfErr result (λ fault. fault ≢ Fault.Io) }
 {
-    match image_to_report(alloc, image, is_over_bus) {
-        Ok(image) => of_image(alloc, all, !is_over_bus, labels, &image),
-        Err(Fault::Report(fault)) => of_fault(alloc, labels, fault),
+    match image_to_report(alloc, image, options.bus) {
+        Ok(image) => of_image(alloc, options, &image),
+        Err(Fault::Report(fault)) => of_fault(alloc, &options.labels, fault),
         Err(fault) => Err(fault),
     }
 }
 
-// Those of an image, of whose reports one may have a fault.
-fn of_image(
-    alloc: Global,
-    all: bool,
-    with_vdm: bool,
-    labels: &Labels,
-    image: &Image,
-) -> Result<CommandOutput, Fault>
-    ensures told { IfOk result (λ output. AreMetricsOf all with_vdm labels.now image.now output.text.items output.fault) }
+// Those of an image, of whose reports one may have a fault; over a bus without VDM.
+fn of_image(alloc: Global, options: &Options, image: &Image) -> Result<CommandOutput, Fault>
+    ensures told { IfOk result (λ output. AreMetricsOf options.now.all_flags (not options.now.bus) options.now.labels
+        image.now output.text.items output.fault) }
     ensures memory { IfErr result (λ fault. fault ≡ Fault.Memory) }
 {
-    let Answer { text, fault } = metrics(alloc, image, labels, all, with_vdm)?;
+    let all = options.all_flags;
+    let with_vdm = !options.bus;
+    let Answer { text, fault } = metrics(alloc, image, &options.labels, all, with_vdm)?;
     Ok(CommandOutput {
         text,
         fault: told(fault),

@@ -7,6 +7,7 @@ ghost use Rattle.command_line.specs.Runs.{IsOwnAnswer, answer_of};
 
 use super::over_bus::image_to_report;
 use crate::choice::coloring::Coloring;
+use crate::choice::options::Options;
 use crate::command_output::CommandOutput;
 use crate::fault::Fault;
 use crate::remark::Warnings;
@@ -18,17 +19,15 @@ use std::alloc::Global;
 /// All that the module of the image measures, or as much of it as is read over a bus, as text or as JSON.
 pub fn print_observables(
     alloc: Global,
-    is_over_bus: bool,
-    coloring: Coloring,
-    is_json: bool,
+    options: &Options,
     image: &[u8],
 ) -> Result<CommandOutput, Fault>
-    ensures answer { IsOwnAnswer (IsObservablesAnswer is_over_bus coloring is_json image.now) (answer_of result) }
+    ensures answer { IsOwnAnswer (IsObservablesAnswer options.now image.now) (answer_of result) }
     ensures read { IfErr result (λ fault. fault ≢ Fault.Io) }
 {
-    let image = image_to_report(alloc, image, is_over_bus)?;
+    let image = image_to_report(alloc, image, options.bus)?;
     Ok(CommandOutput {
-        text: shown(alloc, coloring, is_json, &image)?,
+        text: shown(alloc, options.coloring, options.json, &image)?,
         fault: None,
         warnings: Warnings::none(),
     })

@@ -1,40 +1,34 @@
 ghost use Rattle.std.specs.Prelude.{◌≢◌, IfErr, IfOk};
 ghost use Rattle.plan_certificate.specs.Plans.{IsAdmissible};
+ghost use Rattle.command_line.specs.Inputs.{inputs_of};
 ghost use Rattle.command_line.specs.PlanCommand.{IsPlanAnswer, TellsPlan};
 ghost use Rattle.command_line.specs.Runs.{IsOwnAnswer, answer_of};
 
-use super::planning_inputs::{read_advert, read_kept};
+use super::inputs::Inputs;
+use super::planning_inputs::Planning;
+use crate::choice::options::Options;
 use crate::command_output::CommandOutput;
 use crate::fault::Fault;
 use crate::remark::Warnings;
-use applications::{AppWeights, Conventions, Weights};
+use applications::AppWeights;
 use lane_planner::{Problem, Solution};
 use plan_reports::plan_json;
 use std::alloc::{AllocError, Global};
 
 /// The plan that weighs most of those that keep the kept paths: its certificate, or, as JSON, the plan alone.
-pub fn plan(
-    alloc: Global,
-    is_json: bool,
-    conventions: Conventions,
-    image: &[u8],
-    weights: &[u8],
-    kept: &[u8],
-) -> Result<CommandOutput, Fault>
-    ensures answer { IsOwnAnswer (IsPlanAnswer is_json conventions image.now weights.now kept.now) (answer_of result) }
+pub fn plan(alloc: Global, options: &Options, inputs: &Inputs<'_>) -> Result<CommandOutput, Fault>
+    ensures answer { IsOwnAnswer (IsPlanAnswer options.now (inputs_of inputs.now)) (answer_of result) }
     ensures read { IfErr result (λ fault. fault ≢ Fault.Io) }
 {
-    let advert = read_advert(conventions, image)?;
-    let weights = Weights::read(alloc, weights)?;
-    let kept = read_kept(&advert, kept)?;
-    let weighed = AppWeights::of(&advert, &weights);
+    let planning = Planning::read(alloc, options.conventions, inputs)?;
+    let weighed = AppWeights::of(&planning.advert, &planning.weights);
     let problem = Problem {
-        advert: &advert,
+        advert: &planning.advert,
         weights: &weighed,
-        kept: &kept,
+        kept: &planning.kept,
     };
-    let (text, has_paths) = planned(alloc, is_json, &problem)?;
-    let warnings = Warnings::of(&advert, &weights, has_paths);
+    let (text, has_paths) = planned(alloc, options.json, &problem)?;
+    let warnings = Warnings::of(&planning.advert, &planning.weights, has_paths);
     Ok(CommandOutput {
         text,
         fault: None,

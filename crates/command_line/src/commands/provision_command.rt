@@ -1,16 +1,18 @@
 ghost use Rattle.std.specs.Prelude.{◌≡◌, ◌≢◌, IfErr, IfOk, option_map};
 ghost use Rattle.text_lines.specs.Lines.{text_of};
+ghost use Rattle.command_line.specs.Inputs.{inputs_of};
 ghost use Rattle.command_line.specs.ProvisionCommand.{IsProcedureAnswer, steps_lines, told_output, told_text, told_tree};
 ghost use Rattle.report_entries.specs.EntryJson.{json_text};
 ghost use Rattle.command_line.specs.Runs.{IsOwnAnswer, answer_of};
 
+use super::inputs::Inputs;
 use super::outcome::{outcome_fault, outcome_of, push_outcome};
 use super::session::{Session, carry_out, set_up};
+use crate::choice::options::Options;
 use crate::command_output::CommandOutput;
 use crate::fault::Fault;
 use crate::remark::Explained;
 use crate::told_fault::ToldFault;
-use applications::Conventions;
 use bus_model::Step;
 use control_sets::ProvisionFault;
 use plan_certificate::Path;
@@ -22,18 +24,11 @@ use text_lines::ToWords;
 /// steps were made and the control bytes that are active, or the fault, after each step, if these are shown.
 pub fn provision(
     alloc: Global,
-    is_json: bool,
     is_traced: bool,
-    is_woken: bool,
-    is_activated: bool,
-    conventions: Conventions,
-    image: &[u8],
-    weights: &[u8],
-    kept: &[u8],
-    script: &[u8],
+    options: &Options,
+    inputs: &Inputs<'_>,
 ) -> Result<CommandOutput, Fault>
-    ensures answer { IsOwnAnswer (IsProcedureAnswer is_json is_traced is_woken is_activated conventions image.now weights.now kept.now script.now)
-        (answer_of result) }
+    ensures answer { IsOwnAnswer (IsProcedureAnswer is_traced options.now (inputs_of inputs.now)) (answer_of result) }
     ensures read { IfErr result (λ fault. fault ≢ Fault.Io) }
 {
     let Session {
@@ -43,12 +38,19 @@ pub fn provision(
         inactive,
         warnings,
         mut bus,
-    } = set_up(alloc, conventions, image, weights, kept, script)?;
-    let results = carry_out(&mut bus, &advert, &plan, &kept, is_woken, is_activated);
+    } = set_up(alloc, options.conventions, inputs)?;
+    let results = carry_out(
+        &mut bus,
+        &advert,
+        &plan,
+        &kept,
+        options.wake,
+        options.activate,
+    );
     let outcome = outcome_of(results, bus.device().active());
     let fault = outcome_fault(results);
     Ok(CommandOutput {
-        text: output(alloc, is_json, is_traced, bus.steps(), outcome, fault)?,
+        text: output(alloc, options.json, is_traced, bus.steps(), outcome, fault)?,
         fault: told(fault, inactive),
         warnings,
     })

@@ -8,6 +8,7 @@ ghost use Rattle.command_line.specs.Runs.{IsOwnAnswer, answer_of};
 use super::over_bus::image_to_report;
 use crate::choice::coloring::Coloring;
 use crate::choice::commands::ReportName;
+use crate::choice::options::Options;
 use crate::command_output::CommandOutput;
 use crate::fault::Fault;
 use crate::remark::Warnings;
@@ -19,17 +20,15 @@ use std::alloc::Global;
 pub fn report(
     alloc: Global,
     name: ReportName,
-    is_over_bus: bool,
-    coloring: Coloring,
-    is_json: bool,
+    options: &Options,
     image: &[u8],
 ) -> Result<CommandOutput, Fault>
-    ensures answer { IsOwnAnswer (IsReportAnswer name is_over_bus coloring is_json image.now) (answer_of result) }
+    ensures answer { IsOwnAnswer (IsReportAnswer name options.now image.now) (answer_of result) }
     ensures read { IfErr result (λ fault. fault ≢ Fault.Io) }
 {
-    let image = image_to_report(alloc, image, is_over_bus)?;
+    let image = image_to_report(alloc, image, options.bus)?;
     Ok(CommandOutput {
-        text: shown(alloc, name, coloring, is_json, &image)?,
+        text: shown(alloc, name, options.coloring, options.json, &image)?,
         fault: None,
         warnings: Warnings::none(),
     })

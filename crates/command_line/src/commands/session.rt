@@ -5,15 +5,17 @@ ghost use Rattle.plan_certificate.specs.Plans.{IsAdmissible, Keeps};
 ghost use Rattle.control_sets.specs.Answers.{activated_steps, provisioned_steps};
 ghost use Rattle.sim_module.specs.ActiveSets.{HasNoApply};
 ghost use Rattle.sim_module.specs.Soundness.{IsSound};
+ghost use Rattle.command_line.specs.Inputs.{inputs_of};
 ghost use Rattle.command_line.specs.ProvisionCommand.{Activates, CarriesOut, IsSetUpRefusal, MakesIf, Provisions, Wakes, delays, fault_of, steps_of};
 ghost use Rattle.command_line.specs.Sessions.{IsSessionOf};
 
 use super::inactive::first_inactive;
+use super::inputs::Inputs;
 use super::outcome::{ProcedureResults, fault_of, steps_of};
-use super::planning_inputs::{read_kept, read_module};
+use super::planning_inputs::Planning;
 use crate::fault::Fault;
 use crate::remark::Warnings;
-use applications::{Advert, AppWeights, Conventions, Weights};
+use applications::{Advert, AppWeights, Conventions};
 use bus_model::{Script, ScriptBus};
 use control_sets::{
     Activated, MAX_STEPS, Power, ProvisionFault, Provisioned, activate, change_power,
@@ -56,33 +58,27 @@ fn delays() -> Delays
     }
 }
 
-/// The session of the texts of an image, of weights, of kept paths and of a script.
+/// The session of these inputs.
 pub fn set_up(
     alloc: Global,
     conventions: Conventions,
-    image: &[u8],
-    weights: &[u8],
-    kept: &[u8],
-    script: &[u8],
+    inputs: &Inputs<'_>,
 ) -> Result<Session, Fault>
-    ensures answer { MatchResult result (IsSessionOf conventions image.now weights.now kept.now script.now)
-        (IsSetUpRefusal conventions image.now weights.now kept.now script.now) }
+    ensures answer { MatchResult result (IsSessionOf conventions (inputs_of inputs.now)) (IsSetUpRefusal conventions (inputs_of inputs.now)) }
     ensures read { IfErr result (λ fault. fault ≢ Fault.Io) }
 {
-    let (image, advert) = read_module(conventions, image)?;
-    let weights = Weights::read(alloc, weights)?;
-    let kept = read_kept(&advert, kept)?;
-    let script = Script::read(script)?;
-    let module = SimModule::new(&image, delays())?;
-    let inactive = first_inactive(&advert, &kept, &module.active());
-    let weighed = AppWeights::of(&advert, &weights);
-    let plan = first_plan(&advert, &weighed, &kept);
-    let warnings = Warnings::of(&advert, &weights, !plan.paths.is_empty());
+    let planning = Planning::read(alloc, conventions, inputs)?;
+    let script = Script::read(inputs.script)?;
+    let module = SimModule::new(&planning.image, delays())?;
+    let inactive = first_inactive(&planning.advert, &planning.kept, &module.active());
+    let weighed = AppWeights::of(&planning.advert, &planning.weights);
+    let plan = first_plan(&planning.advert, &weighed, &planning.kept);
+    let warnings = Warnings::of(&planning.advert, &planning.weights, !plan.paths.is_empty());
     let bus = ScriptBus::new(alloc, module, script, ROOM)?;
     Ok(Session {
-        advert,
+        advert: planning.advert,
         plan,
-        kept,
+        kept: planning.kept,
         inactive,
         warnings,
         bus,

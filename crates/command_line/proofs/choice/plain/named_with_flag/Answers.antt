@@ -1,5 +1,4 @@
 use Rattle.std.proofs.Common.{◌≡◌, ◌∷◌, [], ◌∙◌, true, rules, Some, Ok, IfSome, subst, sym}
-use Rattle.std.specs.Str.{bytes_eq}
 use Rattle.std.proofs.lemmas.Slice.Eq.{bytes_eq-Decides}
 use Rattle.clap.specs.Words.{Text}
 use Rattle.command_line.specs.Choice.{faults_of, json_word, request_of}
@@ -9,12 +8,12 @@ pub returns-then-is_json_word-clause-answer : goal.returns-then-is_json_word-cla
 returns-then-is_json_word-clause-answer c = λ program_name.
     let asked : c.is_json_word.result ≡ true = search rules in
     let same : c.args.flag.now ≡ json_word = (bytes_eq-Decides c.args.flag.now json_word).0 (sym c.is_json_word.ensures ∙ asked) in
-    subst (λ (flag : Text). IfSome c.named_with_json.result (λ request. request_of (program_name ∷ c.args.name.now ∷ flag ∷ []) ≡ Some (Ok request)))
-    (sym same) (c.named_with_json.ensures.answer program_name)
+    subst (λ (flag : Text). IfSome c.named.result (λ request. request_of (program_name ∷ c.args.name.now ∷ flag ∷ []) ≡ Some (Ok request)))
+    (sym same) (c.named.ensures.answer program_name)
 
 pub returns-then-is_json_word-clause-taken : goal.returns-then-is_json_word-clause-taken
 returns-then-is_json_word-clause-taken c = λ program_name.
     let asked : c.is_json_word.result ≡ true = search rules in
     let same : c.args.flag.now ≡ json_word = (bytes_eq-Decides c.args.flag.now json_word).0 (sym c.is_json_word.ensures ∙ asked) in
-    subst (λ (flag : Text). IfSome c.named_with_json.result (λ _. faults_of (program_name ∷ c.args.name.now ∷ flag ∷ []) ≡ []))
-    (sym same) (c.named_with_json.ensures.taken program_name)
+    subst (λ (flag : Text). IfSome c.named.result (λ _. faults_of (program_name ∷ c.args.name.now ∷ flag ∷ []) ≡ []))
+    (sym same) (c.named.ensures.taken program_name)

@@ -7,14 +7,14 @@ use Rattle.command_line.proofs.choice.plain.plain_request.Goals as goal
 pub returns-in-len2-clause-answer : goal.returns-in-len2-clause-answer
 returns-in-len2-clause-answer c =
     let two = two_words string_bytes c.args.words.now c.name-item.result c.in-len2.len_at_least c.in-len2.len_below c.name-item.is in
-    subst (λ (words : List Text). IfSome c.named_alone.result (λ request. request_of words ≡ Some (Ok request)))
-    (sym (two.are ∙ ap (λ n. two.first ∷ n ∷ []) (sym c.deref.ensures))) (c.named_alone.ensures.answer two.first)
+    subst (λ (words : List Text). IfSome c.named.result (λ request. request_of words ≡ Some (Ok request)))
+    (sym (two.are ∙ ap (λ n. two.first ∷ n ∷ []) (sym c.deref.ensures))) (c.named.ensures.answer two.first)
 
 pub returns-in-len2-clause-taken : goal.returns-in-len2-clause-taken
 returns-in-len2-clause-taken c =
     let two = two_words string_bytes c.args.words.now c.name-item.result c.in-len2.len_at_least c.in-len2.len_below c.name-item.is in
-    subst (λ (words : List Text). IfSome c.named_alone.result (λ _. faults_of words ≡ []))
-    (sym (two.are ∙ ap (λ n. two.first ∷ n ∷ []) (sym c.deref.ensures))) (c.named_alone.ensures.taken two.first)
+    subst (λ (words : List Text). IfSome c.named.result (λ _. faults_of words ≡ []))
+    (sym (two.are ∙ ap (λ n. two.first ∷ n ∷ []) (sym c.deref.ensures))) (c.named.ensures.taken two.first)
 
 pub returns-in-len3-clause-answer : goal.returns-in-len3-clause-answer
 returns-in-len3-clause-answer c =

@@ -23,7 +23,7 @@ returns g c =
         taken =
             let taken = c.read_and_answer-answer.ensures.taken in
             (taken.0, record { consumed = taken.1.consumed; within = taken.1.within; at_once = λ more. ap answer_of (taken.1.at_once more) });
-        written = rw status (written_as c.args.request.json answer input _ _ _ _ failed c.write_answer-status.result
+        written = rw status (written_as c.args.request.options.json answer input _ _ _ _ failed c.write_answer-status.result
             c.read_and_answer-answer.ensures.output (ap (λ (k : Clue). k.opening) clue) c.write_answer-status.ensures.written);
         remarked = rw c.after.ensures (said_beside failed c.write_answer-status.result input answer _ c.beside-remark.result c.beside-remark.ensures clue);
       }) c.read_and_answer-answer.ensures.answer c.read_and_answer-answer.ensures.clue;

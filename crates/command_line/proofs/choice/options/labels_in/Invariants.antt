@@ -1,6 +1,6 @@
 use Rattle.std.proofs.Common.{◌≡◌, [], drop, map}
-use Rattle.command_line.specs.MetricsChoice.{labels_with}
-use Rattle.command_line.proofs.choice.labels_in.Given as goal
+use Rattle.command_line.specs.Options.{labels_with}
+use Rattle.command_line.proofs.choice.options.labels_in.Given as goal
 
 -- the labels of the words so far come before those of the others
 abbrev pub invariant-loop-word : goal.invariant-loop-word

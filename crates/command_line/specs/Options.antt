@@ -1,13 +1,17 @@
--- What the flags of `metrics` ask for, and why their words are wrong. (docs/formats.md, "Metrics"; this project's own)
+-- What the flags of a command ask for, and why the words of some are wrong. (docs/formats.md, "Command line" and "Metrics"; this
+-- project's own)
 use Rattle.std.specs.Prelude.{Bool, true, false, if◌then◌else◌, List, [], ◌∷◌, ◌++◌, Option, Some, None, Result, Ok, Err, codes, unwrap_or}
 use Rattle.std.specs.Str.{bytes_eq}
 use Rattle.clap.specs.Words.{Row, Text, all_of, first_of}
 use Rattle.module_metrics.specs.CommonLabels.{key_of, label_fault, value_of}
 use Rattle.module_metrics.specs.Exposition.{Label, label}
 use Rattle.module_metrics.specs.declared.label_fault.LabelFault.{LabelFault}
-use Rattle.command_line.specs.GivenFlags.{bus, flags_flag, is_given, label_flag}
-use Rattle.command_line.specs.declared.choice.commands.Choice.{Choice}
-use Rattle.command_line.specs.declared.choice.commands.Choice.TheVariants.{Metrics}
+use Rattle.applications.specs.declared.conventions.Conventions.{Conventions}
+use Rattle.command_line.specs.Coloring.{coloring_by}
+use Rattle.command_line.specs.GivenFlags.{activate, bus, color_flag, counts_by_id, first, flags_flag, is_given, json, keep, label_flag, now, paired, svg, wake}
+use Rattle.command_line.specs.declared.choice.coloring.Coloring.{Coloring}
+use Rattle.command_line.specs.declared.choice.coloring.Coloring.TheVariants.{Auto}
+use Rattle.command_line.specs.declared.choice.options.Options.{Options}
 use Rattle.command_line.specs.declared.choice.word_fault.WordFault.{WordFault}
 use Rattle.command_line.specs.declared.choice.word_fault.WordFault.TheVariants as word
 
@@ -37,7 +41,32 @@ labels_with labels (w ∷ ws) = then_with (λ more. labels_with more ws) (with_l
 abbrev pub labels_in : List Row → Result (List Label) WordFault
 labels_in rows = labels_with [] (unwrap_or (all_of label_flag rows) [])
 
+-- how what a module advertises is to be read
+abbrev pub conventions_in : List Row → Conventions
+conventions_in rows = record { paired = is_given paired rows; counts_by_id = is_given counts_by_id rows; now = is_given now rows }
+
+-- what is given, by how the words of flags are read
+abbrev pub options_of : List Row → Coloring → List Label → Bool → Options
+options_of rows coloring labels all_flags = record {
+  json = is_given json rows;
+  bus = is_given bus rows;
+  coloring = coloring;
+  all_flags = all_flags;
+  labels = labels;
+  svg = is_given svg rows;
+  keep = is_given keep rows;
+  first = is_given first rows;
+  wake = is_given wake rows;
+  activate = is_given activate rows;
+  conventions = conventions_in rows;
+}
+
 -- the labels are judged before the word of `--flags`
-abbrev pub metrics_with : List Row → Result Choice WordFault
-metrics_with rows =
-    then_with (λ labels. then_with (λ all. Ok (Metrics (is_given bus rows) all labels)) (all_by (first_of flags_flag rows))) (labels_in rows)
+abbrev pub options_in : List Row → Result Options WordFault
+options_in rows =
+    then_with (λ coloring. then_with (λ labels. then_with (λ all_flags. Ok (options_of rows coloring labels all_flags)) (all_by (first_of flags_flag rows))) (labels_in rows))
+    (coloring_by (first_of color_flag rows))
+
+-- no flag is given
+abbrev pub no_options : Options
+no_options = options_of [] Auto [] false

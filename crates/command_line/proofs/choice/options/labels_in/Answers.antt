@@ -1,14 +1,14 @@
-use Rattle.std.proofs.Common.{rules, ◌≡◌, ◌∙◌, refl, List, Err, Ok, Option, Result, [], ap, subst, sym, drop_of_length-le}
+use Rattle.std.proofs.Common.{rules, ◌≡◌, ◌∙◌, refl, List, Err, Option, Result, [], ap, subst, sym, drop_of_length-le}
 use Rattle.std.specs.Prelude.{unwrap_or}
 use Rattle.std.proofs.lemmas.Result.{err_from_is_err_and}
 use Rattle.clap.specs.Words.{Text}
 use Rattle.module_metrics.specs.Exposition.{Label}
 use Rattle.module_metrics.specs.declared.label_fault.LabelFault.{LabelFault}
 use Rattle.command_line.specs.ChoiceFault.{Gives, fault_of_label}
-use Rattle.command_line.specs.MetricsChoice.{labels_with}
+use Rattle.command_line.specs.Options.{labels_with}
 use Rattle.command_line.specs.declared.choice.word_fault.WordFault.{WordFault}
 use Rattle.command_line.proofs.GivenWords.{labels_of, word_added, word_refused}
-use Rattle.command_line.proofs.choice.labels_in.Goals as goal
+use Rattle.command_line.proofs.choice.options.labels_in.Goals as goal
 
 abbrev failed : LabelFault → Result (Unit {0}) LabelFault
 failed error = Err error

@@ -1,9 +1,0 @@
-use Rattle.std.proofs.Common.{◌∙◌}
-use Rattle.std.specs.Str.{bytes_eq}
-use Rattle.clap.proofs.WalkLemmas.{list_any-map}
-use Rattle.command_line.specs.Entries.{flag_of}
-use Rattle.command_line.specs.GivenFlags.{FlagEntry, json}
-use Rattle.command_line.proofs.choice.plain.takes_json.Goals as goal
-
-pub returns : goal.returns
-returns c = c.has_json.ensures ∙ list_any-map (λ (flag : FlagEntry). bytes_eq flag.name json) flag_of c.args.entry.now.flags.now
