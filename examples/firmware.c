@@ -112,7 +112,7 @@ static uint8_t transact_with(void *module, const struct dovecounter_operation *o
 }
 
 /* This module follows at once. */
-static void pause(void *module, uint32_t milliseconds) {
+static void wait_ms(void *module, uint32_t milliseconds) {
     (void)module;
     (void)milliseconds;
 }
@@ -123,7 +123,7 @@ enum { NO_ANSWER = 255 };
 static uint8_t carry_out(struct module *module, struct dovecounter_conversation *procedure) {
     static struct dovecounter_half none[DOVECOUNTER_MOST_READ]; /* procedures read no halves */
     struct dovecounter_ending ending;
-    if (dovecounter_run(procedure, none, transact_with, pause, module) != DOVECOUNTER_DONE) return NO_ANSWER;
+    if (dovecounter_run(procedure, none, transact_with, wait_ms, module) != DOVECOUNTER_DONE) return NO_ANSWER;
     return dovecounter_end(procedure, none, &ending) == DOVECOUNTER_DONE ? ending.fault.code : NO_ANSWER;
 }
 

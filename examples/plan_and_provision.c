@@ -19,7 +19,7 @@ static uint8_t transact(void *context, const struct dovecounter_operation *opera
     return fetches ? DOVECOUNTER_FETCHED : DOVECOUNTER_STORED;
 }
 
-static void pause(void *context, uint32_t milliseconds) {
+static void wait_ms(void *context, uint32_t milliseconds) {
     (void)context;
     sleep_ms(milliseconds);
 }
@@ -27,7 +27,7 @@ static void pause(void *context, uint32_t milliseconds) {
 /* Carries a conversation out and returns the code of its fault, 0 for success. */
 static uint8_t carry_out(struct dovecounter_conversation *conversation, struct dovecounter_half halves[]) {
     struct dovecounter_ending ending;
-    if (dovecounter_run(conversation, halves, transact, pause, NULL) != DOVECOUNTER_DONE ||
+    if (dovecounter_run(conversation, halves, transact, wait_ms, NULL) != DOVECOUNTER_DONE ||
         dovecounter_end(conversation, halves, &ending) != DOVECOUNTER_DONE)
         return 255; /* never, with the transact above */
     return ending.fault.code;

@@ -39,7 +39,7 @@ static uint8_t transact(void *context, const struct dovecounter_operation *opera
                                                                                     : DOVECOUNTER_REFUSED;
 }
 
-static void pause(void *context, uint32_t milliseconds) {
+static void wait_ms(void *context, uint32_t milliseconds) {
     (void)context;
     bus_pause(milliseconds);
 }
@@ -47,7 +47,7 @@ static void pause(void *context, uint32_t milliseconds) {
 /* True once the conversation that has begun has succeeded. */
 static bool carry_out(const char *what) {
     struct dovecounter_ending ending;
-    if (dovecounter_run(&conversation, halves, transact, pause, NULL) != DOVECOUNTER_DONE) return false;
+    if (dovecounter_run(&conversation, halves, transact, wait_ms, NULL) != DOVECOUNTER_DONE) return false;
     if (dovecounter_end(&conversation, halves, &ending) != DOVECOUNTER_DONE) return false;
     print(what);
     print_number(": operations ", ending.steps);
