@@ -63,15 +63,21 @@ bool carry_out(const struct dovecounter_plan *wanted, const struct dovecounter_p
     return true;
 }
 
-/* The procedure has ended. After PV3 the module may have shown an earlier apply, after PV4 and 8 it may just have been slow, so
-   the procedure begins again after a while. */
+/* Whether it makes sense to begin the procedure again after a while: after PV4 and 8 the module may just have been slow; after PV3
+   of provisioning it may have shown the success of an earlier apply. After PV3 of activation the plan is no longer active:
+   `carry_out` has to provision it again. */
+static bool may_begin_again(uint8_t code) {
+    return code == 4 || code == DOVECOUNTER_OVERDUE || (code == 3 && stage == PROVISIONING);
+}
+
+/* The procedure has ended. */
 static void end(void) {
     struct dovecounter_ending ending;
     status = dovecounter_end(&conversation, halves, &ending);
     uint8_t code = ending.fault.code;
     if (status != DOVECOUNTER_DONE) {
         stage = FAILED;
-    } else if ((code == 3 || code == 4 || code == DOVECOUNTER_OVERDUE) && beginnings < MOST_BEGINNINGS) {
+    } else if (may_begin_again(code) && beginnings < MOST_BEGINNINGS) {
         begin(stage);
     } else if (code != 0) {
         fault = ending.fault;
