@@ -40,8 +40,9 @@ extern "C" {
 /* ---- Statuses ----
 
    Each function returns the first of its statuses that applies, and 0 if none does. With any status but 0 it has
-   written nothing, with two exceptions: dovecounter_certificate writes the text's length if the buffer is too small,
-   and dovecounter_weights the number of the faulty line.
+   written nothing, with these exceptions: dovecounter_certificate writes the text's length if the buffer is too small,
+   and dovecounter_weights the number of the faulty line; dovecounter_run, _update_run and _lane_run have gone on up to
+   the reply that they return status 34 for.
 
      status_text, fault_text, verdict_text   3 4
      code_name                               3 4
@@ -570,9 +571,18 @@ struct dovecounter_effect {
     uint8_t state;     /* of the hindrance, or 0 */
 };
 
-/* Judges a change before anything is stored, by the module's state and page 11h. If it is unhindered, provisioning of
-   `taken` and activation name no lane that isn't DPDeactivated, except those of may_take_down. For a module that
-   dovecounter_plan accepts. */
+/* Judges a change before anything is stored, by the module's state and page 11h, for a module that dovecounter_plan
+   accepts: for any other the answer means nothing. If hindrance is 0, provisioning of `taken` and activation of the
+   plan's lanes set no DPDeinit or ApplyDPInit bit, which takes a lane down, of a lane that isn't DPDeactivated, except
+   those of may_take_down.
+
+   Then, in this order:
+   1. stop if hindrance isn't 0, even if is_done is 1;
+   2. stop if is_done is 1;
+   3. if the module is in low power, wake it, read it and judge it again (lanes that came up by that go down only if
+      may_take_down has them);
+   4. unless is_active is 1, provision control and `taken`, not outside;
+   5. if the change activates, activate control and the plan's lanes. */
 uint32_t dovecounter_judge(const struct dovecounter_half *halves, size_t half_count,
                            const struct dovecounter_change *change, struct dovecounter_effect *effect);
 
@@ -600,6 +610,7 @@ enum dovecounter_fault_code {
 
 /* What a failure leaves behind, besides page selections:
 
+     reading        PV4, 8                            nothing (perhaps no module is there), but flags may be cleared
      provisioning   PV6                               nothing
                     PV2                               lanes taken down, bytes staged
                     PV1, PV3                          also applied
@@ -665,12 +676,13 @@ struct dovecounter_conversation {
 #define DOVECOUNTER_MOST_READ 5
 
 /* Begins to put control bytes into the Active Control Set: takes down and applies `lanes`, which end DPDeactivated.
-   Pass the plan's outside.
+   Pass the plan's outside, or `taken` of dovecounter_judge.
 
-   Lanes that are not in `lanes` need the plan's bytes already: before you begin, compare control with bytes 206 to
-   213 of page 11h there. If one differs, lanes that are up would be taken down, and the end would be PV1, PV3 or
-   another fault. The DPDeinit bits of these lanes are cleared, so a lane that is up stays up, unless something else
-   takes it down, and one that the host held down comes up. */
+   Each lane outside `lanes` needs the plan's byte already: before you begin, compare control with bytes 206 to 213 of
+   page 11h there, or look for DOVECOUNTER_OTHER_BYTES by dovecounter_judge. If one differs, don't begin: the lanes of
+   `lanes` would be taken down for nothing, and the end would be PV1, PV3 or another fault. The DPDeinit bits of the
+   lanes outside are cleared, so one that is up stays up, unless something else takes it down, and one that the host
+   held down comes up. */
 void dovecounter_provision_begin(const uint8_t control[8], uint8_t lanes, const struct dovecounter_patience *patience,
                                  struct dovecounter_conversation *conversation);
 
@@ -688,9 +700,9 @@ void dovecounter_sleep_begin(const struct dovecounter_patience *patience,
                              struct dovecounter_conversation *conversation);
 
 /* Begins to read what reports and plans need (docs/bus.md, "Reading an image"), which clears the module's latched
-   flags. Halves come in pieces of the largest multiple of 8 up to `most` bytes. A refused piece is fetched again. If
-   trusts is 0, a refusal makes a half of a selected page begin anew, so on a bus that often refuses, fetch as much at
-   once as it carries. */
+   flags. The module may be in any state in which it answers, also in low power. Halves come in pieces of the largest
+   multiple of 8 up to `most` bytes. A refused piece is fetched again. If trusts is 0, a refusal makes a half of a
+   selected page begin anew, so on a bus that often refuses, fetch as much at once as it carries. */
 uint32_t dovecounter_read_begin(uint8_t most, const struct dovecounter_patience *patience,
                                 struct dovecounter_conversation *conversation);
 
@@ -747,7 +759,7 @@ struct dovecounter_ending {
 
 /* Writes how the conversation ended. If provisioning succeeded, its last operation read the control bytes from the
    Active Control Set. If a reading succeeded, pass halves and conversation->halves to the functions above. After PV4
-   and 8 you may begin again, after PV3 half a second later. */
+   and 8 you may begin again; after PV3 provision again half a second later. */
 uint32_t dovecounter_end(const struct dovecounter_conversation *conversation,
                          const struct dovecounter_half halves[DOVECOUNTER_MOST_READ],
                          struct dovecounter_ending *ending);
@@ -779,8 +791,8 @@ static inline uint32_t dovecounter_run(struct dovecounter_conversation *conversa
 
    An update, or a single command about the firmware, under way (docs/firmware_update.md). It touches no bus:
    dovecounter_update_next names the operation to make, and dovecounter_update_reply takes its outcome, until
-   dovecounter_update_end says how it ended; dovecounter_update_run is that loop. Pass the file, of at most 4 GiB, to each
-   call; with a single command any pointer and a size of 0. Nobody else may use the module meanwhile. */
+   dovecounter_update_end says how it ended; dovecounter_update_run is that loop. Pass the file, of less than 4 GiB, to
+   each call; with a single command any pointer and a size of 0. Nobody else may use the module meanwhile. */
 
 /* What bytes 163 to 166 of page 01h advertise. */
 struct dovecounter_command_block {
@@ -1034,7 +1046,7 @@ enum dovecounter_lane_outcome {
 struct dovecounter_lane_end {
     uint8_t outcome; /* enum dovecounter_lane_outcome */
     uint8_t byte;    /* the control as it was read last; 0 if overdue or given up */
-    uint8_t lanes;   /* the host lanes that are up and not permitted; 0 with any other outcome */
+    uint8_t lanes;   /* with LANES_NOT_PERMITTED the host lanes that are up and not permitted; else 0 */
     uint8_t stores;  /* how often the control was stored, accepted or not */
 };
 
@@ -1069,9 +1081,13 @@ static inline uint32_t dovecounter_lane_run(struct dovecounter_changing_lanes *c
    dovecounter_port_next names, pass its reply to dovecounter_port_take, and ask again. Moments are milliseconds by a
    clock that doesn't go back. Nobody else may read the module: reading a flag clears it.
 
+   A port fetches up to 128 bytes at once. If your bus carries less, fetch them in pieces of a multiple of 8 bytes, by
+   rising address, with nothing in between. If one is refused, pass DOVECOUNTER_REFUSED and fetch no further piece: the
+   module may have gone back to page 00h. Flags that the earlier pieces cleared are lost then. (Not proved.)
+
    Status 31 means that no port began in this memory. */
 
-/* How long a port waits, in milliseconds. */
+/* How long a port waits, in milliseconds. cmisd takes 2000, 10000, 1000 and 300000, unless its file has others. */
 struct dovecounter_times {
     uint32_t settle; /* after a plug, until the module answers: 2000 suits every module */
     uint32_t period; /* between two looks at a module that is as wanted */
@@ -1205,8 +1221,9 @@ enum dovecounter_presence {
 };
 
 /* For a port without a presence pin: call it after each transaction, once its reply was taken. Those are what the port
-   names, and a fetch of byte 0 once in a while. `answered` is 0 if the transaction was refused; it began at one moment,
-   and ended now. A module that refused more than three times in a row, over more than a second, counts as pulled. */
+   names, and a fetch of byte 0 once in a while. `answered` is 0 if the transaction was refused; `began` and `now` are
+   the moments at which it began and ended. A module that refused more than three times in a row, over more than a
+   second, counts as pulled. */
 uint32_t dovecounter_port_hear(struct dovecounter_port *port, uint8_t answered, uint64_t began, uint64_t now,
                                uint8_t *presence);
 
@@ -1282,8 +1299,9 @@ struct dovecounter_port_outcome {
     struct dovecounter_left left;   /* LEAVES; else zeros */
 };
 
-/* Takes the reply to the operation: a dovecounter_outcome, and the bytes of a fetch. If `wanted` differs from the
-   last call's, call dovecounter_port_reconsider. Status 34: no reply is outstanding, or the operation can't have
+/* Takes the reply to the operation: a dovecounter_outcome, and the bytes of a fetch. When what you want changes, call
+   dovecounter_port_reconsider, before this or after it, even while a reply is outstanding: pass that all the same. The
+   `wanted` of the reply that ends the reading decides. Status 34: no reply is outstanding, or the operation can't have
    this one. After a pull any outcome but DOVECOUNTER_WAITED will do. */
 uint32_t dovecounter_port_take(struct dovecounter_port *port, uint8_t reply, const uint8_t *bytes, size_t byte_count,
                                const struct dovecounter_wanted *wanted, uint64_t now,
