@@ -44,7 +44,8 @@ void say_hindrance(FILE *out, const char *before, const struct dovecounter_effec
         [DOVECOUNTER_OTHER_BYTES] = " hold other control bytes than the paths that are to be kept",
         [DOVECOUNTER_WOULD_COME_UP] = " are to be kept, but are down, and would come up: say --activate, or --force",
         [DOVECOUNTER_NO_PATH] = " the plan has no path: say --force to take down all others",
-        [DOVECOUNTER_WOULD_GO_DOWN] = " are up: keep their paths, or take them down with --force"};
+        [DOVECOUNTER_WOULD_GO_DOWN] =
+            " are up: say --keep for their paths, or --ensure to take down only what is in the way"};
     if (effect->hindrance == DOVECOUNTER_OTHER_STATE)
         say_state(out, before, effect->state, effect->state == LOW_POWER ? ": wake it up, or say --wake" : "");
     else
