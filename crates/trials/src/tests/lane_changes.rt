@@ -35,15 +35,19 @@ fn change(board: &mut Pages, change: LaneChange) -> Option<LaneEnd> {
     None
 }
 
+// Of each three transactions the third is a store, so that all stores are refused in the second case.
 #[test]
 fn outputs_are_switched_off(rt: HostRuntime) -> Result<(), Fail> {
-    for refuses_each in [0, 3, 5u32] {
+    for (refuses_each, end, byte) in [
+        (0, LaneEnd::Changed(0x8d), 0x8d),
+        (3, LaneEnd::Refused(0x81), 0x81),
+        (4u32, LaneEnd::Changed(0x8d), 0x8d),
+    ] {
         let mut board = board();
         board.refuses_each = refuses_each;
         board.set(0x10, 130, 0x81);
-        let end = change(&mut board, outputs_off(0, [0xff; 8]));
-        assert_eq!(rt; end, Some(LaneEnd::Changed(0x8d)));
-        assert_eq!(rt; board.byte(0x10, 130), 0x8d);
+        assert_eq!(rt; change(&mut board, outputs_off(0, [0xff; 8])), Some(end));
+        assert_eq!(rt; board.byte(0x10, 130), byte);
     }
     Ok(())
 }

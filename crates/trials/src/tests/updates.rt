@@ -77,6 +77,7 @@ impl TwoBanks {
             0x0041 => {
                 self.page[6] = 18;
                 self.page[7] = 253;
+                self.page[8] = 0;
                 self.page[10] = 1;
                 self.page[13] = 1;
             }
