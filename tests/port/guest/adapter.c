@@ -19,6 +19,7 @@ module_param(adapters, uint, 0444);
 static struct bus {
     struct mutex lock;
     struct owner owner;
+    bool gone; /* taken off, though somebody may have it open still */
     struct i2c_adapter_quirks limits;
     struct i2c_adapter adapter;
     struct platform_device *device;
@@ -32,6 +33,7 @@ static int transfer(struct i2c_adapter *adapter, struct i2c_msg *messages, int c
     struct owner *owner = &bus->owner;
     bool carried = true;
     int error;
+    if (READ_ONCE(bus->gone)) return -ENODEV;
     mutex_lock(&bus->lock);
     catch_up(bus);
     begin_transaction(owner);
@@ -79,6 +81,7 @@ static int attach(struct platform_device *to) {
     struct bus *bus = &buses[to->id];
     struct i2c_adapter *adapter = &bus->adapter;
     memset(adapter, 0, sizeof *adapter);
+    WRITE_ONCE(bus->gone, false);
     adapter->owner = THIS_MODULE;
     adapter->algo = &algorithm;
     adapter->quirks = &bus->limits;
@@ -89,7 +92,9 @@ static int attach(struct platform_device *to) {
     return i2c_add_numbered_adapter(adapter);
 }
 
+/* It waits until nobody has the bus open. */
 static int detach(struct platform_device *from) {
+    WRITE_ONCE(buses[from->id].gone, true);
     i2c_del_adapter(&buses[from->id].adapter);
     return 0;
 }
