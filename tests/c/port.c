@@ -268,10 +268,9 @@ static void try_flags(void) {
     expect("nor is dated", 0, (unsigned long)port.flags.lane_last[FLAG]);
 }
 
-/* Other weights want lanes down that are up: only by permission. */
 /* Each lane's state and status is known since when it was read, whatever is acknowledged or pulled. */
 static void try_lane_codes(void) {
-    enum { LANE_5 = 4, LANE_6 };
+    enum { LANE_1 = 0, LANE_5 = 4, LANE_6 };
     static const struct dovecounter_lane_codes none;
     begin();
     expect_same("no state was read", &none, &port.flags.states, sizeof none);
@@ -289,23 +288,27 @@ static void try_lane_codes(void) {
     const struct dovecounter_lane_codes states = port.flags.states, statuses = port.flags.statuses;
     expect("it is held", 1, (unsigned long)drive_to(DOVECOUNTER_PORT_WENT, DOVECOUNTER_PORT_HELD));
     expect_same("no state has changed", &states, &port.flags.states, sizeof states);
-    module.lanes[LANE_5].path = 1;
     module.lanes[LANE_6].status = 2;
-    expect("a lane goes down", 1, (unsigned long)drive_to(DOVECOUNTER_PORT_FAILED, 0));
-    expect("as is seen", 1, port.flags.states.codes[LANE_5]);
-    expect("once", states.changes[LANE_5] + 1UL, port.flags.states.changes[LANE_5]);
-    expect("and dated", (unsigned long)now - 1, (unsigned long)port.flags.states.last[LANE_5]);
-    expect("the others are as they were", states.changes[LANE_6], port.flags.states.changes[LANE_6]);
-    expect("since then", (unsigned long)states.last[LANE_6], (unsigned long)port.flags.states.last[LANE_6]);
+    expect("it is held again", 1, (unsigned long)drive_to(DOVECOUNTER_PORT_WENT, DOVECOUNTER_PORT_HELD));
     expect("another status", 2, port.flags.statuses.codes[LANE_6]);
+    expect("counts", statuses.changes[LANE_6] + 1UL, port.flags.statuses.changes[LANE_6]);
     expect("is dated", (unsigned long)now - 1, (unsigned long)port.flags.statuses.last[LANE_6]);
     expect("alone", (unsigned long)statuses.last[LANE_5], (unsigned long)port.flags.statuses.last[LANE_5]);
+    expect_same("still no state has changed", &states, &port.flags.states, sizeof states);
+    module.deinit = 1 << LANE_5;
+    expect("a lane goes down", 1, (unsigned long)drive_to(DOVECOUNTER_PORT_FAILED, 0));
+    expect("as is seen", 1, port.flags.states.codes[LANE_5] != 4);
+    expect("once", states.changes[LANE_5] + 1UL, port.flags.states.changes[LANE_5]);
+    expect("and dated", (unsigned long)now - 1, (unsigned long)port.flags.states.last[LANE_5]);
+    expect("with its path", states.changes[LANE_1] + 1UL, port.flags.states.changes[LANE_1]);
+    expect("at that moment", (unsigned long)now - 1, (unsigned long)port.flags.states.last[LANE_1]);
     const struct dovecounter_lane_codes later = port.flags.states;
     expect("pulled", 0, dovecounter_port_pull(&port));
     expect("known", 0, dovecounter_port_acknowledge(&port, now));
     expect_same("they outlive both", &later, &port.flags.states, sizeof later);
 }
 
+/* Other weights want lanes down that are up: only by permission. */
 static void try_permission(void) {
     begin();
     plug_in();
