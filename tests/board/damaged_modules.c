@@ -117,11 +117,16 @@ static void check(size_t length) {
 
 /* The certificate, and the verdicts on it and on three that differ in a byte and an end. */
 static void certify(void) {
-    size_t length = 77, size = one_of(10) ? below(3000) : sizeof text;
+    struct {
+        size_t length;
+        uint32_t after; /* which stays as it is */
+    } put = {77, 0x5A5A5A5A};
+    size_t size = one_of(10) ? below(3000) : sizeof text;
     uint32_t status = add_status(dovecounter_certificate(halves, half_count, paired, by_id, weights, stay, kept,
-                                                         kept_count, text, size, &length));
-    uint32_t told = (uint32_t)length;
-    add(&told, sizeof told);
+                                                         kept_count, text, size, &put.length));
+    size_t length = put.length;
+    uint32_t told[2] = {(uint32_t)length, put.after};
+    add(told, sizeof told);
     if (status != DOVECOUNTER_DONE) return;
     add(text, length);
     check(length);
