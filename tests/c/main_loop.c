@@ -18,9 +18,12 @@ static struct {
     uint32_t due, delay;           /* when the path states follow DPDeinit, and after how long they do */
     unsigned refuse_each;          /* every so many transactions one is refused */
     bool lies;                     /* the driver says stored, whatever was asked */
+    bool forgets;                  /* once paths are to come up, no byte is active any more */
 } module;
 
+static const struct dovecounter_plan *planned;
 static uint32_t apply_delay;
+static bool forgets;
 static struct dovecounter_patience patient = {.pause = 100, .limit = 1000000};
 
 static struct dovecounter_operation asked, asked_before;
@@ -41,8 +44,8 @@ void i2c_start(const struct dovecounter_operation *operation, uint8_t bytes[128]
     if (operation->device != 0xA0 || operation->count == 0 || operation->count > 8) fail("an operation of no shape");
     bool is_again = operation->offset == asked_before.offset && operation->kind == asked_before.kind &&
                     operation->count == asked_before.count;
-    if (is_again && clock_now - over_at < patient.pause) fail("an operation was asked for again at once");
-    if (was_refused && clock_now - over_at < patient.pause) fail("no pause after a refusal");
+    if (is_again && clock_now - over_at <= patient.pause) fail("an operation was asked for again at once");
+    if (was_refused && clock_now - over_at <= patient.pause) fail("no pause after a refusal");
     if (beginnings > 1 && conversation.saved.steps == 0 && clock_now - over_at < BEFORE_AGAIN)
         fail("a procedure was begun again at once");
     asked = *operation;
@@ -76,6 +79,7 @@ static void store_byte(uint8_t address, uint8_t byte) {
     if (address == 127) module.page = byte;
     if (address < 128 || module.page != 0x10) return;
     module.control[address - 128] = byte;
+    if (address == 128 && byte & ~planned->outside) fail("a path that is kept was taken down");
     if (address == 128 && byte != module.down) {
         module.down_before = path_states();
         module.down = byte;
@@ -87,6 +91,7 @@ static void store_byte(uint8_t address, uint8_t byte) {
 }
 
 static uint8_t transact(void) {
+    if (module.forgets && stage == ACTIVATING) memset(module.applied, 0, 8);
     if (module.refuse_each != 0 && transactions % module.refuse_each == 0) return DOVECOUNTER_REFUSED;
     for (uint8_t i = 0; i < asked.count; i++) {
         uint8_t address = (uint8_t)(asked.offset + i);
@@ -113,6 +118,11 @@ static void interrupt(void) {
 static const struct dovecounter_plan pairs = {
     .lanes = 0xFF, .outside = 0xFF, .count = 4, .control = {0x20, 0x20, 0x24, 0x24, 0x28, 0x28, 0x2C, 0x2C}};
 
+static const struct dovecounter_plan half = {
+    .lanes = 0x0F, .outside = 0xFF, .count = 2, .control = {0x20, 0x20, 0x24, 0x24}};
+static const struct dovecounter_plan kept = {
+    .lanes = 0xFF, .outside = 0xF0, .count = 4, .control = {0x20, 0x20, 0x24, 0x24, 0x28, 0x28, 0x2C, 0x2C}};
+
 /* Carries the plan out on such a module, for two hours at most, and compares how that ended. */
 static void run(const char *name, uint8_t state, uint32_t delay, unsigned refuse_each, bool lies, enum stage end_wanted,
                 uint8_t fault_wanted, uint32_t status_wanted) {
@@ -121,12 +131,15 @@ static void run(const char *name, uint8_t state, uint32_t delay, unsigned refuse
     module.delay = delay;
     module.refuse_each = refuse_each;
     module.lies = lies;
+    module.forgets = forgets;
+    for (int lane = 0; lane < 8; lane++)
+        if (!(planned->outside >> lane & 1)) module.applied[lane] = planned->control[lane];
     transactions = 0;
     was_refused = false;
     memset(&asked_before, 0, sizeof asked_before);
     module.apply_due = clock_now = UINT32_MAX - 5000; /* it starts anew on the way */
-    if (!carry_out(&pairs, &patient)) fail("a plan was not begun");
-    if (carry_out(&pairs, &patient)) fail("a plan was begun during another one");
+    if (!carry_out(planned, &patient)) fail("a plan was not begun");
+    if (carry_out(planned, &patient)) fail("a plan was begun during another one");
     enum stage found = stage;
     for (uint32_t passed = 0; passed < 7200000 && (found == PROVISIONING || found == ACTIVATING); passed++) {
         clock_now++;
@@ -140,10 +153,13 @@ static void run(const char *name, uint8_t state, uint32_t delay, unsigned refuse
         printf("main_loop: %s: stage %d, fault PV%u, status %u\n", name, found, fault.code, (unsigned)status);
         exit(1);
     }
-    if (found == UP && (memcmp(module.active, pairs.control, 8) != 0 || path_states() != 0)) fail("the plan is not up");
+    uint8_t down = (uint8_t)~planned->lanes;
+    if (found == UP && (memcmp(module.active, planned->control, 8) != 0 || path_states() != down))
+        fail("the plan is not up, or other lanes are");
 }
 
 int main(void) {
+    planned = &pairs;
     run("a module that follows at once", 3 << 1, 0, 0, false, UP, 0, 0);
     if (transactions != 16 + 10) fail("more transactions than there have to be");
     run("a bus that refuses every fifth transaction", 3 << 1, 20, 5, false, UP, 0, 0);
@@ -168,6 +184,15 @@ int main(void) {
     run("a module that shows an earlier success", 3 << 1, 0, 0, false, UP, 0, 0);
     if (transactions <= 16 + 10) fail("no procedure was begun again after an earlier success");
     apply_delay = 0;
+    planned = &half;
+    run("a plan for half of the lanes", 3 << 1, 20, 0, false, UP, 0, 0);
+    planned = &kept;
+    run("a plan that keeps paths", 3 << 1, 20, 0, false, UP, 0, 0);
+    planned = &pairs;
+    forgets = true;
+    run("a module that forgets what was active", 3 << 1, 0, 0, false, FAILED, 3, 0);
+    if (beginnings != 1) fail("an activation was begun again whose plan isn't active");
+    forgets = false;
     run("a driver that says stored of a fetch", 3 << 1, 0, 0, true, FAILED, 0, DOVECOUNTER_NO_REPLY);
     run("the same once more, of a driver that does not", 3 << 1, 0, 0, false, UP, 0, 0);
     if (!carry_out(&pairs, &patient)) fail("a plan was not begun after another one");
