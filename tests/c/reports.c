@@ -15,19 +15,30 @@ void *__wrap_malloc(size_t size);
 void *__wrap_realloc(void *block, size_t size);
 void __wrap_free(void *block);
 
+/* Of tools/heap.c. */
+struct block {
+    uint64_t is_there;
+    void *bytes;
+};
+struct block rattle_alloc(uint64_t size, uint64_t alignment);
+struct block rattle_realloc(void *bytes, uint64_t old_size, uint64_t size, uint64_t alignment);
+void rattle_dealloc(void *bytes);
+
 static int failures;
 static long asked, refused_one, held; /* allocations so far, the one that is refused, and blocks that are held */
 
-static int is_refused(void) { return ++asked == refused_one; }
+static int is_refused(size_t size) {
+    return ++asked == refused_one || size == 0;
+} /* none of no bytes, as in some C libraries */
 
 void *__wrap_malloc(size_t size) {
-    if (is_refused()) return NULL;
+    if (is_refused(size)) return NULL;
     held++;
     return __real_malloc(size);
 }
 
 void *__wrap_realloc(void *block, size_t size) {
-    if (is_refused()) return NULL;
+    if (is_refused(size)) return NULL;
     held += block == NULL;
     return __real_realloc(block, size);
 }
@@ -78,7 +89,7 @@ static void try_call(report_call *report, size_t image_length, size_t size, uint
 
 static void try_report(report_call *report, size_t image_length) {
     size_t length = 0;
-    refused_one = 0;
+    refused_one = asked = 0;
     expect("status", 0, DOVECOUNTER_DONE, report(image_length, text, sizeof text, &length));
     long allocations = asked;
     expect("allocations", 0, 1, allocations > 3);
@@ -95,7 +106,25 @@ static void try_report(report_call *report, size_t image_length) {
     try_call(report, image_length - 4, sizeof line - 2, DOVECOUNTER_TOO_SMALL, sizeof line - 1);
 }
 
+/* A block of no bytes has a place of its own, and one that is refused a place, too, while the earlier one stays. */
+static void try_blocks(void) {
+    struct block none = rattle_alloc(0, 8), few = rattle_realloc(none.bytes, 0, 4, 8);
+    expect("block of no bytes", 0, 1, none.is_there);
+    expect("block that grows", 4, 1, few.is_there);
+    memcpy(few.bytes, "few", 4);
+    refused_one = asked + 1;
+    struct block refused = rattle_realloc(few.bytes, 4, 64, 8);
+    expect("block that is refused", 64, 0, refused.is_there);
+    expect("place of what is refused", 64, 1, refused.bytes != NULL);
+    expect("bytes of the earlier block", 4, 0, (unsigned long)(memcmp(few.bytes, "few", 4) != 0));
+    struct block emptied = rattle_realloc(few.bytes, 4, 0, 8);
+    expect("block that is emptied", 0, 1, emptied.is_there);
+    rattle_dealloc(emptied.bytes);
+    expect("blocks that are held", 0, 0, (unsigned long)held);
+}
+
 int main(void) {
+    try_blocks();
     size_t length = fread(image, 1, sizeof image, stdin);
     try_report(details, length);
     expect("JSON", 0, '{', text[0]);
