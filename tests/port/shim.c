@@ -77,6 +77,7 @@ static void read_firmware_word(const char *word, unsigned value) {
     if (strcmp(word, "deaf") == 0) firmware->background = false;
     if (strcmp(word, "fallen-back") == 0) firmware->boots = false;
     if (strcmp(word, "uncommitted") == 0) firmware->running = 1, load_bank(firmware, 1, (const uint8_t *)"\2\1\0\7", 4);
+    if (strcmp(word, "stays-open") == 0) firmware->stays_open = true;
     if (strcmp(word, "aborts-none") == 0) firmware->aborts_none = true;
     if (strncmp(word, "left-open=", 10) == 0) firmware->open = true, firmware->not_again = (uint8_t)value;
     if (strcmp(word, "both-run") == 0) firmware->valid[0] = false;

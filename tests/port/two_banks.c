@@ -131,7 +131,7 @@ static uint8_t start(struct two_banks *module, const uint8_t *body, uint8_t coun
 static uint8_t abort_download(struct two_banks *module) {
     if (module->aborts_none) return UNKNOWN_COMMAND;
     module->aborts++;
-    module->open = false;
+    module->open = module->open && module->stays_open;
     return SUCCESS;
 }
 
