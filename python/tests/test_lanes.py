@@ -31,8 +31,10 @@ class Lanes:
         self.selected = [0, 0]
         self.stored: List[int] = []
         self.keeps: Optional[bool] = True  # None if it refuses
+        self.made = 0
 
     def transact(self, operation: Operation) -> Reply:
+        self.made += 1
         if operation.data is None:
             if operation.offset >= 128:
                 at = operation.offset - 128
@@ -58,6 +60,7 @@ def test_outputs_are_switched() -> None:
     off = LaneChange(LaneControl.OUTPUT_DISABLE_TX, 0x0C, True)
     assert off.end is None
     assert run(off, lanes) == LaneEnd(LaneOutcome.CHANGED, 0x8D, 0, 1)
+    assert lanes.made > 2 and repr(off) == f"<LaneChange after {lanes.made} operations>"
     again = LaneChange(LaneControl.OUTPUT_DISABLE_TX, 0x0C, True)
     assert run(again, lanes) == LaneEnd(LaneOutcome.UNCHANGED, 0x8D, 0, 0)
     on = LaneChange(LaneControl.OUTPUT_DISABLE_TX, 0x05, False)
@@ -98,6 +101,9 @@ def test_a_store_without_effect_is_a_fault(keeps: Optional[bool], outcome: LaneO
         run(LaneChange(LaneControl.OUTPUT_DISABLE_TX, 0x02, True, most_stores=2), lanes)
     assert fault.value.end == LaneEnd(outcome, 0x81, 0, 2)
     assert str(fault.value) == outcome.name.lower()
+    with pytest.raises(LaneFault) as fault:
+        run(LaneChange(LaneControl.OUTPUT_DISABLE_TX, 0x02, True), lanes)
+    assert fault.value.end.stores == 3
 
 
 def test_patience_ends() -> None:
@@ -105,6 +111,13 @@ def test_patience_ends() -> None:
     with pytest.raises(TimeoutError):
         change.run(lambda operation: False, lambda seconds: None)
     assert change.end == LaneEnd(LaneOutcome.OVERDUE, 0, 0, 0)
+
+
+def test_operations_end() -> None:
+    change = LaneChange(LaneControl.OUTPUT_DISABLE_TX, 1, True, patience=Patience(10))
+    with pytest.raises(LaneFault, match="gave up"):
+        change.run(lambda operation: False, lambda seconds: None)
+    assert change.end == LaneEnd(LaneOutcome.GAVE_UP, 0, 0, 0)
 
 
 def test_steps_are_told_once() -> None:
