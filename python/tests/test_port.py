@@ -41,6 +41,7 @@ class Machine:
         self.port, self.module, self.now, self.made = Port(Times(20, 100, 50, 400)), module, 0, 0
         self.stores = 0
         self.places: set[Key] = set()
+        self.wanted = WANTED
 
     def drive(
         self, until: Callable[[PortOutcome], bool], refuse_each: int = 0
@@ -60,7 +61,7 @@ class Machine:
                 self.places.add(self.port.place)
             refused = refuse_each and self.made % refuse_each == 0
             reply = False if refused else self.module.transact(step)
-            outcome = self.port.take(reply, WANTED, self.now)
+            outcome = self.port.take(reply, self.wanted, self.now)
             self.now += 1
             if until(outcome):
                 return outcome
@@ -146,6 +147,21 @@ def test_lanes_are_known_since_they_changed() -> None:
     assert first.state == PathState.DPDeactivated
     assert first.state_changes == before[0].state_changes + 1
     assert first.state_since is not None and first.state_since > (before[0].state_since or 0)
+
+
+def test_each_lane_has_its_own_changes() -> None:
+    machine = Machine(SimulatedModule(DR4))
+    machine.wanted = Wanted({0x0D: 1})
+    machine.port.plug(0)
+    machine.comes_up()
+    before = machine.port.lanes
+    machine.port.request(PortRequest.DEACTIVATE, 0x0F)
+    machine.comes_up()
+    for lane, old in zip(machine.port.lanes, before):
+        is_down = lane.lane <= 4
+        assert (lane.state == PathState.DPDeactivated) == is_down
+        assert (lane.state_changes > old.state_changes) == is_down
+        assert (lane.state_since != old.state_since) == is_down
 
 
 def test_wrong_replies_and_numbers_are_refused() -> None:
