@@ -1,6 +1,7 @@
 """The names of codes, against the tables of the sources, and those of a module, against the program."""
 from __future__ import annotations
 
+import dataclasses
 import json
 import operator
 import pathlib
@@ -95,4 +96,8 @@ def test_names_of_a_module_are_what_the_program_prints(path: pathlib.Path) -> No
 def test_an_application_of_no_media_type_has_no_name() -> None:
     first = example("qsfp_dd_400g_dr4.txt").applications()[0]
     assert first.host_name == code_name(Table.HOST_INTERFACES, first.host_id)
-    assert first.media_name(None) == "not listed"
+    assert (
+        first.media_name(None)
+        == dataclasses.replace(first, media_id=1).media_name(None)
+        == "not listed"
+    )

@@ -265,7 +265,8 @@ def test_a_change_is_judged_before_it_is_made() -> None:
     weights = {0x4F: 400, 0x0D: 100}
     free = plan(image, weights)
     assert judge(image, free).hindrance == Hindrance.WOULD_GO_DOWN
-    assert judge(image, free, may_take_down=0xFE).lanes == 0x01
+    hindered = judge(image, free, may_take_down=0xFE)
+    assert hindered.lanes == 0x01 and hindered.state is None
     unhindered = (False, False, Hindrance.UNHINDERED, 0, None)
     assert judge(image, free, may_take_down=0xFF) == Effect(0xFF, 0xFF, 0, 0, *unhindered)
     best = plan(image, weights, [DataPath(8, 1, 1), DataPath(8, 3, 2)])
