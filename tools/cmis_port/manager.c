@@ -42,12 +42,14 @@ static bool take_line(int file, char line[LINE_SIZE]) {
 /* Whether the bus may be opened, as far as cmisd is concerned: it has lent it, or has no port with it; the lock shows whether that is so. */
 bool borrow_bus(struct port *port) {
     char path[PATH_MAX], answer[LINE_SIZE] = "";
-    if (strncmp(port->bus.name, "sim:", 4) == 0 || realpath(port->bus.name, path) == NULL) return true;
+    const char *name = port->bus.name;
+    if (strncmp(name, "sim:", 4) == 0 || realpath(name, path) == NULL) return true;
     port->manager = connect_to_manager();
     if (port->manager < 0) return true;
-    bool is_asked = dprintf(port->manager, "lend %s\n", path) > 0;
+    /* what the kernel has it by may be too long for a line to cmisd */
+    bool is_asked = dprintf(port->manager, "lend %s\n", name[0] == '/' ? name : path) > 0;
     if (is_asked && !take_line(port->manager, answer)) {
-        warnx("%s: cmisd has not let go of it", port->bus.name);
+        warnx("%s: cmisd has not let go of it", name);
         return false;
     }
     if (strncmp(answer, "{\"done\"", 7) != 0) give_back_bus(port);
