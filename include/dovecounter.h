@@ -23,7 +23,10 @@
 
    Numbers and bytes may have any value.
 
-   A set of lanes is a byte whose bit i-1 is lane i: 0x01 is lane 1, 0x80 is lane 8. */
+   A set of lanes is a byte whose bit i-1 is lane i: 0x01 is lane 1, 0x80 is lane 8.
+
+   In C++ write `struct dovecounter_plan` in full, since functions share the names of structures, and include this as a
+   system header (-isystem) if you compile with -Wshadow. */
 #ifndef DOVECOUNTER_H
 #define DOVECOUNTER_H
 
@@ -76,7 +79,8 @@ extern "C" {
      module_fetch, module_store              as advertisement, then 61 62 63
      module_tick, module_pin, module_active  61
 
-   Before the colon is the fault that cmisctl prints for this reason (docs/faults.md). */
+   In the comments below, the code before a colon, such as AD1, is the fault that cmisctl prints for this reason
+   (docs/faults.md). */
 enum dovecounter_status {
     DOVECOUNTER_DONE = 0,
 
@@ -103,7 +107,7 @@ enum dovecounter_status {
     DOVECOUNTER_NO_END = 24,       /* CT4: the line `end` is missing */
 
     /* conversations */
-    DOVECOUNTER_NO_CONVERSATION = 31, /* not the numbers of a conversation, or all zero; or the file has another size */
+    DOVECOUNTER_NO_CONVERSATION = 31, /* the structure holds no valid conversation, update, change or port; or the file has another size */
     DOVECOUNTER_ENDED = 32,           /* it has ended: there is no operation to make */
     DOVECOUNTER_NOT_ENDED = 33,       /* it goes on: there is an operation to make */
     DOVECOUNTER_NO_REPLY = 34,        /* the operation can't have this reply */
@@ -117,7 +121,7 @@ enum dovecounter_status {
     DOVECOUNTER_NEEDED_HALF = 51,      /* SM1: device 0xA0 lacks its lower half, or page 00h, 01h, 10h or 11h of bank 0 */
     DOVECOUNTER_BAD_DELAY = 53,        /* SM3: a delay is 0 or above 1000 */
     DOVECOUNTER_ACTIVE_NOT_PATHS = 54, /* SM4: bytes 206 to 213 of page 11h are no host paths */
-    DOVECOUNTER_NO_MODULE = 61,        /* not the numbers of a simulated module, or all zero */
+    DOVECOUNTER_NO_MODULE = 61,        /* the structure holds no valid simulated module */
     DOVECOUNTER_NO_RANGE = 62,         /* BU2: no such device, no bytes, too many (above 128 to fetch, 8 to store), or in two halves */
     DOVECOUNTER_NOT_TAKEN = 63,        /* the module refuses */
 
@@ -268,14 +272,45 @@ struct dovecounter_levels {
     uint8_t low_warning;
 };
 
+/* Codes of states (docs/states.md). Those that have no name here are reserved, or statuses of the vendor's. */
+enum dovecounter_module_state {
+    DOVECOUNTER_MODULE_LOW_PWR = 1,
+    DOVECOUNTER_MODULE_PWR_UP = 2,
+    DOVECOUNTER_MODULE_READY = 3,
+    DOVECOUNTER_MODULE_PWR_DN = 4,
+    DOVECOUNTER_MODULE_FAULT = 5
+};
+
+enum dovecounter_path_state {
+    DOVECOUNTER_DP_DEACTIVATED = 1,
+    DOVECOUNTER_DP_INIT = 2,
+    DOVECOUNTER_DP_DEINIT = 3,
+    DOVECOUNTER_DP_ACTIVATED = 4,
+    DOVECOUNTER_DP_TX_TURN_ON = 5,
+    DOVECOUNTER_DP_TX_TURN_OFF = 6,
+    DOVECOUNTER_DP_INITIALIZED = 7
+};
+
+enum dovecounter_config_status {
+    DOVECOUNTER_CONFIG_UNDEFINED = 0,
+    DOVECOUNTER_CONFIG_SUCCESS = 1,
+    DOVECOUNTER_CONFIG_REJECTED = 2,
+    DOVECOUNTER_CONFIG_REJECTED_INVALID_APP_SEL = 3,
+    DOVECOUNTER_CONFIG_REJECTED_INVALID_DATA_PATH = 4,
+    DOVECOUNTER_CONFIG_REJECTED_INVALID_SI = 5,
+    DOVECOUNTER_CONFIG_REJECTED_LANES_IN_USE = 6,
+    DOVECOUNTER_CONFIG_REJECTED_PARTIAL_DATA_PATH = 7,
+    DOVECOUNTER_CONFIG_IN_PROGRESS = 12
+};
+
 /* What `cmisctl flags` prints. A flag of lanes is a set of lanes. A flag that the family, or a CMIS module with flat
    memory, doesn't have is 0. */
 struct dovecounter_flags {
     uint8_t family;             /* enum dovecounter_family */
     uint8_t lanes;              /* how many lanes the flags cover: 8, 4 or 1; 0 for a CMIS module with flat memory */
-    uint8_t state;              /* code of the module's state (CMIS) */
-    uint8_t path_states[8];     /* codes of the data paths' states, lane 1 first (CMIS) */
-    uint8_t statuses[8];        /* codes of the configuration statuses, lane 1 first (CMIS) */
+    uint8_t state;              /* enum dovecounter_module_state (CMIS) */
+    uint8_t path_states[8];     /* enum dovecounter_path_state, lane 1 first (CMIS) */
+    uint8_t statuses[8];        /* enum dovecounter_config_status, lane 1 first (CMIS) */
     uint8_t path_state_changed; /* CMIS */
     uint8_t tx_fault;           /* tx-failure (CMIS) */
     uint8_t tx_los;
@@ -339,7 +374,12 @@ struct dovecounter_monitors {
 uint32_t dovecounter_monitors(const struct dovecounter_half *halves, size_t half_count,
                               struct dovecounter_monitors *monitors);
 
-/* ---- What a module measures ---- */
+/* ---- What a module measures ----
+
+   dovecounter_observables also decodes pages 20h to 2Ch, which no reading below fetches. Fetch each by yourself,
+   while no conversation is under way (a port: while it is held): store the bytes 0 and the page at 126 of device
+   0xA0, fetch these two back and compare them, since a module without the page shows page 00h, and fetch 128 bytes
+   from 128 on. */
 
 /* What is measured. `cmisctl observables` has the same names (docs/observables.md). */
 enum dovecounter_quantity {
@@ -450,9 +490,11 @@ struct dovecounter_observable {
     char unit_name[28];
 };
 
-/* Writes what the module measures at the first place of its list from *place on, and to *place the place after it, or 0
-   if nothing is left; then observable stays as it is. Begin with 0. Needs the lower half of 0xA0; what is in another
-   half that is missing is left out, or not known. */
+/* Writes the first observation from *place on, and to *place where the next one may be. When none is left, *place
+   becomes 0 and observable isn't written. Needs the lower half of 0xA0; what is in another half that is missing is
+   left out, or not known. For all of them, with `uint16_t place = 0`:
+
+     while (dovecounter_observables(halves, half_count, &place, &observable) == 0 && place != 0) use(&observable); */
 uint32_t dovecounter_observables(const struct dovecounter_half *halves, size_t half_count, uint16_t *place,
                                  struct dovecounter_observable *observable);
 
@@ -525,7 +567,8 @@ uint32_t dovecounter_check(const struct dovecounter_half *halves, size_t half_co
                            uint8_t counts_by_id, const uint32_t weights[256], uint32_t stay, const uint8_t *text,
                            size_t text_length, struct dovecounter_judgement *judgement);
 
-/* The longest text of a certificate. */
+/* The longest text of a certificate. Firmware needs none: dovecounter_plan is proved, so its plan needs no check.
+   Store a certificate only to let others check the plan. */
 #define DOVECOUNTER_CERTIFICATE_SIZE 74046
 
 /* Writes the certificate of the plan that dovecounter_plan gives for these arguments, byte for byte what `cmisctl
@@ -568,21 +611,24 @@ struct dovecounter_effect {
     uint8_t is_done;   /* 1 if there is nothing to do */
     uint8_t hindrance; /* enum dovecounter_hindrance: the first that applies */
     uint8_t lanes;     /* of the hindrance, or 0 */
-    uint8_t state;     /* of the hindrance, or 0 */
+    uint8_t state;     /* of the hindrance: enum dovecounter_module_state, or a reserved code; else 0 */
 };
 
 /* Judges a change before anything is stored, by the module's state and page 11h, for a module that dovecounter_plan
-   accepts: for any other the answer means nothing. If hindrance is 0, provisioning of `taken` and activation of the
-   plan's lanes set no DPDeinit or ApplyDPInit bit, which takes a lane down, of a lane that isn't DPDeactivated, except
-   those of may_take_down.
+   accepts: for any other the answer means nothing. If hindrance is 0, provisioning `taken` and activating the plan's
+   lanes take down no lane that isn't DPDeactivated, except those in may_take_down (they set no other lane's DPDeinit or
+   ApplyDPInit bit).
 
-   Then, in this order:
+   Then, in this order (examples/plan_and_provision.c):
    1. stop if hindrance isn't 0, even if is_done is 1;
    2. stop if is_done is 1;
    3. if the module is in low power, wake it, read it and judge it again (lanes that came up by that go down only if
       may_take_down has them);
-   4. unless is_active is 1, provision control and `taken`, not outside;
-   5. if the change activates, activate control and the plan's lanes. */
+   4. unless is_active is 1, call dovecounter_provision_begin with control, and `taken` in place of outside;
+   5. if the change activates, call dovecounter_activate_begin with control and the plan's lanes.
+
+   To learn whether the module is in low power, judge with wakes 0: then that is the hindrance,
+   DOVECOUNTER_OTHER_STATE with state DOVECOUNTER_MODULE_LOW_PWR, unless DOVECOUNTER_OTHER_BYTES is. */
 uint32_t dovecounter_judge(const struct dovecounter_half *halves, size_t half_count,
                            const struct dovecounter_change *change, struct dovecounter_effect *effect);
 
@@ -591,7 +637,15 @@ uint32_t dovecounter_judge(const struct dovecounter_half *halves, size_t half_co
    A conversation is a procedure or a reading under way. It touches no bus: dovecounter_next names the operation to
    make, dovecounter_reply takes its outcome, and dovecounter_end tells how it ended. dovecounter_run is that loop,
    for callers that may block. Meanwhile nobody else may use the module: no driver, no process, no second master of
-   the bus. You may drop a conversation at any moment; the module keeps what was stored. */
+   the bus. You may drop a conversation at any moment; the module keeps what was stored.
+
+   Make each transaction once. After the first NACK report DOVECOUNTER_REFUSED, and switch off the retries of your
+   driver: the module may have gone back to page 00h, so a store that is repeated blindly may land there, and a
+   command may run twice. The library selects the page again, and repeats what may be repeated.
+
+   The library drives no pin. Before you begin, select the module (ModSelL low), release its reset (ResetL high), and let
+   2 s pass since it was plugged or reset. LPMode may be at either level: dovecounter_wake_begin makes the module ignore
+   it. IntL isn't used. */
 
 /* Why a conversation failed. first and second are members of dovecounter_fault, 0 unless named here. */
 enum dovecounter_fault_code {
@@ -599,7 +653,7 @@ enum dovecounter_fault_code {
     DOVECOUNTER_REJECTED = 1,        /* PV1: the module rejected the configuration of lane `first`, by status `second` */
     DOVECOUNTER_NOT_STAGED = 2,      /* PV2: the staged control byte of lane `first` isn't what was stored */
     DOVECOUNTER_NOT_ACTIVE = 3,      /* PV3: the active control byte of lane `first` isn't the plan's */
-    DOVECOUNTER_GAVE_UP_WAITING = 4, /* PV4: after 4096 operations */
+    DOVECOUNTER_GAVE_UP_WAITING = 4, /* PV4: after 4096 transactions */
     DOVECOUNTER_BUS_ENDED = 5,       /* PV5: `first` is the digit of BU1 or BU2; never here */
     DOVECOUNTER_NOT_READY = 6,       /* PV6: the module is in state `first`, not in ModuleReady; wake and sleep: in ModuleFault */
     DOVECOUNTER_RESERVED_CODE = 7,   /* PV7: the module shows `first`, a reserved code */
@@ -610,15 +664,15 @@ enum dovecounter_fault_code {
 
 /* What a failure leaves behind, besides page selections:
 
-     reading        PV4, 8                            nothing (perhaps no module is there), but flags may be cleared
-     provisioning   PV6                               nothing
-                    PV2                               lanes taken down, bytes staged
-                    PV1, PV3                          also applied
-                    PV4, PV7, 8, 9, 10                any part of this
-     activation     PV3, PV6                          nothing
-                    PV4, PV7, 8, 9, 10                lanes may be going up or down
-     wake, sleep    PV6, PV7                          byte 26 stored
-                    PV4, 8                            byte 26 perhaps stored */
+     reading        any                         nothing (perhaps no module is there), but flags may be cleared
+     provisioning   NOT_READY                   nothing
+                    NOT_STAGED                  lanes taken down, bytes staged
+                    REJECTED, NOT_ACTIVE        the same, and the apply was requested
+                    any other                   any part of this
+     activation     NOT_ACTIVE, NOT_READY       nothing
+                    any other                   lanes may be going up or down
+     wake, sleep    NOT_READY, RESERVED_CODE    byte 26 stored
+                    any other                   byte 26 perhaps stored */
 struct dovecounter_fault {
     uint8_t code; /* enum dovecounter_fault_code */
     uint8_t first;
@@ -628,15 +682,15 @@ struct dovecounter_fault {
 /* How long to wait, in milliseconds. A transaction is fruitless if it is refused, or if the next one repeats it. */
 struct dovecounter_patience {
     uint32_t pause; /* after a fruitless transaction */
-    uint32_t limit; /* when pauses with nothing done in between exceed this, the end is fault 8; DOVECOUNTER_UNBOUNDED: never */
+    uint32_t limit; /* when pauses with nothing done in between exceed this, it is DOVECOUNTER_OVERDUE; DOVECOUNTER_UNBOUNDED: never */
     uint8_t trusts; /* 0: select and read back the page again after a refusal, since the module may have reset, and read the
                        module's state after each wait of provisioning and activation; else: don't */
 };
 
-/* Writes the patience that suits the module; trusts is 0. The limit is three times its longest state (a module that
-   goes to sleep passes three), from 10 s to 150 minutes, since a state without an end counts as 50 minutes. A pause
-   is 100 ms, or more if 4096 operations would end before the limit. Needs the halves that dovecounter_advertisement
-   needs. For a module that you know nothing about, take 100 and 10000. */
+/* Writes the patience that suits the module; trusts is 0. The limit is three times its longest state (going to sleep
+   takes it through three), from 10 s to 150 minutes, since a state without an end counts as 50 minutes. A pause is
+   100 ms, or a 4000th of the limit if that is longer, so that 4096 transactions last until the limit. Needs the
+   halves that dovecounter_advertisement needs. For a module that you know nothing about, take 100 and 10000. */
 uint32_t dovecounter_patience(const struct dovecounter_half *halves, size_t half_count,
                               struct dovecounter_patience *patience);
 
@@ -655,8 +709,8 @@ struct dovecounter_progress {
     uint32_t limit;
 };
 
-/* A conversation under way. You may copy it, save it and read halves, but change nothing: changed numbers are
-   refused, or taken for another conversation (docs/firmware.md, "The numbers of a conversation"). */
+/* A conversation under way. You may copy it, save it and read halves, but don't write its fields: a changed one is
+   refused, or taken for another conversation (docs/firmware.md, "The fields of a conversation"). */
 struct dovecounter_conversation {
     uint32_t magic;
     struct dovecounter_progress saved;
@@ -678,11 +732,12 @@ struct dovecounter_conversation {
 /* Begins to put control bytes into the Active Control Set: takes down and applies `lanes`, which end DPDeactivated.
    Pass the plan's outside, or `taken` of dovecounter_judge.
 
-   Each lane outside `lanes` needs the plan's byte already: before you begin, compare control with bytes 206 to 213 of
-   page 11h there, or look for DOVECOUNTER_OTHER_BYTES by dovecounter_judge. If one differs, don't begin: the lanes of
-   `lanes` would be taken down for nothing, and the end would be PV1, PV3 or another fault. The DPDeinit bits of the
-   lanes outside are cleared, so one that is up stays up, unless something else takes it down, and one that the host
-   held down comes up. */
+   Each lane outside `lanes` needs the plan's byte already: before you begin, look for DOVECOUNTER_OTHER_BYTES by
+   dovecounter_judge, or compare control there with the active bytes, 206 to 213 of page 11h (bytes[78] to bytes[85]
+   of the half with device 0xA0, upper 1 and page 0x11). If one differs, don't begin: the lanes of `lanes` would be
+   taken down for nothing, and the end would be DOVECOUNTER_REJECTED, _NOT_ACTIVE or another fault. The DPDeinit bits
+   of the lanes outside are cleared, so one that is up stays up, unless something else takes it down, and one that the
+   host held down comes up. */
 void dovecounter_provision_begin(const uint8_t control[8], uint8_t lanes, const struct dovecounter_patience *patience,
                                  struct dovecounter_conversation *conversation);
 
@@ -723,13 +778,15 @@ uint32_t dovecounter_read_some_begin(uint8_t requested, uint8_t most, const stru
 
 enum dovecounter_kind { DOVECOUNTER_FETCH = 0, DOVECOUNTER_STORE = 1, DOVECOUNTER_WAIT = 2 };
 
-/* A transaction to make, or a time to let pass. */
+/* A transaction to make, or a time to let pass. On I2C a fetch is START, address and W, offset, repeated START,
+   address and R, `count` bytes, STOP; a store is START, address and W, offset, `count` bytes, STOP. */
 struct dovecounter_operation {
     uint32_t milliseconds; /* to wait; 0 for a fetch or a store */
     uint8_t kind;          /* enum dovecounter_kind */
     uint8_t device;        /* 8-bit bus address: 0xA0, in a reading also 0xA2; 0, like the next three, for a wait */
     uint8_t offset;        /* address of the first byte */
-    uint8_t count;         /* bytes to fetch or to store: 1 to 8, in a reading up to 128 */
+    uint8_t count;         /* bytes to store: 1 to 8; to fetch: 1 to 8 in procedures and changes of lanes, up to 120 in an
+                              update, up to 128 in a reading (not above its `most`) and for a port */
     uint8_t bytes[8];      /* to store; zeros after them, and for a fetch */
 };
 
@@ -739,27 +796,29 @@ uint32_t dovecounter_next(const struct dovecounter_conversation *conversation,
                           struct dovecounter_operation *operation);
 
 enum dovecounter_outcome {
-    DOVECOUNTER_REFUSED = 0, /* no answer, or not all bytes taken */
+    DOVECOUNTER_REFUSED = 0, /* a NACK or another failure: the module may have taken some bytes, or none */
     DOVECOUNTER_STORED = 1,  /* all bytes of a store taken */
     DOVECOUNTER_FETCHED = 2, /* all bytes of a fetch given */
     DOVECOUNTER_WAITED = 3   /* the time has passed */
 };
 
-/* Takes the outcome of that operation, once, and the bytes of a fetch (with DOVECOUNTER_FETCHED; else bytes isn't
-   read). A reading inserts each whole half at halves[0], and counts them in conversation->halves. A refused
-   operation comes again, up to 4096 operations in all, pieces and page selections included. */
+/* Takes the outcome of that operation, once, and the bytes of a fetch: with any outcome but DOVECOUNTER_FETCHED,
+   bytes and byte_count are ignored. A reading inserts each whole half at halves[0], and counts them in
+   conversation->halves. A refused transaction comes again, up to 4096 in all, pieces and page selections included;
+   waits don't count. */
 uint32_t dovecounter_reply(struct dovecounter_conversation *conversation,
                            struct dovecounter_half halves[DOVECOUNTER_MOST_READ], uint8_t outcome,
                            const uint8_t *bytes, size_t byte_count);
 
 struct dovecounter_ending {
-    uint16_t steps;                 /* operations of a success; else 0 */
+    uint16_t steps;                 /* transactions of a success; else 0 */
     struct dovecounter_fault fault; /* code 0 for a success */
 };
 
 /* Writes how the conversation ended. If provisioning succeeded, its last operation read the control bytes from the
-   Active Control Set. If a reading succeeded, pass halves and conversation->halves to the functions above. After PV4
-   and 8 you may begin again; after PV3 provision again half a second later. */
+   Active Control Set. If a reading succeeded, pass halves and conversation->halves to the functions above. After
+   DOVECOUNTER_GAVE_UP_WAITING and _OVERDUE you may begin again; after _NOT_ACTIVE provision again half a second
+   later. */
 uint32_t dovecounter_end(const struct dovecounter_conversation *conversation,
                          const struct dovecounter_half halves[DOVECOUNTER_MOST_READ],
                          struct dovecounter_ending *ending);
@@ -791,8 +850,9 @@ static inline uint32_t dovecounter_run(struct dovecounter_conversation *conversa
 
    An update, or a single command about the firmware, under way (docs/firmware_update.md). It touches no bus:
    dovecounter_update_next names the operation to make, and dovecounter_update_reply takes its outcome, until
-   dovecounter_update_end says how it ended; dovecounter_update_run is that loop. Pass the file, of less than 4 GiB, to
-   each call; with a single command any pointer and a size of 0. Nobody else may use the module meanwhile. */
+   dovecounter_update_end says how it ended; dovecounter_update_run is that loop. Pass the file, of less than 4 GiB,
+   to each call; with a single command any pointer and a size of 0. Nobody else may use the module meanwhile. A fetch
+   of up to 120 bytes may be split, as for a port (below). */
 
 /* What bytes 163 to 166 of page 01h advertise. */
 struct dovecounter_command_block {
@@ -837,8 +897,8 @@ struct dovecounter_update_delivery {
     uint8_t reply[128];
 };
 
-/* An update or a single command under way. Copy it and save it; change nothing. Changed numbers are refused, or taken for
-   another one: never write them by hand, since a Commit or a Start may come of it. */
+/* An update or a single command under way. You may copy it and save it, but never write its fields: a Commit or a
+   Start may come of it. */
 struct dovecounter_update {
     uint32_t magic;
     uint32_t size;
@@ -996,7 +1056,8 @@ struct dovecounter_lane_change {
     uint8_t media_paths[8]; /* the host lanes of the data path of each media lane; 0xFF where you don't know them */
 };
 
-/* A change under way. Copy it and save it; change nothing. Changed numbers are refused, or taken for another change. */
+/* A change under way. You may copy it and save it, but don't write its fields: a changed one is refused, or taken for
+   another. */
 struct dovecounter_changing_lanes {
     uint32_t magic;
     uint32_t idle;
@@ -1019,7 +1080,7 @@ struct dovecounter_changing_lanes {
     uint8_t taken_page;
 };
 
-/* Begins to change lanes, by 4096 operations at most. Status 31 means that there is no such control. */
+/* Begins to change lanes, by 4096 transactions at most. Status 31 means that there is no such control. */
 uint32_t dovecounter_lane_begin(const struct dovecounter_lane_change *change,
                                 const struct dovecounter_patience *patience,
                                 struct dovecounter_changing_lanes *changing);
@@ -1040,7 +1101,7 @@ enum dovecounter_lane_outcome {
     DOVECOUNTER_LANES_NOT_PERMITTED =
         4, /* a lane that is up would be disturbed; nothing was stored since the control was read */
     DOVECOUNTER_LANES_OVERDUE = 5, /* out of patience; if it was stored, read the control before anything else */
-    DOVECOUNTER_LANES_GAVE_UP = 6  /* 4096 operations; if it was stored, read the control before anything else */
+    DOVECOUNTER_LANES_GAVE_UP = 6  /* 4096 transactions; if it was stored, read the control before anything else */
 };
 
 struct dovecounter_lane_end {
@@ -1079,7 +1140,12 @@ static inline uint32_t dovecounter_lane_run(struct dovecounter_changing_lanes *c
    Keeps the module in one port as you want it, while modules are plugged, pulled and replaced, fail, and the program
    restarts (docs/manager.md). It touches no bus and has no clock: report what happens, make the operation that
    dovecounter_port_next names, pass its reply to dovecounter_port_take, and ask again. Moments are milliseconds by a
-   clock that doesn't go back. Nobody else may read the module: reading a flag clears it.
+   clock of 64 bits that neither goes back nor wraps: extend a tick of 32 bits. Nobody else may read the module:
+   reading a flag clears it. examples/port_loop.c is the loop, on a bus that blocks.
+
+   A module that is left alone, such as one that isn't CMIS, isn't looked at. You may read it yourself while
+   dovecounter_port_next says DOVECOUNTER_PORT_IDLE, or call dovecounter_port_reconsider each period, and pass the
+   halves that `whole` names to dovecounter_flags.
 
    A port fetches up to 128 bytes at once. If your bus carries less, fetch them in pieces of a multiple of 8 bytes, by
    rising address, with nothing in between. If one is refused, pass DOVECOUNTER_REFUSED and fetch no further piece: the
@@ -1108,7 +1174,7 @@ enum dovecounter_port_stage {
 
 /* Why a module is left alone; or, if nothing can be planned, a status of dovecounter_advertisement, 11 to 16. */
 enum dovecounter_left_reason {
-    DOVECOUNTER_LEFT_NO_LANES = 1,         /* it has no page 11h */
+    DOVECOUNTER_LEFT_NO_PAGE_11 = 1,       /* it has no page 11h */
     DOVECOUNTER_LEFT_NO_PLAN = 2,          /* none of its paths is wanted */
     DOVECOUNTER_LEFT_NEEDS_POWER = 3,      /* it is not ready, and needs more power than it may draw */
     DOVECOUNTER_LEFT_NEEDS_PERMISSION = 4, /* lanes that are up would go down, and may not */
@@ -1133,14 +1199,15 @@ struct dovecounter_lane_codes {
 };
 
 /* How often each flag was read as raised since it was acknowledged (at most 65535), and when last (0: never). Flags
-   are in the order of the module's memory, in a byte from bit 0 on. Below them, what page 11h shows of the lanes. */
+   are in the order of the module's memory, in a byte from bit 0 on. Below them, what page 11h shows of the lanes.
+   They are a CMIS module's: in the others these bytes have other meanings. */
 struct dovecounter_flag_counts {
     uint16_t module_counts[32]; /* bytes 8 to 11 of the lower memory: flag 8 * (byte - 8) + bit */
     uint64_t module_last[32];
     uint16_t lane_counts[152]; /* bytes 134 to 152 of page 11h: flag 8 * (byte - 134) + lane - 1 */
     uint64_t lane_last[152];
-    struct dovecounter_lane_codes states;   /* data path states, as 4 of DPActivated */
-    struct dovecounter_lane_codes statuses; /* configuration statuses, as 1 of ConfigSuccess */
+    struct dovecounter_lane_codes states;   /* enum dovecounter_path_state */
+    struct dovecounter_lane_codes statuses; /* enum dovecounter_config_status */
 };
 
 /* What a port works for: the plan that followed from the last reading. */
@@ -1163,8 +1230,8 @@ struct dovecounter_work {
 };
 
 /* A port. You may copy it, save it, and read flags, due, stage, held, goal (from PROVISIONING to WATCHING), left,
-   request and request_lanes, but change nothing: changed numbers are refused, or taken for another port, perhaps one
-   that no events lead to. */
+   request and request_lanes, but don't write its fields: a changed one is refused, or taken for another port, perhaps
+   one that no events lead to. */
 struct dovecounter_port {
     struct dovecounter_flag_counts flags;
     uint64_t due; /* no operation is named before this moment */
@@ -1176,7 +1243,7 @@ struct dovecounter_port {
     uint32_t refusals;
     uint16_t half_count;
     uint8_t stage; /* enum dovecounter_port_stage */
-    uint8_t held;  /* 1 if the port holds still */
+    uint8_t held;  /* 1 while dovecounter_port_hold holds it still */
     uint8_t outstanding;
     uint8_t vain;
     uint8_t selection;
@@ -1205,7 +1272,7 @@ uint32_t dovecounter_port_reconsider(struct dovecounter_port *port);
 uint32_t dovecounter_port_hold(struct dovecounter_port *port, uint8_t held);
 
 enum dovecounter_request {
-    DOVECOUNTER_REQUEST_WAKE = 0,      /* the module is to be awake, and as wanted; so at first */
+    DOVECOUNTER_REQUEST_WAKE = 0,      /* the default: the module is to be awake, and as wanted */
     DOVECOUNTER_REQUEST_SLEEP = 1,     /* it is to be in low power; these lanes may go down for that */
     DOVECOUNTER_REQUEST_PROVISION = 2, /* these lanes may go down, until it is up or left alone */
     DOVECOUNTER_REQUEST_DEACTIVATE = 3 /* no data path may have one of these lanes, and they may go down */
@@ -1220,10 +1287,10 @@ enum dovecounter_presence {
     DOVECOUNTER_PULLED = 2   /* it was silent for too long, so it was pulled, as by dovecounter_port_pull */
 };
 
-/* For a port without a presence pin: call it after each transaction, once its reply was taken. Those are what the port
-   names, and a fetch of byte 0 once in a while. `answered` is 0 if the transaction was refused; `began` and `now` are
-   the moments at which it began and ended. A module that refused more than three times in a row, over more than a
-   second, counts as pulled. */
+/* For a port without a presence pin: call it after each operation of the port, once its reply was taken, and after a
+   fetch of byte 0 alone, which clears no flag, that you make yourself once a second. `answered` is 0 if the
+   transaction was refused; `began` and `now` are the moments at which it began and ended. A module that refused more
+   than three times in a row, over more than a second, counts as pulled. */
 uint32_t dovecounter_port_hear(struct dovecounter_port *port, uint8_t answered, uint64_t began, uint64_t now,
                                uint8_t *presence);
 
@@ -1254,7 +1321,7 @@ uint32_t dovecounter_port_next(struct dovecounter_port *port, uint64_t now, stru
 /* What you want of the module. */
 struct dovecounter_wanted {
     uint32_t weights[256]; /* of each HostInterfaceID, as dovecounter_weights writes them */
-    uint32_t stay;         /* what an active path weighs more */
+    uint32_t stay;         /* the extra weight of a path that is already active */
     uint8_t paired;        /* as for dovecounter_plan */
     uint8_t counts_by_id;
     uint8_t most_power;    /* in quarters of a watt: a module that needs more isn't woken; 255: no limit */
@@ -1262,11 +1329,11 @@ struct dovecounter_wanted {
 };
 
 enum dovecounter_port_led_to {
-    DOVECOUNTER_PORT_DROPPED = 0, /* nothing: the module was pulled, or it is read anew */
-    DOVECOUNTER_PORT_WENT = 1,    /* on; note says how */
-    DOVECOUNTER_PORT_PAUSED = 2,  /* the operation was fruitless; another follows at the moment */
-    DOVECOUNTER_PORT_FAILED = 3,  /* to a failure; the module is read anew at the moment */
-    DOVECOUNTER_PORT_LEAVES = 4   /* the module is left alone; left says why */
+    DOVECOUNTER_PORT_DROPPED = 0, /* the reply was ignored: the module was pulled, or it is read anew */
+    DOVECOUNTER_PORT_WENT = 1,    /* progress; see note */
+    DOVECOUNTER_PORT_PAUSED = 2,  /* a fruitless transaction; another follows at the moment */
+    DOVECOUNTER_PORT_FAILED = 3,  /* failed; see failure; the module is read anew at the moment */
+    DOVECOUNTER_PORT_LEAVES = 4   /* the module is left alone; see left */
 };
 
 enum dovecounter_port_note {
@@ -1275,21 +1342,23 @@ enum dovecounter_port_note {
     DOVECOUNTER_PORT_WOKEN = 2,       /* the module was woken up */
     DOVECOUNTER_PORT_PROVISIONED = 3, /* the control bytes are active */
     DOVECOUNTER_PORT_CAME_UP = 4,     /* the module is up as wanted, perhaps as before */
-    DOVECOUNTER_PORT_HELD = 5         /* a look found it still up as wanted */
+    DOVECOUNTER_PORT_STILL_UP = 5     /* a look found it still up as wanted */
 };
 
 enum dovecounter_port_failure {
     DOVECOUNTER_PORT_UNREAD = 1,          /* the memory could not be read */
     DOVECOUNTER_PORT_ASLEEP = 2,          /* the module isn't ready although it was woken */
-    DOVECOUNTER_PORT_NOT_WOKEN = 3,       /* by fault */
-    DOVECOUNTER_PORT_NOT_PROVISIONED = 4, /* by fault */
-    DOVECOUNTER_PORT_NOT_ACTIVATED = 5,   /* by fault */
+    DOVECOUNTER_PORT_NOT_WOKEN = 3,       /* see fault */
+    DOVECOUNTER_PORT_NOT_PROVISIONED = 4, /* see fault */
+    DOVECOUNTER_PORT_NOT_ACTIVATED = 5,   /* see fault */
     DOVECOUNTER_PORT_UNSEEN = 6,          /* the module could not be looked at */
     DOVECOUNTER_PORT_CHANGED = 7,         /* it is no longer as wanted */
-    DOVECOUNTER_PORT_NOT_ASLEEP = 8       /* by fault */
+    DOVECOUNTER_PORT_NOT_ASLEEP = 8       /* see fault */
 };
 
-/* What a reply led to. */
+/* What a reply led to. A port doesn't watch for resets, so it has no fault DOVECOUNTER_RESET or _FAULTY: a reset ends in
+   another one, such as DOVECOUNTER_NOT_STAGED, _NOT_ACTIVE or _OVERDUE, or in DOVECOUNTER_PORT_CHANGED. Then the module
+   is read, and brought up again. */
 struct dovecounter_port_outcome {
     uint64_t moment;                /* PAUSED, FAILED; else 0 */
     uint8_t kind;                   /* enum dovecounter_port_led_to */
@@ -1299,10 +1368,11 @@ struct dovecounter_port_outcome {
     struct dovecounter_left left;   /* LEAVES; else zeros */
 };
 
-/* Takes the reply to the operation: a dovecounter_outcome, and the bytes of a fetch. When what you want changes, call
-   dovecounter_port_reconsider, before this or after it, even while a reply is outstanding: pass that all the same. The
-   `wanted` of the reply that ends the reading decides. Status 34: no reply is outstanding, or the operation can't have
-   this one. After a pull any outcome but DOVECOUNTER_WAITED will do. */
+/* Takes the reply to the operation: a dovecounter_outcome, and the bytes of a fetch. With any outcome but
+   DOVECOUNTER_FETCHED, bytes and byte_count are ignored. When what you want changes, call
+   dovecounter_port_reconsider, before this or after it, even while a reply is outstanding: pass that all the same.
+   The `wanted` of the reply that ends the reading decides. Status 34: no reply is outstanding, or the operation can't
+   have this one. After a pull any outcome but DOVECOUNTER_WAITED will do. */
 uint32_t dovecounter_port_take(struct dovecounter_port *port, uint8_t reply, const uint8_t *bytes, size_t byte_count,
                                const struct dovecounter_wanted *wanted, uint64_t now,
                                struct dovecounter_port_outcome *outcome);
@@ -1335,8 +1405,8 @@ struct dovecounter_lane {
     uint8_t kept;   /* that byte, or 0 */
 };
 
-/* What changes in a simulated module. You may read it, copy it and save it, but change nothing: changed numbers are
-   refused, or taken for another module, perhaps one that no events lead to. */
+/* What changes in a simulated module. You may read it, copy it and save it, but don't write its fields: a changed one
+   is refused, or taken for another module, perhaps one that no events lead to. */
 struct dovecounter_module {
     struct dovecounter_delays delays;
     uint16_t left;       /* ticks until the work of the module's state is done; 0 if none runs */

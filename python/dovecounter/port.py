@@ -92,7 +92,7 @@ class Note(IntEnum):
     WOKEN = 2
     PROVISIONED = 3
     CAME_UP = 4
-    HELD = 5
+    STILL_UP = 5
 
 
 class Failure(IntEnum):

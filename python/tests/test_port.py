@@ -93,7 +93,7 @@ def test_a_restart_stores_nothing() -> None:
     machine.port, machine.stores = Port(Times(20, 100, 50, 400)), 0
     machine.port.plug(machine.now)
     machine.comes_up()
-    assert machine.drive(lambda outcome: outcome.note is Note.HELD) is not None
+    assert machine.drive(lambda outcome: outcome.note is Note.STILL_UP) is not None
     assert machine.stores == 0
 
 

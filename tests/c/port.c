@@ -185,7 +185,7 @@ static void try_restart(void) {
     expect("plugged", 0, dovecounter_port_plug(&port, now));
     expect("it is up", 1, (unsigned long)comes_up());
     for (int looks = 0; looks < 5; looks++)
-        expect("it is held", 1, (unsigned long)drive_to(DOVECOUNTER_PORT_WENT, DOVECOUNTER_PORT_HELD));
+        expect("it is still up", 1, (unsigned long)drive_to(DOVECOUNTER_PORT_WENT, DOVECOUNTER_PORT_STILL_UP));
     expect("nothing was stored", 0, stores);
     expect_same("its lanes", before.lanes, module.lanes, sizeof module.lanes);
 }
@@ -254,7 +254,7 @@ static void try_flags(void) {
     uint16_t before = port.flags.lane_counts[FLAG];
     for (unsigned raised = 1; raised <= 3; raised++) {
         module.lane_flags[140 - 134] = 1 << LANE_5;
-        expect("it is held", 1, (unsigned long)drive_to(DOVECOUNTER_PORT_WENT, DOVECOUNTER_PORT_HELD));
+        expect("it is still up", 1, (unsigned long)drive_to(DOVECOUNTER_PORT_WENT, DOVECOUNTER_PORT_STILL_UP));
         expect("the flag counts", before + raised, port.flags.lane_counts[FLAG]);
         expect("and is dated", (unsigned long)now - 1, (unsigned long)port.flags.lane_last[FLAG]);
     }
@@ -286,10 +286,10 @@ static void try_lane_codes(void) {
         expect("before that", 1, port.flags.statuses.last[lane] < now - 1);
     }
     const struct dovecounter_lane_codes states = port.flags.states, statuses = port.flags.statuses;
-    expect("it is held", 1, (unsigned long)drive_to(DOVECOUNTER_PORT_WENT, DOVECOUNTER_PORT_HELD));
+    expect("it is still up", 1, (unsigned long)drive_to(DOVECOUNTER_PORT_WENT, DOVECOUNTER_PORT_STILL_UP));
     expect_same("no state has changed", &states, &port.flags.states, sizeof states);
     module.lanes[LANE_6].status = 2;
-    expect("it is held again", 1, (unsigned long)drive_to(DOVECOUNTER_PORT_WENT, DOVECOUNTER_PORT_HELD));
+    expect("it is still up again", 1, (unsigned long)drive_to(DOVECOUNTER_PORT_WENT, DOVECOUNTER_PORT_STILL_UP));
     expect("another status", 2, port.flags.statuses.codes[LANE_6]);
     expect("counts", statuses.changes[LANE_6] + 1UL, port.flags.statuses.changes[LANE_6]);
     expect("is dated", (unsigned long)now - 1, (unsigned long)port.flags.statuses.last[LANE_6]);
@@ -398,7 +398,7 @@ static void try_deactivation(void) {
     expect("the rest is up", 1, (unsigned long)comes_up());
     expect("lanes 5 to 8", 0xF0, lanes_up());
     expect("the goal's lanes", 0xF0, port.goal.lanes);
-    expect("it stays so", 1, (unsigned long)drive_to(DOVECOUNTER_PORT_WENT, DOVECOUNTER_PORT_HELD));
+    expect("it stays so", 1, (unsigned long)drive_to(DOVECOUNTER_PORT_WENT, DOVECOUNTER_PORT_STILL_UP));
     request(DOVECOUNTER_REQUEST_DEACTIVATE, ALL_LANES);
     expect("nothing is to be up", 1, (unsigned long)comes_up());
     expect("no lane is", 0, lanes_up());

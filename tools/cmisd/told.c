@@ -51,7 +51,7 @@ static const char *const failures[] = {
 };
 
 static const char *const reasons[] = {
-    [DOVECOUNTER_LEFT_NO_LANES] = "the module has no page 11h",
+    [DOVECOUNTER_LEFT_NO_PAGE_11] = "the module has no page 11h",
     [DOVECOUNTER_LEFT_NO_PLAN] = "none of the module's data paths is wanted",
     [DOVECOUNTER_LEFT_NEEDS_POWER] = "the module needs more than max_power",
     [DOVECOUNTER_LEFT_NEEDS_PERMISSION] = "lanes that are up would go down, and nobody permits it",
@@ -101,7 +101,7 @@ static void tell_note(struct port *port, uint8_t note) {
     case DOVECOUNTER_PORT_WOKEN: return tell(port, "woken", "");
     case DOVECOUNTER_PORT_PROVISIONED: return tell(port, "provisioned", "");
     case DOVECOUNTER_PORT_CAME_UP: return tell(port, "up", "");
-    case DOVECOUNTER_PORT_HELD: return put_status(port);
+    case DOVECOUNTER_PORT_STILL_UP: return put_status(port);
     default: return;
     }
 }
