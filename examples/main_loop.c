@@ -8,10 +8,11 @@
 #include <stdbool.h>
 #include <string.h>
 
-/* Starts a transaction; a fetch fills `bytes` (a procedure fetches at most 8, a reading 128). Many drivers take 7-bit addresses: operation->device >> 1. */
+/* Starts one transaction, which the driver doesn't repeat by itself; a fetch fills `bytes` (procedures fetch at most 8). Many drivers
+   take 7-bit addresses: operation->device >> 1. */
 void i2c_start(const struct dovecounter_operation *operation, uint8_t bytes[128]);
 
-/* A clock, modulo 2^32. */
+/* A clock, modulo 2^32, which is enough here; a port needs one of 64 bits (port_loop.c). */
 uint32_t milliseconds(void);
 
 /* How often a stage is begun, and how many milliseconds pass at least before it is begun again. */
@@ -35,7 +36,7 @@ static uint8_t outcome;                /* once it has written what came of the t
 static struct dovecounter_fault fault; /* why it failed, */
 static uint32_t status;                /* or the status of the call that failed */
 
-/* Called by the interrupt when a transaction is over, with DOVECOUNTER_REFUSED if the driver gave up. */
+/* Called by the interrupt when a transaction is over, with DOVECOUNTER_REFUSED after the first NACK. */
 void i2c_over(uint8_t what) {
     outcome = what;
     over = true;
@@ -63,11 +64,11 @@ bool carry_out(const struct dovecounter_plan *wanted, const struct dovecounter_p
     return true;
 }
 
-/* Whether it makes sense to begin the procedure again after a while: after PV4 and 8 the module may just have been slow; after PV3
-   of provisioning it may have shown the success of an earlier apply. After PV3 of activation the plan is no longer active:
-   `carry_out` has to provision it again. */
+/* Whether it makes sense to begin the procedure again after a while: the module may just have been slow, or may have shown the success
+   of an earlier apply while it was provisioned. If activation finds the plan no longer active, `carry_out` has to provision it again. */
 static bool may_begin_again(uint8_t code) {
-    return code == 4 || code == DOVECOUNTER_OVERDUE || (code == 3 && stage == PROVISIONING);
+    return code == DOVECOUNTER_GAVE_UP_WAITING || code == DOVECOUNTER_OVERDUE ||
+           (code == DOVECOUNTER_NOT_ACTIVE && stage == PROVISIONING);
 }
 
 /* The procedure has ended. */
@@ -79,7 +80,7 @@ static void end(void) {
         stage = FAILED;
     } else if (may_begin_again(code) && beginnings < MOST_BEGINNINGS) {
         begin(stage);
-    } else if (code != 0) {
+    } else if (code != DOVECOUNTER_NO_FAULT) {
         fault = ending.fault;
         stage = FAILED;
     } else if (stage == PROVISIONING) {

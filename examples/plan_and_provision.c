@@ -1,56 +1,86 @@
-/* Firmware that may block: reads the module in a cage, plans its lanes, puts the plan into the module, and brings its
-   data paths up. The board has i2c_fetch, i2c_store and sleep_ms; nobody else uses the module meanwhile. */
+/* Firmware that may block: reads the module in a cage, plans its lanes, and brings the plan up without taking down a path that stays.
+   The board has i2c_fetch, i2c_store and sleep_ms; nobody else uses the module meanwhile. */
 #include "dovecounter.h"
 
 #include <stdbool.h>
+#include <string.h>
 
-/* The board's bus, by 7-bit addresses. Both return whether the module acknowledged every byte. */
+enum { MOST_MILLIWATTS = 12000 }; /* what a module in this cage may draw */
+
+/* The board's bus, by 7-bit addresses. Each makes one transaction, without a retry, and returns whether the module acknowledged every
+   byte. */
 bool i2c_fetch(uint8_t address, uint8_t offset, uint8_t *bytes, uint8_t count);
 bool i2c_store(uint8_t address, uint8_t offset, const uint8_t *bytes, uint8_t count);
 void sleep_ms(uint32_t milliseconds);
 
-static uint8_t transact(void *context, const struct dovecounter_operation *operation, uint8_t bytes[128]) {
-    (void)context;
-    uint8_t address = operation->device >> 1;
-    bool fetches = operation->kind == DOVECOUNTER_FETCH;
-    bool done = fetches ? i2c_fetch(address, operation->offset, bytes, operation->count)
-                        : i2c_store(address, operation->offset, operation->bytes, operation->count);
-    if (!done) return DOVECOUNTER_REFUSED;
-    return fetches ? DOVECOUNTER_FETCHED : DOVECOUNTER_STORED;
-}
+/* What came of it. After a success nothing here is set but what the effect says of lanes. */
+struct outcome {
+    uint32_t status;                  /* of the call that refused, such as DOVECOUNTER_NOT_CMIS */
+    struct dovecounter_fault fault;   /* of the conversation that failed */
+    struct dovecounter_effect effect; /* and its hindrance: what stands against the change */
+};
+
+static struct dovecounter_half memory[DOVECOUNTER_MOST_READ]; /* as read */
+static struct dovecounter_conversation conversation;
+static struct dovecounter_patience patience;
 
 static void wait_ms(void *context, uint32_t milliseconds) {
     (void)context;
     sleep_ms(milliseconds);
 }
 
-/* Carries a conversation out and returns the code of its fault, 0 for success. */
-static uint8_t carry_out(struct dovecounter_conversation *conversation, struct dovecounter_half halves[]) {
-    struct dovecounter_ending ending;
-    if (dovecounter_run(conversation, halves, transact, wait_ms, NULL) != DOVECOUNTER_DONE ||
-        dovecounter_end(conversation, halves, &ending) != DOVECOUNTER_DONE)
-        return 255; /* never, with the transact above */
-    return ending.fault.code;
+static uint8_t transact(void *context, const struct dovecounter_operation *operation, uint8_t bytes[128]) {
+    (void)context;
+    uint8_t address = operation->device >> 1, offset = operation->offset, count = operation->count;
+    if (operation->kind == DOVECOUNTER_FETCH)
+        return i2c_fetch(address, offset, bytes, count) ? DOVECOUNTER_FETCHED : DOVECOUNTER_REFUSED;
+    return i2c_store(address, offset, operation->bytes, count) ? DOVECOUNTER_STORED : DOVECOUNTER_REFUSED;
 }
 
-/* Returns 0, the status that refused, 1000 plus the fault's code, or 2000 if the module offers nothing that is worth
-   anything. Four paths of 100GAUI-2 outweigh one of 400GAUI-8. */
-uint32_t plan_and_provision(struct dovecounter_plan *plan) {
-    static const uint32_t weights[256] = {[0x0D] = 101, [0x11] = 400};
-    static const struct dovecounter_path kept[1]; /* the module carries nothing yet, so none is kept */
-    struct dovecounter_patience patience = {.pause = 100, .limit = 10000};
-    static struct dovecounter_half halves[DOVECOUNTER_MOST_READ];
-    struct dovecounter_conversation conversation;
+/* Carries out the conversation that has begun, and returns whether it succeeded. */
+static bool carry_out(struct outcome *outcome) {
+    struct dovecounter_ending ending = {0};
+    outcome->status = dovecounter_run(&conversation, memory, transact, wait_ms, NULL);
+    if (outcome->status == DOVECOUNTER_DONE) outcome->status = dovecounter_end(&conversation, memory, &ending);
+    outcome->fault = ending.fault;
+    return outcome->status == DOVECOUNTER_DONE && ending.fault.code == DOVECOUNTER_NO_FAULT;
+}
+
+/* Reads the module, plans, and judges the change. Four paths of 100GAUI-2 outweigh one of 400GAUI-8, unless that is active. */
+static bool judge_plan(uint8_t may_take_down, struct dovecounter_plan *plan, struct outcome *outcome) {
+    static const uint32_t weights[256] = {[0x0D] = 101, [0x11] = 400}, stay = 50;
+    static const struct dovecounter_path kept[1]; /* none: `stay` is enough */
     dovecounter_read_begin(128, &patience, &conversation);
-    uint8_t fault = carry_out(&conversation, halves);
-    if (fault != 0) return 1000 + fault;
-    uint32_t status = dovecounter_plan(halves, conversation.halves, 1, 0, weights, 0, kept, 0, plan);
-    if (status == DOVECOUNTER_DONE) status = dovecounter_patience(halves, conversation.halves, &patience);
-    if (status != DOVECOUNTER_DONE) return status;
-    if (plan->count == 0) return 2000; /* to provision it would take all lanes down */
-    dovecounter_provision_begin(plan->control, plan->outside, &patience, &conversation);
-    if ((fault = carry_out(&conversation, halves)) != 0) return 1000 + fault;
+    if (!carry_out(outcome)) return false;
+    outcome->status = dovecounter_plan(memory, conversation.halves, 1, 0, weights, stay, kept, 0, plan);
+    if (outcome->status != DOVECOUNTER_DONE) return false;
+    dovecounter_patience(memory, conversation.halves, &patience); /* succeeds, since the plan did */
+    struct dovecounter_change change = {
+        .lanes = plan->lanes, .outside = plan->outside, .spares = 1, .activates = 1, .may_take_down = may_take_down};
+    memcpy(change.control, plan->control, sizeof change.control);
+    outcome->status = dovecounter_judge(memory, conversation.halves, &change, &outcome->effect);
+    return outcome->status == DOVECOUNTER_DONE;
+}
+
+/* Returns whether the plan is up. Lanes that are up go down only if may_take_down has them. */
+bool plan_and_provision(uint8_t may_take_down, struct dovecounter_plan *plan, struct outcome *outcome) {
+    struct dovecounter_effect *effect = &outcome->effect;
+    *outcome = (struct outcome){0};
+    patience = (struct dovecounter_patience){.pause = 100, .limit = 10000}; /* until the module is known */
+    if (!judge_plan(may_take_down, plan, outcome)) return false;
+    if (effect->hindrance == DOVECOUNTER_OTHER_STATE && effect->state == DOVECOUNTER_MODULE_LOW_PWR) {
+        struct dovecounter_identity module;
+        dovecounter_identity(memory, conversation.halves, &module); /* succeeds too */
+        if (module.max_power > MOST_MILLIWATTS) return false;
+        dovecounter_wake_begin(&patience, &conversation);
+        if (!carry_out(outcome) || !judge_plan(may_take_down, plan, outcome)) return false;
+    }
+    if (effect->hindrance != DOVECOUNTER_UNHINDERED) return false;
+    if (effect->is_done) return true;
+    if (!effect->is_active) {
+        dovecounter_provision_begin(plan->control, effect->taken, &patience, &conversation);
+        if (!carry_out(outcome)) return false;
+    }
     dovecounter_activate_begin(plan->control, plan->lanes, &patience, &conversation);
-    fault = carry_out(&conversation, halves);
-    return fault == 0 ? DOVECOUNTER_DONE : 1000 + fault;
+    return carry_out(outcome);
 }

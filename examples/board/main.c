@@ -6,7 +6,8 @@
 /* Weights by HostInterfaceID: four paths of 100GAUI-2 weigh more than one of 400GAUI-8. */
 static const uint32_t weights[256] = {[0x0D] = 101, [0x11] = 400};
 
-/* The module carries nothing yet, so no path is kept. */
+/* The module carries nothing yet, so no path is kept, and all lanes are taken down. Firmware that may restart while the module carries
+   traffic plans and judges as examples/plan_and_provision.c does. */
 static const struct dovecounter_path kept[1];
 enum { KEPT = 0 };
 

@@ -1,0 +1,141 @@
+/* Runs the loop of examples/port_loop.c on a simulated module, from some seconds before the clock passes 2^32 on: a module is plugged,
+   comes up and is watched, the program restarts, the module is pulled, others are in low power, and a bus refuses all. Reads the text of
+   the module's image on standard input. */
+#include "../../examples/port_loop.c"
+
+#include "expect.h"
+#include "image.h"
+
+static const struct dovecounter_delays delays = {4, 4, 4, 4, 4, 4, 4};
+static struct dovecounter_module module;
+static uint64_t clock_now = ((uint64_t)1 << 32) - 3000;
+static unsigned transactions, stores, lines;
+static bool is_present, refuses_all;
+
+uint64_t milliseconds(void) { return clock_now; }
+bool module_is_present(void) { return is_present; }
+
+static void pass_one(void) {
+    clock_now++;
+    if (is_present) expect("a tick", DOVECOUNTER_DONE, dovecounter_module_tick(&module));
+}
+
+static bool is_made(uint32_t status) {
+    transactions++;
+    pass_one();
+    return status == DOVECOUNTER_DONE;
+}
+
+bool i2c_fetch(uint8_t address, uint8_t offset, uint8_t *bytes, uint8_t count) {
+    if (refuses_all) return is_made(DOVECOUNTER_NOT_TAKEN);
+    return is_made(
+        dovecounter_module_fetch(halves, half_count, &module, (uint8_t)(address << 1), offset, bytes, count));
+}
+
+bool i2c_store(uint8_t address, uint8_t offset, const uint8_t *bytes, uint8_t count) {
+    stores += offset != 126;
+    return is_made(
+        dovecounter_module_store(halves, half_count, &module, (uint8_t)(address << 1), offset, bytes, count));
+}
+
+/* The lines that are awaited, in their order. */
+static const struct line {
+    const char *what;
+    uint8_t code, fault;
+} * awaited;
+
+void print_line(const char *what, uint8_t code, uint8_t fault, uint8_t first) {
+    const struct line *line = &awaited[lines++];
+    expect(what, 0, (unsigned long)strcmp(what, line->what));
+    expect(what, line->code, code);
+    expect(what, line->fault, fault);
+    expect("a first value", 0, first);
+}
+
+/* Calls the loop for so long, in which these lines are printed. */
+static void run(const char *what, uint64_t time, unsigned count, const struct line wanted_lines[]) {
+    awaited = wanted_lines;
+    lines = transactions = stores = 0;
+    for (uint64_t end = clock_now + time; clock_now < end && lines <= count; pass_one()) poll_port();
+    expect(what, count, lines);
+}
+
+static void plug(void) {
+    is_present = true;
+    expect("a module", DOVECOUNTER_DONE, dovecounter_module_begin(halves, half_count, &delays, &module));
+}
+
+static void pull(void) {
+    static const struct line pulled[] = {{"pulled", 0, 0}, {"", 0, 0}};
+    is_present = false;
+    run("it is pulled", 100, 1, pulled);
+    expect("and left alone", 0, transactions);
+}
+
+static void expect_up(void) {
+    for (int lane = 0; lane < 8; lane++) expect("a lane is up", DOVECOUNTER_DP_ACTIVATED, module.lanes[lane].path);
+}
+
+static void try_life(void) {
+    static const struct line nothing[] = {{"", 0, 0}};
+    static const struct line plugged[] = {{"plugged", 0, 0}, {"", 0, 0}};
+    static const struct line comes_up[] = {{"went on", DOVECOUNTER_PORT_IDENTIFIED, 0},
+                                           {"went on", DOVECOUNTER_PORT_PROVISIONED, 0},
+                                           {"went on", DOVECOUNTER_PORT_CAME_UP, 0},
+                                           {"", 0, 0}};
+    static const struct line is_up[] = {{"plugged", 0, 0}, {"went on", DOVECOUNTER_PORT_CAME_UP, 0}, {"", 0, 0}};
+    begin_port();
+    run("an empty cage", 100, 0, nothing);
+    expect("has no transaction", 0, transactions);
+    plug();
+    run("a module settles", 1990, 1, plugged);
+    expect("without a transaction", 0, transactions);
+    run("it comes up", 5000, 3, comes_up);
+    expect_up();
+    run("it is watched", 25000, 0, nothing);
+    expect("by some looks", 1, transactions > 8);
+    expect("that store nothing", 0, stores);
+    begin_port();
+    run("a restart finds it up", 5000, 2, is_up);
+    expect("and stores nothing", 0, stores);
+    expect_up();
+    pull();
+}
+
+static void try_low_power(void) {
+    static const struct line woken[] = {{"plugged", 0, 0},
+                                        {"went on", DOVECOUNTER_PORT_IDENTIFIED, 0},
+                                        {"went on", DOVECOUNTER_PORT_WOKEN, 0},
+                                        {"went on", DOVECOUNTER_PORT_IDENTIFIED, 0},
+                                        {"went on", DOVECOUNTER_PORT_PROVISIONED, 0},
+                                        {"went on", DOVECOUNTER_PORT_CAME_UP, 0},
+                                        {"", 0, 0}};
+    static const struct line left[] = {{"plugged", 0, 0}, {"left alone", DOVECOUNTER_LEFT_NEEDS_POWER, 0}, {"", 0, 0}};
+    halves[0].bytes[26] = 0x10; /* LowPwrRequestSW */
+    plug();
+    run("a module in low power is woken", 9000, 6, woken);
+    expect_up();
+    pull();
+    halves[1].bytes[201 - 128]++; /* a quarter of a watt */
+    set_sum(&halves[1], 128, 221, 222);
+    plug();
+    run("one that needs more power isn't", 60000, 2, left);
+    expect("and is left alone", 13, transactions);
+    pull();
+}
+
+static void try_silence(void) {
+    static const struct line failed[] = {{"plugged", 0, 0}, {"failed", DOVECOUNTER_PORT_UNREAD, 0}, {"", 0, 0}};
+    refuses_all = true;
+    plug();
+    run("a bus that refuses all", 15000, 2, failed);
+    pull();
+}
+
+int main(void) {
+    read_halves();
+    try_life();
+    try_low_power();
+    try_silence();
+    return judged("port_loop");
+}
