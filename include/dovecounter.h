@@ -710,7 +710,7 @@ struct dovecounter_progress {
 };
 
 /* A conversation under way. You may copy it, save it and read halves, but don't write its fields: a changed one is
-   refused, or taken for another conversation (docs/firmware.md, "The fields of a conversation"). */
+   refused, or taken for another conversation (docs/firmware.md, "The numbers of a conversation"). */
 struct dovecounter_conversation {
     uint32_t magic;
     struct dovecounter_progress saved;
