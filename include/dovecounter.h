@@ -549,7 +549,8 @@ struct dovecounter_plan {
    stay is not 0). Pass paired 1 if the module joins an Application's first host lanes and first media lanes in order.
    No register shows that; 1 fits any module, so pass 1 if in doubt.
 
-   Next, pass control and outside to dovecounter_provision_begin, then control and lanes to
+   Next, unless the module carries nothing, ask dovecounter_judge what the plan would take down: `outside` has all lanes
+   if nothing is kept. Then pass control and outside to dovecounter_provision_begin, then control and lanes to
    dovecounter_activate_begin. Save paths if you will want to keep them: no register holds the media lanes of a path. */
 uint32_t dovecounter_plan(const struct dovecounter_half *halves, size_t half_count, uint8_t paired,
                           uint8_t counts_by_id, const uint32_t weights[256], uint32_t stay,
@@ -667,7 +668,7 @@ enum dovecounter_fault_code {
      reading        any                         nothing (perhaps no module is there), but flags may be cleared
      provisioning   NOT_READY                   nothing
                     NOT_STAGED                  lanes taken down, bytes staged
-                    REJECTED, NOT_ACTIVE        the same, and the apply was requested
+                    REJECTED, NOT_ACTIVE        as NOT_STAGED, and the apply was requested
                     any other                   any part of this
      activation     NOT_ACTIVE, NOT_READY       nothing
                     any other                   lanes may be going up or down

@@ -143,6 +143,11 @@ static void try_low_power(void) {
     silent_from = 14;
     silent_until = UINT32_MAX;
     fail("silent when it is woken", DOVECOUNTER_DONE, DOVECOUNTER_OVERDUE);
+    begin(0);
+    silent_from = 26;
+    silent_until = UINT32_MAX;
+    fail("silent when it is read again", DOVECOUNTER_DONE, DOVECOUNTER_OVERDUE);
+    expect("it was awake", DOVECOUNTER_MODULE_READY, module.state);
     halves[1].bytes[201 - 128]++; /* a quarter of a watt */
     set_sum(&halves[1], 128, 221, 222);
     begin(0);

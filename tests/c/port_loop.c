@@ -93,7 +93,7 @@ static void try_life(void) {
     run("it comes up", 5000, 3, comes_up);
     expect_up();
     run("it is watched", 25000, 0, nothing);
-    expect("by some looks", 1, transactions > 8);
+    expect("by two looks", 1, transactions >= 8);
     expect("that store nothing", 0, stores);
     begin_port();
     run("a restart finds it up", 5000, 2, is_up);
