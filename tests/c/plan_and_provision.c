@@ -10,6 +10,7 @@ static struct dovecounter_module module;
 static unsigned transactions, stores, refuse_each; /* every so many one is refused; all of them if it is 1 */
 static unsigned silent_from, silent_until;         /* from one to before the other all are refused */
 static uint32_t slept, longest;
+static uint8_t held_down; /* lanes whose DPDeinit bit was stored */
 static bool is_of_cmis = true;
 
 static bool refuses(void) {
@@ -30,6 +31,7 @@ bool i2c_fetch(uint8_t address, uint8_t offset, uint8_t *bytes, uint8_t count) {
 
 bool i2c_store(uint8_t address, uint8_t offset, const uint8_t *bytes, uint8_t count) {
     stores += offset != 126;
+    if (offset == 128) held_down |= bytes[0];
     return !refuses() && dovecounter_module_store(halves, half_count, &module, (uint8_t)(address << 1), offset, bytes,
                                                   count) == DOVECOUNTER_DONE;
 }
@@ -124,6 +126,13 @@ static void try_again(void) {
     succeed("another plan that is permitted", 0xFF);
     expect("is provisioned", 4, plan.count);
     change_host_id(1, 0x11);
+    for (int lane = 2; lane < 8; lane++) module.lanes[lane].path = DOVECOUNTER_DP_DEACTIVATED;
+    for (int lane = 2; lane < 8; lane++) module.lanes[lane].active = 0;
+    held_down = 0;
+    succeed("paths beside one that is up", 0);
+    expect("are provisioned", 0xFC, outcome.effect.taken);
+    expect("and take down no other", 0xFC, held_down);
+    module.deinit = 0xFF; /* the host held the lanes down */
     for (int lane = 0; lane < 8; lane++) module.lanes[lane].path = DOVECOUNTER_DP_DEACTIVATED;
     stores = 0;
     succeed("a plan that is active, and down", 0);
