@@ -1,0 +1,5 @@
+mod frozen_statistics;
+mod lane_changes;
+mod lane_pages;
+mod link_tests;
+mod updates;
