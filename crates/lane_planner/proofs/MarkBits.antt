@@ -1,5 +1,5 @@
 -- Marks that are kept as bits.
-use Rattle.std.proofs.Common.{◌≡◌, ℕ, ◌+◌, ◌/◌, ◌%◌, ◌<◌, Bool, true, false, List, length, map, replicate, set, get_or, nat_eq, refl, sym, ap, ◌∙◌, inl, inr, arith}
+use Rattle.std.proofs.Common.{◌≡◌, ℕ, ◌/◌, ◌%◌, ◌<◌, Bool, true, false, List, length, replicate, set, get_or, nat_eq, sym, ap, ◌∙◌, inl, inr, arith}
 use Rattle.std.proofs.Common.{get_or-set_same, get_or-set_other}
 use Rattle.std.proofs.Math.ListN.{length-replicate, length-set}
 use Rattle.std.proofs.lemmas.Bool.{cases_eq}
@@ -53,6 +53,16 @@ marks_set bytes place new all below is_set others =
                 ∙ sym kept
           ]
     ])
+
+-- if a byte has no bit set, none of its places is marked
+pub none_in_byte : (bytes : List ℕ) (place other : ℕ) → get_or bytes (place / 8) 0 ≡ 0 → other < 2304 → other / 8 ≡ place / 8 → get_or (marks_in bytes) other false ≡ true → ⊥
+none_in_byte bytes place other none below same marked =
+    let not : get_or (marks_in bytes) other false ≡ false =
+    mark_at bytes other below
+    ∙ ap (λ (k : ℕ). nat_eq (bit_at (get_or bytes k 0) (other % 8)) 1) same
+    ∙ ap (λ (b : ℕ). nat_eq (bit_at b (other % 8)) 1) none
+    ∙ ap (λ (b : ℕ). nat_eq b 1) (bit_at-zero (other % 8)) in
+    let wrong : true ≡ false = sym marked ∙ not in cc
 
 pub marks_blank : (n states : ℕ) → n ≡ 288 → states ≡ 2304 → marks_in (replicate n 0) ≡ replicate states false
 marks_blank n states is all =

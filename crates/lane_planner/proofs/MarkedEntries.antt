@@ -1,7 +1,7 @@
 -- The entries of the marked states as one list.
-use Rattle.std.proofs.Common.{◌≡◌, ℕ, zero, suc, ◌+◌, ◌≤◌, ◌++◌, ◌∷◌, [], Bool, true, false, cond, List, filter, get_or, map, refl, sym, subst, ap, ◌∙◌, inl, inr, arith}
+use Rattle.std.proofs.Common.{◌≡◌, ℕ, zero, suc, ◌+◌, ◌<◌, ◌≤◌, ◌++◌, ◌∷◌, [], Bool, true, false, cond, List, filter, get_or, map, refl, sym, subst, ap, ◌∙◌, inl, inr, arith}
 use Rattle.std.specs.List.{range_with_len}
-use Rattle.std.proofs.lemmas.Bool.{cases_Bool}
+use Rattle.std.proofs.lemmas.Bool.{cases_Bool, cases_lt}
 use Rattle.std.proofs.lemmas.List.{append-nil}
 use Rattle.std.proofs.lemmas.List.FromFn.{filter_of_map_range_with_len_more}
 use Rattle.plan_certificate.specs.declared.certificate.Entry.{Entry}
@@ -38,8 +38,26 @@ entries_more marks table place is marked =
 pub one_marked : (marks : List Bool) (table : List ℕ) (place : ℕ) → IsMarked marks place → marked_entries marks table (place + 1) ≡ marked_entries marks table place ++ entry_at table place ∷ []
 one_marked marks table place marked = entries_more marks table place true marked
 
-pub not_marked : (marks : List Bool) (table : List ℕ) (place : ℕ) → get_or marks place false ≡ false → marked_entries marks table (place + 1) ≡ marked_entries marks table place
+not_marked : (marks : List Bool) (table : List ℕ) (place : ℕ) → get_or marks place false ≡ false → marked_entries marks table (place + 1) ≡ marked_entries marks table place
 not_marked marks table place not = entries_more marks table place false not ∙ append-nil (marked_entries marks table place)
+
+is_false : (b : Bool) → (b ≡ true → ⊥) → b ≡ false
+is_false b not = elim (cases_Bool b) [
+  | inl is ↦ absurd (not is)
+  | inr unmarked ↦ unmarked
+]
+
+-- places that aren't marked add none
+pub none_between : (marks : List Bool) (table : List ℕ) (place end : ℕ) → place ≤ end → ((other : ℕ) → place ≤ other → other < end → IsMarked marks other → ⊥) → marked_entries marks table end ≡ marked_entries marks table place
+none_between marks table place zero within not = (let same : zero ≡ place = omega (arith, within) in ap (marked_entries marks table) same)
+none_between marks table place (suc end) within not = elim (cases_lt end place) [
+  | inl last ↦ (let same : suc end ≡ place = omega (arith, last, within) in ap (marked_entries marks table) same)
+  | inr more ↦
+      let next : suc end ≡ end + 1 = omega arith in
+      ap (marked_entries marks table) next
+      ∙ not_marked marks table end (is_false (get_or marks end false) (not end more (omega arith)))
+      ∙ none_between marks table place end more (λ other past low. not other past (omega (arith, low)))
+]
 
 pub are_marked : (marks : List Bool) (table : List ℕ) (n : ℕ) → n ≤ 2304 → AreEntries marks table n (marked_entries marks table n)
 are_marked marks table zero within = subst (AreEntries marks table 0) (sym (none_marked marks table)) (no_entries marks table)

@@ -3,7 +3,7 @@ use Rattle.std.proofs.Common.{◌≡◌, ℕ, ◌+◌, ◌<◌, ◌≤◌, Bool,
 use Rattle.std.specs.List.{Contains}
 use Rattle.std.proofs.Common.{get_or-set_same, get_or-set_other}
 use Rattle.std.proofs.Math.ListN.{set, length-set}
-use Rattle.std.proofs.lemmas.Bool.{cases_eq}
+use Rattle.std.proofs.lemmas.Bool.{cases_eq, cases_lt}
 use Rattle.std.proofs.lemmas.List.Elements.{Contains-append_left, Contains-push, Contains-push_cases}
 use Rattle.plan_certificate.specs.declared.path.Path.{Path}
 use Rattle.applications.specs.Advertised.{Advertised}
@@ -55,16 +55,16 @@ none_marked marks = record {
 pub unmarked : (marks : List Bool) (place : ℕ) → get_or marks place false ≡ false → IsMarked marks place → ⊥
 unmarked marks place none marked = let wrong : true ≡ false = sym marked ∙ none in cc
 
--- one place further, where its state isn't marked
-pub marks_past : (advert : Advertised) (weights : PathWeights) (kept : List Path) (place : ℕ) (marks : List Bool) → AreMarks advert weights kept place marks → (IsMarked marks place → ⊥) → AreMarks advert weights kept (place + 1) marks
-marks_past advert weights kept place marks are not = record {
+-- further on, up to where no state is marked
+pub marks_past : (advert : Advertised) (weights : PathWeights) (kept : List Path) (place end : ℕ) (marks : List Bool) → AreMarks advert weights kept place marks → ((other : ℕ) → place ≤ other → other < end → IsMarked marks other → ⊥) → AreMarks advert weights kept end marks
+marks_past advert weights kept place end marks are not = record {
   all = are.all;
   begun = are.begun;
   sound = are.sound;
   closed = λ other low marked.
-      elim (cases_eq other place) [
-        | inl same ↦ absurd (not (subst (IsMarked marks) same marked))
-        | inr differs ↦ are.closed other (omega (arith, low, differs)) marked
+      elim (cases_lt other place) [
+        | inl before ↦ are.closed other before marked
+        | inr past ↦ absurd (not other past low marked)
       ];
 }
 

@@ -3,7 +3,7 @@ use Rattle.std.proofs.Common.{◌≡◌, ℕ, zero, suc, ◌+◌, ◌*◌, ◌/�
 use Rattle.std.proofs.Common.{get_or-set_same, get_or-set_other}
 use Rattle.std.specs.List.{Contains}
 use Rattle.std.proofs.Math.ListN.{length-replicate, length-set}
-use Rattle.std.proofs.lemmas.Bool.{cases_eq}
+use Rattle.std.proofs.lemmas.Bool.{cases_eq, cases_lt}
 use Rattle.plan_certificate.specs.declared.path.Path.{Path}
 use Rattle.applications.specs.Advertised.{Advertised}
 use Rattle.applications.specs.AppWeights.{PathWeights}
@@ -33,15 +33,16 @@ gain_after advert weights kept table place decision has is contains =
 pub small_in : (table : List ℕ) (state : State) → IsTable table → state.boundary ≤ 8 → gain_at table state ≤ 17179869180 * (8 - state.boundary)
 small_in table state numbers within = omega (arith, numbers.small (state_place state) (place_below state within), boundary_of_place state)
 
--- ---- one state more
+-- ---- more states
 
-pub gains_past : (advert : Advertised) (weights : PathWeights) (kept : List Path) (place : ℕ) (table : List ℕ) → HasGains advert weights kept (place + 1) table → (IsReached advert weights kept (state_at place) → ⊥) → HasGains advert weights kept place table
-gains_past advert weights kept place table has not = record {
+-- those before it that nothing reaches
+pub gains_past : (advert : Advertised) (weights : PathWeights) (kept : List Path) (place end : ℕ) (table : List ℕ) → HasGains advert weights kept end table → ((other : ℕ) → place ≤ other → other < end → IsReached advert weights kept (state_at other) → ⊥) → HasGains advert weights kept place table
+gains_past advert weights kept place end table has not = record {
   numbers = has.numbers;
   gains = λ k from inside is.
-      elim (cases_eq k place) [
-        | inl same ↦ absurd (not (subst (λ (n : ℕ). IsReached advert weights kept (state_at n)) same is))
-        | inr other ↦ has.gains k (omega (arith, from, other)) inside is
+      elim (cases_lt k end) [
+        | inl before ↦ absurd (not k from before is)
+        | inr past ↦ has.gains k past inside is
       ];
 }
 

@@ -1,6 +1,6 @@
 -- Marks on states, by their places: those that decisions from the start reach. (docs/planning.md, "The planner"; this project's
 -- own)
-use Rattle.std.specs.Prelude.{◌≡◌, ◌↔◌, ℕ, ◌<◌, ◌⊎◌, Bool, true, false, List, length, Contains, slice_index_or}
+use Rattle.std.specs.Prelude.{◌≡◌, ◌↔◌, ℕ, ◌-◌, ◌<◌, ◌≤◌, ◌⊎◌, Bool, true, false, List, length, Contains, slice_index_or}
 use Rattle.applications.specs.Advertised.{Advertised}
 use Rattle.applications.specs.AppWeights.{PathWeights}
 use Rattle.plan_certificate.specs.declared.path.Path.{Path}
@@ -11,6 +11,20 @@ use Rattle.plan_certificate.specs.Limits.{most_states}
 
 abbrev pub IsMarked : List Bool → ℕ → Type 0
 IsMarked marks place = slice_index_or marks place false ≡ true
+
+-- the first marked place from one on and before an end; the end if there is none
+pub record IsFirstMarked (marks : List Bool) (from end place : ℕ) : Type 0 where
+  pub after : from ≤ place
+  pub within : place ≤ end
+  pub none : (other : ℕ) → from ≤ other → other < place → IsMarked marks other → ⊥
+  pub marked : place < end → IsMarked marks place
+
+-- the place after the last marked one of these; the one that they begin with if there is none
+pub record IsPastLastMarked (marks : List Bool) (from end place : ℕ) : Type 0 where
+  pub after : from ≤ place
+  pub within : place ≤ end
+  pub none : (other : ℕ) → place ≤ other → other < end → IsMarked marks other → ⊥
+  pub marked : from < place → IsMarked marks (place - 1)
 
 -- exactly the states that decisions from the start reach are marked
 pub record MarksReached (advert : Advertised) (weights : PathWeights) (kept : List Path) (marks : List Bool) : Type 0 where

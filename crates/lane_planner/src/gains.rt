@@ -26,14 +26,15 @@ pub fn put_gains(
     let mut moves = FollowedMoves::none();
     for boundary in (0..HOST_LANES).rev() {
         moves.list(advert, weights, kept, boundary);
-        for used in (0..256usize).rev() {
-            let place = 256 * usize::from(boundary) + used;
-            if marks.has(place) {
-                let state = State::at(place);
-                let free = moves.may_stay_free;
-                let gain = most(free, moves.moves.as_slice(), table, &state);
-                table.put(place, gain);
-            }
+        let from = 256 * usize::from(boundary);
+        let mut past = marks.past_last(from, from + 256);
+        while from < past {
+            let place = past - 1;
+            let state = State::at(place);
+            let free = moves.may_stay_free;
+            let gain = most(free, moves.moves.as_slice(), table, &state);
+            table.put(place, gain);
+            past = marks.past_last(from, place);
         }
     }
 }

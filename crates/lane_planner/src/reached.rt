@@ -18,13 +18,14 @@ pub fn reached(advert: &Advert, weights: &AppWeights, kept: &[Path], marks: &mut
     marks.mark(0);
     for boundary in 0..HOST_LANES {
         moves.list(advert, weights, kept, boundary);
-        for used in 0..256usize {
-            let place = 256 * usize::from(boundary) + used;
-            if marks.has(place) {
-                let state = State::at(place);
-                let free = moves.may_stay_free;
-                mark_ends(marks, free, moves.moves.as_slice(), &state);
-            }
+        let from = 256 * usize::from(boundary);
+        let end = from + 256;
+        let mut place = marks.first(from, end);
+        while place < end {
+            let state = State::at(place);
+            let free = moves.may_stay_free;
+            mark_ends(marks, free, moves.moves.as_slice(), &state);
+            place = marks.first(place + 1, end);
         }
     }
 }

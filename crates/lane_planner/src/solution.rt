@@ -87,10 +87,10 @@ fn entries_of(marks: &Marks, table: &Table) -> Entries<'static, STATES>
     ensures { result.entries ≡ marked_entries marks.now table.now STATES }
 {
     let mut entries = Entries::new();
-    for place in 0..STATES {
-        if marks.has(place) {
-            entries.push(entry_at(table, place));
-        }
+    let mut place = marks.first(0, STATES);
+    while place < STATES {
+        entries.push(entry_at(table, place));
+        place = marks.first(place + 1, STATES);
     }
     entries
 }

@@ -120,11 +120,11 @@ fn put_entries(buffer: &mut [u8], len: &mut usize, marks: &Marks, table: &Table)
     ensures each { AllByRecursion IsEntryInRange (marked_entries marks.now table.now STATES) }
     ensures small { len.new ≤ len.old + 32 * STATES }
 {
-    for place in 0..STATES {
-        if marks.has(place) {
-            let line = entry_line(entry_at(table, place));
-            put(buffer, len, line.as_slice());
-        }
+    let mut place = marks.first(0, STATES);
+    while place < STATES {
+        let line = entry_line(entry_at(table, place));
+        put(buffer, len, line.as_slice());
+        place = marks.first(place + 1, STATES);
     }
 }
 

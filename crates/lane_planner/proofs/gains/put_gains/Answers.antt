@@ -1,4 +1,4 @@
-use Rattle.std.proofs.Common.{Bool, ◌≡◌, ℕ, ◌+◌, ◌-◌, ◌*◌, ◌/◌, ◌<◌, List, refl, set, sym, subst, ap, ◌∙◌, arith}
+use Rattle.std.proofs.Common.{Bool, ◌≡◌, ℕ, ◌+◌, ◌-◌, ◌*◌, ◌/◌, ◌<◌, List, refl, sym, subst, ap, arith}
 use Rattle.std.specs.List.{All}
 use Rattle.plan_certificate.specs.declared.moves.Move.{Move}
 use Rattle.plan_certificate.specs.declared.state.State.{State}
@@ -8,7 +8,6 @@ use Rattle.plan_certificate.proofs.HeaviestMoves.{heaviest_lead_on}
 use Rattle.lane_planner.specs.Marks.{IsMarked}
 use Rattle.lane_planner.specs.Tables.{HasGains, IsMost}
 use Rattle.lane_planner.proofs.FirstBoundary.{reached_has_cell}
-use Rattle.lane_planner.proofs.Marking.{unmarked}
 use Rattle.lane_planner.proofs.MostGained.{gain_is_most}
 use Rattle.lane_planner.proofs.TableGains.{gains_begun, gains_more, gains_past}
 use Rattle.lane_planner.proofs.gains.put_gains.Goals as goal
@@ -16,50 +15,74 @@ use Rattle.lane_planner.proofs.gains.put_gains.Goals as goal
 pub loop-boundary-init : goal.loop-boundary-init
 loop-boundary-init c = subst (HasGains c.args.advert.now c.args.weights.now c.args.kept.now 2048) (sym c.requires.blank) (gains_begun c.args.advert.now c.args.weights.now c.args.kept.now 2304 refl)
 
-pub loop-used-init : goal.loop-used-init
-loop-used-init c =
-    let same : 256 * c.loop-boundary.boundary ≡ 256 * (c.loop-boundary.boundary - 1) + 256 = omega (arith, c.loop-boundary-test.true) in
-    subst (λ (n : ℕ). HasGains c.args.advert.now c.args.weights.now c.args.kept.now n c.loop-boundary.table) same c.loop-boundary.invariant
+pub loop-past-init : goal.loop-past-init
+loop-past-init c =
+    let marks = c.args.marks.now in
+    let upper : ℕ = c.loop-boundary.boundary in
+    let found = c.past_last-past.ensures in
+    let read : 256 * c.from-from.result ≡ 256 * (upper - 1) = omega (arith, c.from-from.ensures) in
+    let next : 256 * (upper - 1) + 256 ≡ 256 * upper = omega (arith, c.loop-boundary-test.true) in
+    record {
+      gains = gains_past c.args.advert.now c.args.weights.now c.args.kept.now c.past_last-past.result (256 * upper) c.loop-boundary.table c.loop-boundary.invariant (λ other past low is.
+          found.none other past (omega (arith, low, read, next)) ((c.requires.marks.reached other (omega (arith, low, c.loop-boundary.auto.boundary))).1 is));
+      from = omega (arith, found.after, read);
+      within = omega (arith, found.within, read);
+      marked = λ low. found.marked (omega (arith, low, read));
+    }
 
 pub loop-boundary-preserved : goal.loop-boundary-preserved
 loop-boundary-preserved c =
-    let same : 256 * (c.loop-boundary.boundary - 1) + c.loop-used.used ≡ 256 * (c.loop-boundary.boundary - 1) = omega (arith, c.loop-used-test.false) in
-    subst (λ (n : ℕ). HasGains c.args.advert.now c.args.weights.now c.args.kept.now n c.loop-used.table) same c.loop-used.invariant
+    let ended : c.loop-past.past ≡ 256 * (c.loop-boundary.boundary - 1) = omega (arith, c.loop-past.invariant.from, c.loop-past-test.false, c.from-from.ensures) in
+    subst (λ (n : ℕ). HasGains c.args.advert.now c.args.weights.now c.args.kept.now n c.loop-past.table) ended c.loop-past.invariant.gains
 
 pub most-gain-requires-clause-lead_on : goal.most-gain-requires-clause-lead_on
 most-gain-requires-clause-lead_on c =
     let boundary : ℕ = c.loop-boundary.boundary - 1 in
     let are = c.list.ensures in
-    let at : boundary ≡ c.at-state.result.boundary = omega (arith, ap (λ (s : State). s.boundary) c.at-state.ensures, c.from.ensures, c.loop-used-test.true, c.loop-used.auto.used) in
+    let at : boundary ≡ c.at-state.result.boundary = omega (arith, ap (λ (s : State). s.boundary) c.at-state.ensures, c.from-from.ensures, c.loop-past-test.true, c.loop-past.invariant.within) in
     let each = heaviest_lead_on boundary (moves_at c.args.advert.now c.args.weights.now c.args.kept.now (boundary + 1)) c.list.new.self.moves.items are.heavy are.lead_on in
     subst (λ (moves : List Move). All (LeadsOn c.at-state.result.boundary) moves) (sym c.as_slice.ensures.value) (subst (λ (n : ℕ). All (LeadsOn n) c.list.new.self.moves.items) at each)
 
-pub loop-used-preserved-then-has : goal.loop-used-preserved-then-has
-loop-used-preserved-then-has c =
+pub loop-past-preserved : goal.loop-past-preserved
+loop-past-preserved c =
     let advert = c.args.advert.now in
     let weights = c.args.weights.now in
     let kept = c.args.kept.now in
-    let table = c.loop-used.table in
+    let table = c.loop-past.table in
+    let so_far = c.loop-past.invariant in
     let boundary : ℕ = c.loop-boundary.boundary - 1 in
-    let place : ℕ = 256 * boundary + (c.loop-used.used - 1) in
-    let read : 256 * c.from.result + (c.loop-used.used - 1) ≡ place = omega (arith, c.from.ensures) in
-    let next : 256 * boundary + c.loop-used.used ≡ place + 1 = omega (arith, c.loop-used-test.true) in
-    let has : HasGains advert weights kept (place + 1) table = subst (λ (n : ℕ). HasGains advert weights kept n table) next c.loop-used.invariant in
-    let at : place / 256 ≡ boundary = omega (arith, c.loop-used-test.true, c.loop-used.auto.used) in
-    let below : place < 2304 = omega (arith, c.loop-used-test.true, c.loop-used.auto.used, c.loop-boundary-test.true, c.loop-boundary.auto.boundary) in
-    let marked : IsMarked c.args.marks.now place = subst (IsMarked c.args.marks.now) read (sym c.has.ensures ∙ c.if-has.true) in
-    let state : c.at-state.result ≡ state_at place = c.at-state.ensures ∙ ap state_at read in
+    let place : ℕ = c.loop-past.past - 1 in
+    let gain : ℕ = c.most-gain.result in
+    let read : 256 * c.from-from.result ≡ 256 * boundary = omega (arith, c.from-from.ensures) in
+    let next : c.loop-past.past ≡ place + 1 = omega (arith, c.loop-past-test.true) in
+    let has : HasGains advert weights kept (place + 1) table = subst (λ (n : ℕ). HasGains advert weights kept n table) next so_far.gains in
+    let at : place / 256 ≡ boundary = omega (arith, c.loop-past-test.true, so_far.within, read) in
+    let below : place < 2304 = omega (arith, c.loop-past-test.true, so_far.within, c.loop-boundary-test.true, c.loop-boundary.auto.boundary) in
+    let marked : IsMarked c.args.marks.now place = so_far.marked (omega (arith, c.loop-past-test.true, read)) in
+    let state : c.at-state.result ≡ state_at place = c.at-state.ensures in
     let free : Bool = c.list.new.self.may_stay_free in
-    let found = subst (λ (moves : List Move). IsMost table (decisions_by free (state_at place) moves) c.most-gain.result) c.as_slice.ensures.value (subst (λ (s : State). IsMost table (decisions_by free s c.as_slice.result.now) c.most-gain.result) state c.most-gain.ensures.most) in
-    let gain = gain_is_most advert weights kept table place c.most-gain.result boundary free (moves_at c.args.advert.now c.args.weights.now c.args.kept.now (boundary + 1)) c.list.new.self.moves.items at (omega (arith, c.loop-boundary-test.true, c.loop-boundary.auto.boundary)) has ((c.requires.marks.reached place below).0 marked) c.list.ensures found in
-    let more = gains_more advert weights kept place table c.most-gain.result has below gain (omega (arith, c.most-gain.ensures.small, ap (λ (s : State). s.boundary) state)) in
-    subst (HasGains advert weights kept place) (sym c.put.ensures) (subst (λ (n : ℕ). HasGains advert weights kept place (set table n c.most-gain.result)) (sym read) more)
+    let found = subst (λ (moves : List Move). IsMost table (decisions_by free (state_at place) moves) gain) c.as_slice.ensures.value (subst (λ (s : State). IsMost table (decisions_by free s c.as_slice.result.now) gain) state c.most-gain.ensures.most) in
+    let is = gain_is_most advert weights kept table place gain boundary free (moves_at c.args.advert.now c.args.weights.now c.args.kept.now (boundary + 1)) c.list.new.self.moves.items at (omega (arith, c.loop-boundary-test.true, c.loop-boundary.auto.boundary)) has ((c.requires.marks.reached place below).0 marked) c.list.ensures found in
+    let more = gains_more advert weights kept place table gain has below is (omega (arith, c.most-gain.ensures.small, ap (λ (s : State). s.boundary) state)) in
+    let put = subst (HasGains advert weights kept place) (sym c.put.ensures) more in
+    let last = c.past_last-past-in-loop-past.ensures in
+    record {
+      gains = gains_past advert weights kept c.past_last-past-in-loop-past.result place c.put.new.self put (λ other past low reached.
+          last.none other past low ((c.requires.marks.reached other (omega (arith, low, below))).1 reached));
+      from = omega (arith, last.after, read);
+      within = omega (arith, last.within, so_far.within);
+      marked = λ low. last.marked (omega (arith, low, read));
+    }
+
+pub loop-past-smaller : goal.loop-past-smaller
+loop-past-smaller c = omega (arith, c.past_last-past-in-loop-past.ensures.within, c.loop-past-test.true)
 
 pub put-requires-clause-place : goal.put-requires-clause-place
 put-requires-clause-place c =
-    let place : ℕ = 256 * c.from.result + (c.loop-used.used - 1) in
-    let below : place < 2048 = omega (arith, c.from.ensures, c.loop-used-test.true, c.loop-used.auto.used, c.loop-boundary-test.true, c.loop-boundary.auto.boundary) in
-    let marked : IsMarked c.args.marks.now place = sym c.has.ensures ∙ c.if-has.true in
+    let place : ℕ = c.loop-past.past - 1 in
+    let so_far = c.loop-past.invariant in
+    let below : place < 2048 = omega (arith, c.loop-past-test.true, so_far.within, c.loop-boundary-test.true, c.loop-boundary.auto.boundary) in
+    let marked : IsMarked c.args.marks.now place = so_far.marked (omega (arith, c.loop-past-test.true, c.from-from.ensures)) in
     reached_has_cell c.args.advert.now c.args.weights.now c.args.kept.now place ((c.requires.marks.reached place (omega (arith, below))).0 marked) below
 
 pub put-requires-clause-small : goal.put-requires-clause-small
@@ -69,18 +92,3 @@ pub returns : goal.returns
 returns c =
     let start : 256 * c.loop-boundary.boundary ≡ 0 = omega (arith, c.loop-boundary-test.false) in
     subst (λ (n : ℕ). HasGains c.args.advert.now c.args.weights.now c.args.kept.now n c.loop-boundary.table) start c.loop-boundary.invariant
-
-pub loop-used-preserved : goal.loop-used-preserved
-loop-used-preserved c =
-    let advert = c.args.advert.now in
-    let weights = c.args.weights.now in
-    let kept = c.args.kept.now in
-    let table = c.loop-used.table in
-    let boundary : ℕ = c.loop-boundary.boundary - 1 in
-    let place : ℕ = 256 * boundary + (c.loop-used.used - 1) in
-    let read : 256 * c.from.result + (c.loop-used.used - 1) ≡ place = omega (arith, c.from.ensures) in
-    let next : 256 * boundary + c.loop-used.used ≡ place + 1 = omega (arith, c.loop-used-test.true) in
-    let below : place < 2304 = omega (arith, c.loop-used-test.true, c.loop-used.auto.used, c.loop-boundary-test.true, c.loop-boundary.auto.boundary) in
-    gains_past advert weights kept place table (subst (λ (n : ℕ). HasGains advert weights kept n table) next c.loop-used.invariant)
-    (λ is.
-    unmarked c.args.marks.now (256 * c.from.result + (c.loop-used.used - 1)) (sym c.has.ensures ∙ c.if-has.false) (subst (IsMarked c.args.marks.now) (sym read) ((c.requires.marks.reached place below).1 is)))

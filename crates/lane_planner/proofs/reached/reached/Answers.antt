@@ -1,4 +1,4 @@
-use Rattle.std.proofs.Common.{Bool, ◌≡◌, ℕ, ◌+◌, ◌*◌, ◌<◌, List, true, refl, set, sym, subst, ap, ◌∙◌, arith}
+use Rattle.std.proofs.Common.{Bool, ◌≡◌, ℕ, ◌+◌, ◌*◌, ◌<◌, List, true, refl, set, sym, subst, ap, arith}
 use Rattle.std.specs.List.{All}
 use Rattle.plan_certificate.specs.declared.moves.Move.{Move}
 use Rattle.plan_certificate.specs.declared.state.State.{State}
@@ -7,11 +7,10 @@ use Rattle.plan_certificate.specs.States.{state_at}
 use Rattle.plan_certificate.specs.Moves.{LeadsOn, moves_at, decisions_by}
 use Rattle.plan_certificate.proofs.HeaviestMoves.{heaviest_lead_on}
 use Rattle.plan_certificate.proofs.MoveDecisions.{listed_are_decisions}
-use Rattle.lane_planner.specs.Marks.{AreMarks, IsMarked, MarksEnds}
-use Rattle.lane_planner.proofs.Marking.{marks_more, marks_past, unmarked}
+use Rattle.lane_planner.specs.Marks.{AreMarks, MarksEnds}
+use Rattle.lane_planner.proofs.Marking.{marks_more, marks_past}
 use Rattle.lane_planner.proofs.MarkingEnds.{ends_of_heaviest, marks_ended, marks_of_blank}
 use Rattle.lane_planner.proofs.reached.reached.Goals as goal
-use Rattle.lane_planner.proofs.reached.reached.Goals.{then-has, else-has}
 
 pub loop-boundary-init : goal.loop-boundary-init
 loop-boundary-init c =
@@ -22,39 +21,63 @@ pub mark_ends-requires-clause-lead_on : goal.mark_ends-requires-clause-lead_on
 mark_ends-requires-clause-lead_on c =
     let boundary : ℕ = c.loop-boundary.boundary in
     let are = c.list.ensures in
-    let at : boundary ≡ c.at-state.result.boundary = omega (arith, ap (λ (s : State). s.boundary) c.at-state.ensures, c.from.ensures, c.loop-used-test.true) in
+    let at : boundary ≡ c.at-state.result.boundary = omega (arith, ap (λ (s : State). s.boundary) c.at-state.ensures, c.from-from.ensures, c.loop-place-test.true, c.loop-place.invariant.from) in
     let each = heaviest_lead_on boundary (moves_at c.args.advert.now c.args.weights.now c.args.kept.now (boundary + 1)) c.list.new.self.moves.items are.heavy are.lead_on in
     subst (λ (moves : List Move). All (LeadsOn c.at-state.result.boundary) moves) (sym c.as_slice.ensures.value) (subst (λ (n : ℕ). All (LeadsOn n) c.list.new.self.moves.items) at each)
 
-pub loop-used-preserved : goal.loop-used-preserved
-loop-used-preserved c =
+pub loop-place-init : goal.loop-place-init
+loop-place-init c =
     let advert = c.args.advert.now in
     let weights = c.args.weights.now in
     let kept = c.args.kept.now in
     let boundary : ℕ = c.loop-boundary.boundary in
-    let place : ℕ = 256 * boundary + c.loop-used.used in
-    let read : 256 * c.from.result + c.loop-used.used ≡ place = omega (arith, c.from.ensures) in
-    let next : place + 1 ≡ 256 * boundary + (c.loop-used.used + 1) = omega arith in
-    let before = c.loop-used.marks in
-    subst (λ (n : ℕ). AreMarks advert weights kept n c.if-has.marks) next (elim c.if-has.branch [
-      | then-has w ↦
-          let state : State = state_at place in
-          let after = w.mark_ends.new.marks in
-          let all = (moves_at c.args.advert.now c.args.weights.now c.args.kept.now (boundary + 1)) in
-          let are = c.list.ensures in
-          let low : state.boundary ≡ boundary = omega (arith, c.loop-used-test.true) in
-          let free : Bool = c.list.new.self.may_stay_free in
-          let decisions = listed_are_decisions advert weights kept state boundary free all c.list.new.self.moves.items low c.loop-boundary-test.true are in
-          let at_state = subst (λ (s : State). MarksEnds (decisions_by free s w.as_slice.result.now) before after) (w.at-state.ensures ∙ ap state_at read) w.mark_ends.ensures in
-          let of_heaviest = subst (λ (moves : List Move). MarksEnds (decisions_by free state moves) before after) w.as_slice.ensures.value at_state in
-          let new = subst (λ (ss : List Decision). MarksEnds ss before after) decisions (ends_of_heaviest free state all c.list.new.self.moves.items before after are.heavy of_heaviest) in
-          let below : place < 2304 = omega (arith, c.loop-boundary-test.true, c.loop-used-test.true) in
-          let marked : IsMarked before place = subst (IsMarked before) read (sym c.has.ensures ∙ w.if-has.true) in
-          subst (AreMarks advert weights kept (place + 1)) (sym w.marks-is) (marks_more advert weights kept place before after c.loop-used.invariant below marked new)
-      | else-has w ↦
-          subst (AreMarks advert weights kept (place + 1)) (sym w.marks-is) (marks_past advert weights kept place before c.loop-used.invariant (λ marked.
-          unmarked before (256 * c.from.result + c.loop-used.used) (sym c.has.ensures ∙ w.if-has.false) (subst (IsMarked before) (sym read) marked)))
-    ])
+    let found = c.first-place.ensures in
+    let read : 256 * c.from-from.result ≡ 256 * boundary = omega (arith, c.from-from.ensures) in
+    record {
+      so_far = marks_past advert weights kept (256 * boundary) c.first-place.result c.loop-boundary.marks c.loop-boundary.invariant (λ other past low. found.none other (omega (arith, past, read)) low);
+      from = omega (arith, found.after, read);
+      within = omega (arith, found.within, read);
+      marked = λ low. found.marked (omega (arith, low, read));
+    }
+
+pub loop-place-preserved : goal.loop-place-preserved
+loop-place-preserved c =
+    let advert = c.args.advert.now in
+    let weights = c.args.weights.now in
+    let kept = c.args.kept.now in
+    let boundary : ℕ = c.loop-boundary.boundary in
+    let place : ℕ = c.loop-place.place in
+    let so_far = c.loop-place.invariant in
+    let read : 256 * c.from-from.result ≡ 256 * boundary = omega (arith, c.from-from.ensures) in
+    let before = c.loop-place.marks in
+    let after = c.mark_ends.new.marks in
+    let state : State = state_at place in
+    let all = (moves_at advert weights kept (boundary + 1)) in
+    let are = c.list.ensures in
+    let low : state.boundary ≡ boundary = omega (arith, c.loop-place-test.true, so_far.from, read) in
+    let free : Bool = c.list.new.self.may_stay_free in
+    let decisions = listed_are_decisions advert weights kept state boundary free all c.list.new.self.moves.items low c.loop-boundary-test.true are in
+    let at_state = subst (λ (s : State). MarksEnds (decisions_by free s c.as_slice.result.now) before after) c.at-state.ensures c.mark_ends.ensures in
+    let of_heaviest = subst (λ (moves : List Move). MarksEnds (decisions_by free state moves) before after) c.as_slice.ensures.value at_state in
+    let new = subst (λ (ss : List Decision). MarksEnds ss before after) decisions (ends_of_heaviest free state all c.list.new.self.moves.items before after are.heavy of_heaviest) in
+    let below : place < 2304 = omega (arith, c.loop-boundary-test.true, c.loop-place-test.true, read) in
+    let marked = so_far.marked (omega (arith, c.loop-place-test.true, read)) in
+    let more = marks_more advert weights kept place before after so_far.so_far below marked new in
+    let found = c.first-place-in-loop-place.ensures in
+    record {
+      so_far = marks_past advert weights kept (place + 1) c.first-place-in-loop-place.result after more found.none;
+      from = omega (arith, found.after, so_far.from);
+      within = omega (arith, found.within, read);
+      marked = λ inside. found.marked (omega (arith, inside, read));
+    }
+
+pub loop-place-smaller : goal.loop-place-smaller
+loop-place-smaller c = omega (arith, c.first-place-in-loop-place.ensures.after, c.from-from.ensures, c.loop-place-test.true)
+
+pub loop-boundary-preserved : goal.loop-boundary-preserved
+loop-boundary-preserved c =
+    let ended : c.loop-place.place ≡ 256 * (c.loop-boundary.boundary + 1) = omega (arith, c.loop-place.invariant.within, c.loop-place-test.false, c.from-from.ensures) in
+    subst (λ (n : ℕ). AreMarks c.args.advert.now c.args.weights.now c.args.kept.now n c.loop-place.marks) ended c.loop-place.invariant.so_far
 
 pub returns : goal.returns
 returns c =

@@ -1,0 +1,45 @@
+use Rattle.std.proofs.Common.{ℕ, sym, subst, ◌∙◌, inl, inr, arith}
+use Rattle.std.proofs.lemmas.Bool.{cases_eq, cases_lt}
+use Rattle.lane_planner.specs.Marks.{IsMarked}
+use Rattle.lane_planner.proofs.Marking.{unmarked}
+use Rattle.lane_planner.proofs.marks.Marks.first.Goals as goal
+
+pub loop-place-init : goal.loop-place-init
+loop-place-init c = record {
+  after = omega arith;
+  within = c.requires.from;
+  none = λ other past low marked. absurd (omega (arith, past, low));
+}
+
+pub loop-place-preserved : goal.loop-place-preserved
+loop-place-preserved c =
+    let marks = c.args.self.now in
+    let place : ℕ = c.loop-place.place in
+    let before = c.loop-place.invariant in
+    record {
+      after = omega (arith, before.after, c.next.ensures.later, c.loop-place-test.true);
+      within = omega arith;
+      none = λ other past low marked. elim (cases_lt other place) [
+        | inl early ↦ before.none other past early marked
+        | inr late ↦ elim (cases_eq other place) [
+          | inl same ↦ unmarked marks place (sym c.has.ensures ∙ c.if-has.false) (subst (IsMarked marks) same marked)
+          | inr differs ↦ c.next.ensures.none other (omega (arith, late, differs)) (omega (arith, low)) marked
+        ]
+      ];
+    }
+
+pub returns-then-has : goal.returns-then-has
+returns-then-has c = record {
+  after = c.loop-place.invariant.after;
+  within = c.loop-place.invariant.within;
+  none = c.loop-place.invariant.none;
+  marked = λ low. sym c.has.ensures ∙ c.if-has.true;
+}
+
+pub returns : goal.returns
+returns c = record {
+  after = c.requires.from;
+  within = omega arith;
+  none = λ other past low. c.loop-place.invariant.none other past (omega (arith, low, c.loop-place-test.false));
+  marked = λ low. absurd (omega (arith, low));
+}
