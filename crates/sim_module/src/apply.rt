@@ -129,14 +129,16 @@ impl Moving {
         })
     }
 
+    // A lane after the apply. Whether each lane of the mask can be applied is found once for all lanes.
     #[tactic(auto, unfolding(crate::specs::Applies::applied_to))]
-    fn applied_to(&self, fixed: &Fixed, mask: LaneSet, lane: LaneNumber) -> Lane
+    fn applied_to(&self, fixed: &Fixed, mask: LaneSet, applicable: bool, lane: LaneNumber) -> Lane
+        requires { applicable ≡ spec.is_applicable (module_of fixed.now self.now) mask }
         ensures { result ≡ spec.applied_to (module_of fixed.now self.now) mask lane }
     {
         let before = self.lane(lane);
         if !mask.contains(lane.number()) {
             before.dropped()
-        } else if self.is_applicable(fixed, mask) {
+        } else if applicable {
             before.begun()
         } else {
             before.refused(
@@ -146,12 +148,13 @@ impl Moving {
         }
     }
 
-    fn lanes_applied_to(&self, fixed: &Fixed, mask: LaneSet) -> [Lane; 8]
+    fn lanes_applied_to(&self, fixed: &Fixed, mask: LaneSet, applicable: bool) -> [Lane; 8]
+        requires { applicable ≡ spec.is_applicable (module_of fixed.now self.now) mask }
         ensures { result ≡ map (spec.applied_to (module_of fixed.now self.now) mask) all_lanes }
     {
         let mut lanes = self.lanes;
         for (index, lane) in lanes.iter_mut().enumerate() {
-            *lane = self.applied_to(fixed, mask, LaneNumber::at(index as u8));
+            *lane = self.applied_to(fixed, mask, applicable, LaneNumber::at(index as u8));
         }
         lanes
     }
@@ -164,13 +167,9 @@ impl Moving {
         if mask.is_empty() {
             return;
         }
-        let lanes = self.lanes_applied_to(fixed, mask);
-        self.apply_left = if self.is_applicable(fixed, mask) {
-            self.delays.apply
-        } else {
-            0
-        };
-        self.lanes = lanes;
+        let applicable = self.is_applicable(fixed, mask);
+        self.lanes = self.lanes_applied_to(fixed, mask, applicable);
+        self.apply_left = if applicable { self.delays.apply } else { 0 };
     }
 }
 
