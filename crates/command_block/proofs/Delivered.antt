@@ -10,7 +10,8 @@ use Rattle.conversations.specs.Budgets.{next_within}
 use Rattle.conversations.specs.Events.{Events}
 use Rattle.conversations.specs.Wanted.{IsWait, op_of}
 use Rattle.command_block.specs.declared.outcome.Outcome.{Outcome}
-use Rattle.command_block.specs.Deliveries.{GoesOnDelivery, IsDelivered, Patient, ToldPatient, attempt_in, ending_as, patient_of, patient_wants, terms_of, paged_wants}
+use Rattle.command_block.specs.Deliveries.{GoesOnDelivery, IsDelivered, Patient, ToldPatient, attempt_in, begun_delivery, ending_as, patience_for, patient_of, patient_wants, terms_of, timing_for, paged_wants}
+use Rattle.command_block.specs.Turns.{ToldDelivery}
 use Rattle.command_block.specs.Phases.{begun, known}
 use Rattle.command_block.specs.declared.attempt.Timing.{Timing}
 use Rattle.command_block.specs.declared.message.Message.{Message}
@@ -24,9 +25,12 @@ begun_knows : Knows true (Some BankAndPage) Unknown None []
 begun_knows = (λ e. refl, (record { awaited = refl; known = λ page. refl }, record { was = λ page e. absurd cc; is = λ may open_now page was. absurd was }))
 
 -- nothing was told yet
-pub begun_told : (message : Message) (timing : Timing) (patience : Patience) → ToldPatient [] (patient_of (begun message timing) patience)
+begun_told : (message : Message) (timing : Timing) (patience : Patience) → ToldPatient [] (patient_of (begun message timing) patience)
 begun_told message timing patience =
     (([], (refl, refl, refl), (begun_knows, ([], refl, record { is = refl; each = tt }))), refl, omega arith)
+
+pub begun_turned : (message : Message) (duration delay : ℕ) → ToldDelivery [] (begun_delivery message duration delay)
+begun_turned message duration delay = (begun_told message (timing_for duration delay) (patience_for duration), refl)
 
 pub delivered : (patient : Patient) (events : Events) → ToldPatient events patient → IsDelivered (terms_of patient) events (known (attempt_in patient))
 delivered patient events ((paged, adds, (knows, (own, selects, told))), counted, few) = record {

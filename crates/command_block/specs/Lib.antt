@@ -4,4 +4,5 @@ pub mod Phases
 pub mod Attempts
 pub mod AttemptEvents
 pub mod Deliveries
+pub mod Turns
 pub mod Advertised

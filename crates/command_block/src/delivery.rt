@@ -60,7 +60,13 @@ fn larger(one: u32, other: u32) -> u32
 }
 
 impl Conversation for Delivery {
-    ghost use Rattle.command_block.specs.Deliveries.{GoesOnDelivery, IsDelivered, ToldPatient, delivery_after, delivery_wants, terms_of};
+    ghost use Rattle.std.specs.Prelude.{◌≡◌, ◌∷◌, ℕ};
+    ghost use Rattle.conversations.specs.declared.event.Event.TheVariants.{Waited};
+    ghost use Rattle.conversations.specs.declared.next.Next.TheVariants.{Wait};
+    ghost use Rattle.conversations.specs.Events.{Events};
+    ghost use Rattle.conversations.specs.Wanted.{IsWait};
+    ghost use Rattle.command_block.specs.Deliveries.{GoesOnDelivery, IsDelivered, delivery_after, delivery_wants, terms_of};
+    ghost use Rattle.command_block.specs.Turns.{IsRested, ToldDelivery};
 
     type Topic = (u16, (Patience, (bool, (Message, Timing))));
 
@@ -72,7 +78,7 @@ impl Conversation for Delivery {
 
     ghost after = { delivery_after };
 
-    ghost told = { λ events delivery. ToldPatient events delivery.patient };
+    ghost told = { ToldDelivery };
 
     ghost ends = { λ terms events outcome. IsDelivered terms events outcome };
 
@@ -92,7 +98,13 @@ impl Conversation for Delivery {
         self.patient.take(reply);
     }
 
-    fn waited(&mut self) {
+    fn waited(&mut self)
+        ensures topic { terms_of self.new.patient ≡ terms_of self.old.patient }
+        ensures told { (events : Events) (time : ℕ) → delivery_wants self.old ≡ Wait time → ToldDelivery events self.old →
+            ToldDelivery (Waited time ∷ events) self.new }
+        ensures once { ¬ (IsWait (delivery_wants self.new)) }
+        ensures rested { IsRested self.old self.new }
+    {
         self.patient.waited();
     }
 

@@ -8,3 +8,4 @@ pub mod OnBus
 pub mod Turns
 pub mod Over
 pub mod Room
+pub mod Delivering

@@ -4,11 +4,12 @@ use Rattle.std.specs.Prelude.{⊤}
 use Rattle.bus_model.specs.declared.operation.Op.{Op}
 use Rattle.command_block.specs.declared.delivery.Delivery.{Delivery}
 use Rattle.command_block.specs.declared.outcome.Outcome.{Outcome}
-use Rattle.command_block.specs.Deliveries.{IsDelivered, Terms, ToldPatient, attempt_in, begun_delivery, delivery_wants, ending_as, patience_for, patient_of, patient_wants, terms_for, terms_of, timing_for}
+use Rattle.command_block.specs.Deliveries.{IsDelivered, Terms, attempt_in, begun_delivery, delivery_wants, ending_as, patience_for, patient_of, patient_wants, terms_for, terms_of, timing_for}
+use Rattle.command_block.specs.Turns.{ToldDelivery}
 use Rattle.command_block.specs.declared.attempt.Phase.TheVariants.{Delayed, Idle}
 use Rattle.command_block.specs.declared.message.Message.{Message}
 use Rattle.command_block.specs.Phases.{known}
-use Rattle.command_block.proofs.Delivered.{begun_told, delivered}
+use Rattle.command_block.proofs.Delivered.{begun_turned, delivered}
 use Rattle.conversations.specs.declared.event.Event.{Event}
 use Rattle.conversations.specs.declared.next.Next.{Next}
 use Rattle.conversations.specs.declared.next.Next.TheVariants.{Do, Wait, End}
@@ -73,80 +74,93 @@ few_more : (before : History) (x : Exchange) (l m : ℕ) → length before + l �
 few_more before x l m few l' less = omega (arith, few, less)
 
 -- a delivery that was just begun
-begun_goes : (message : Message) (duration delay : ℕ) → IsUnderWay (delivery_wants (begun_delivery message duration delay))
+pub begun_goes : (message : Message) (duration delay : ℕ) → IsUnderWay (delivery_wants (begun_delivery message duration delay))
 begun_goes message duration delay = by (delay == 0) where
   by : (b : Bool) → IsUnderWay (delivery_wants (record { patient = patient_of (record { message = message; timing = timing_for duration delay; phase = if b then Idle else Delayed; outcome = None }) (patience_for duration) }))
   by true = tt
   by false = tt
 
+-- between two commands: these events are the course of the exchanges that the update was told
+pub record IsBetween (file : List ℕ) (history : History) (events : Events) (update : Update) (durations : Durations) : Type 0 where
+  pub course : IsCourse file history events
+  pub come : IsAt (length file) history update
+  pub learnt : durations ≡ durations_after history
+  pub few : length history + left update ≤ most_left (length file)
+
 module _ (file : List ℕ) where
   -- a delivery that was just begun
   begun_on : (durations : Durations) (update : Update) (n : UpdateNext) → next update ≡ n → IsInHand file durations update [] (delivery_at file update durations n)
-  begun_on durations update (Send command) e = (command, record { sends = e; terms = refl; told = begun_told (message_of file command) (timing_for (duration_for command durations) (delay_for update)) (patience_for (duration_for command durations)); under_way = begun_goes (message_of file command) (duration_for command durations) (delay_for update) })
+  begun_on durations update (Send command) e = (command, record { sends = e; terms = refl; told = begun_turned (message_of file command) (duration_for command durations) (delay_for update); under_way = begun_goes (message_of file command) (duration_for command durations) (delay_for update) })
   begun_on durations update (Done end) e = (refl, subst IsEnd (sym e) tt)
 
-  pub begins : (durations : Durations) (update : Update) (history : History) (events : Events) → IsCourse file history events → IsAt (length file) history update → durations ≡ durations_after history
-      → length history + left update ≤ most_left (length file) → IsOnBus file events (session_at file update durations)
-  begins durations update history events course at learnt few = record {
+  pub begins : (durations : Durations) (update : Update) (history : History) (events : Events) → IsBetween file history events update durations → IsOnBus file events (session_at file update durations)
+  begins durations update history events at = record {
     history = history;
     own = [];
     earlier = events;
     all = refl;
-    course = course;
-    come = at;
-    durations = learnt;
+    course = at.course;
+    come = at.come;
+    durations = at.learnt;
     hand = begun_on durations update (next update) refl;
-    few = few;
+    few = at.few;
   }
 
-  -- it was told one event more, and goes on or has ended
+  -- one that was told these events and goes on
+  pub goes_under : (update : Update) (durations : Durations) (delivery : Delivery) (history : History) (own earlier : Events) (command : Command) → IsUnderWay (delivery_wants delivery)
+      → IsBetween file history earlier update durations → next update ≡ Send command
+      → terms_of delivery.patient ≡ terms_for (message_of file command) (duration_for command durations) (delay_for update) → ToldDelivery own delivery
+      → IsOnBus file (own ++ earlier) (record { update = update; durations = durations; delivery = Some delivery })
+  goes_under update durations delivery history own earlier command under at sends terms told = record {
+    history = history;
+    own = own;
+    earlier = earlier;
+    all = refl;
+    course = at.course;
+    come = at.come;
+    durations = at.learnt;
+    hand = (command, record { sends = sends; terms = terms; told = told; under_way = under });
+    few = at.few;
+  }
+
+  -- one that was told these events and has ended
+  pub ends_between : (update : Update) (durations : Durations) (delivery : Delivery) (history : History) (own earlier : Events) (command : Command) (outcome : Outcome) → delivery_wants delivery ≡ End outcome
+      → IsBetween file history earlier update durations → next update ≡ Send command
+      → terms_of delivery.patient ≡ terms_for (message_of file command) (duration_for command durations) (delay_for update) → ToldDelivery own delivery
+      → IsBetween file (exchange_of command outcome ∷ history) (own ++ earlier) (taken update outcome) (learned_by (next update) outcome durations)
+  ends_between update durations delivery history own earlier command outcome e at sends terms told =
+      let shown = subst (λ (o : Outcome). IsDelivered (terms_of delivery.patient) own o) (ended_as delivery outcome e) (delivered delivery.patient own told.0) in
+      let same = terms ∙ ap (λ (d : Durations). terms_for (message_of file command) (duration_for command d) (delay_for update)) at.learnt in record {
+        course = (own, earlier, refl, (delay_for update, subst (λ (t : Terms). IsDelivered t own outcome) same shown), at.course);
+        come = told_sized (length file) history command update outcome at.come sends;
+        learnt = ap (λ (n : UpdateNext). learned_by n outcome durations) sends ∙ ap (λ (d : Durations). learned command outcome d) at.learnt;
+        few = few_more history (exchange_of command outcome) (left update) (most_left (length file)) at.few (left (taken update outcome)) (fewer command update outcome sends);
+      }
+
+  -- it goes on or has ended
   goes_by : (update : Update) (durations : Durations) (delivery : Delivery) (history : History) (own earlier : Events) (command : Command) (n : Next Outcome) → delivery_wants delivery ≡ n
-      → IsCourse file history earlier → IsAt (length file) history update → durations ≡ durations_after history → length history + left update ≤ most_left (length file) → next update ≡ Send command
-      → terms_of delivery.patient ≡ terms_for (message_of file command) (duration_for command durations) (delay_for update) → ToldPatient own delivery.patient
+      → IsBetween file history earlier update durations → next update ≡ Send command
+      → terms_of delivery.patient ≡ terms_for (message_of file command) (duration_for command durations) (delay_for update) → ToldDelivery own delivery
       → IsOnBus file (own ++ earlier) (going_by file update durations delivery n)
-  goes_by update durations delivery history own earlier command (Do op) e course at learnt few sends terms told = record {
-    history = history;
-    own = own;
-    earlier = earlier;
-    all = refl;
-    course = course;
-    come = at;
-    durations = learnt;
-    hand = (command, record { sends = sends; terms = terms; told = told; under_way = subst (λ (n : Next Outcome). IsUnderWay n) (sym e) tt });
-    few = few;
-  }
-  goes_by update durations delivery history own earlier command (Wait time) e course at learnt few sends terms told = record {
-    history = history;
-    own = own;
-    earlier = earlier;
-    all = refl;
-    course = course;
-    come = at;
-    durations = learnt;
-    hand = (command, record { sends = sends; terms = terms; told = told; under_way = subst (λ (n : Next Outcome). IsUnderWay n) (sym e) tt });
-    few = few;
-  }
-  goes_by update durations delivery history own earlier command (End outcome) e course at learnt few sends terms told =
-      let shown = subst (λ (o : Outcome). IsDelivered (terms_of delivery.patient) own o) (ended_as delivery outcome e) (delivered delivery.patient own told) in
-      let same = terms ∙ ap (λ (d : Durations). terms_for (message_of file command) (duration_for command d) (delay_for update)) learnt in
-      let by = subst (λ (t : Terms). IsDelivered t own outcome) same shown in
+  goes_by update durations delivery history own earlier command (Do op) e at sends terms told =
+      goes_under update durations delivery history own earlier command (subst (λ (n : Next Outcome). IsUnderWay n) (sym e) tt) at sends terms told
+  goes_by update durations delivery history own earlier command (Wait time) e at sends terms told =
+      goes_under update durations delivery history own earlier command (subst (λ (n : Next Outcome). IsUnderWay n) (sym e) tt) at sends terms told
+  goes_by update durations delivery history own earlier command (End outcome) e at sends terms told =
       begins (learned_by (next update) outcome durations) (taken update outcome) (exchange_of command outcome ∷ history) (own ++ earlier)
-      (own, earlier, refl, (delay_for update, by), course)
-      (told_sized (length file) history command update outcome at sends)
-      (ap (λ (n : UpdateNext). learned_by n outcome durations) sends ∙ ap (λ (d : Durations). learned command outcome d) learnt)
-      (few_more history (exchange_of command outcome) (left update) (most_left (length file)) few (left (taken update outcome)) (fewer command update outcome sends))
+      (ends_between update durations delivery history own earlier command outcome e at sends terms told)
 
   -- where what is on its way becomes this, by an event
   goes_in : (event : Event) (events : Events) (session : Session) (old new : Delivery) → session.delivery ≡ Some old → IsOnBus file events session
-      → ((own : Events) → ToldPatient own old.patient → ToldPatient (event ∷ own) new.patient) → terms_of new.patient ≡ terms_of old.patient
+      → ((own : Events) → ToldDelivery own old → ToldDelivery (event ∷ own) new) → terms_of new.patient ≡ terms_of old.patient
       → IsOnBus file (event ∷ events) (going_on file session.update session.durations new)
   goes_in event events session old new is at more same =
       let (command, way) = subst (λ (o : Option Delivery). IsInHand file session.durations session.update at.own o) is at.hand in
       subst (λ (e : Events). IsOnBus file (event ∷ e) (going_on file session.update session.durations new)) (sym at.all)
-      (goes_by session.update session.durations new at.history (event ∷ at.own) at.earlier command (delivery_wants new) refl at.course at.come at.durations at.few way.sends (same ∙ way.terms) (more at.own way.told))
+      (goes_by session.update session.durations new at.history (event ∷ at.own) at.earlier command (delivery_wants new) refl (record { course = at.course; come = at.come; learnt = at.durations; few = at.few }) way.sends (same ∙ way.terms) (more at.own way.told))
 
   pub goes : (event : Event) (events : Events) (session later : Session) (old new : Delivery) → session.delivery ≡ Some old → later ≡ going_on file session.update session.durations new → IsOnBus file events session
-      → ((own : Events) → ToldPatient own old.patient → ToldPatient (event ∷ own) new.patient) → terms_of new.patient ≡ terms_of old.patient
+      → ((own : Events) → ToldDelivery own old → ToldDelivery (event ∷ own) new) → terms_of new.patient ≡ terms_of old.patient
       → IsOnBus file (event ∷ events) later
   goes event events session later old new is exact at more same = subst (λ (s : Session). IsOnBus file (event ∷ events) s) (sym exact) (goes_in event events session old new is at more same)
 
@@ -222,7 +236,7 @@ module _ (file : List ℕ) where
   moment_by events session (Some delivery) at (command, way) =
       let same = way.terms ∙ ap (λ (d : Durations). terms_for (message_of file command) (duration_for command d) (delay_for session.update)) at.durations in
       let outcome = known (attempt_in delivery.patient) in
-      let by = subst (λ (t : Terms). IsDelivered t at.own outcome) same (delivered delivery.patient at.own way.told) in (
+      let by = subst (λ (t : Terms). IsDelivered t at.own outcome) same (delivered delivery.patient at.own way.told.0) in (
         exchange_of command outcome ∷ at.history,
         (at.own, at.earlier, at.all, (delay_for session.update, by), at.course),
         (may_of (length file) at.history session.update command at.come way.sends, safe_of (length file) at.history session.update at.come),

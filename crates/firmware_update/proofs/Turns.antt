@@ -7,7 +7,8 @@ use Rattle.bus_model.specs.declared.operation.Reply.{Reply}
 use Rattle.bus_model.specs.declared.operation.Step.{Step}
 use Rattle.command_block.specs.declared.delivery.Delivery.{Delivery}
 use Rattle.command_block.specs.declared.outcome.Outcome.{Outcome}
-use Rattle.command_block.specs.Deliveries.{Terms, ToldPatient, delivery_wants, terms_of}
+use Rattle.command_block.specs.Deliveries.{Terms, delivery_wants, terms_of}
+use Rattle.command_block.specs.Turns.{ToldDelivery}
 use Rattle.conversations.specs.declared.event.Event.TheVariants.{Made, Waited, Lacked, Asked}
 use Rattle.conversations.specs.declared.next.Next.{Next}
 use Rattle.conversations.specs.declared.next.Next.TheVariants.{Do, Wait, End}
@@ -80,13 +81,13 @@ module _ (file : List ℕ) where
   limit_of old new durations update command own way same = ap (λ (t : Terms). t.0) (same ∙ way.terms)
 
   pub fewer_made : (events : Events) (op : Op) (reply : Reply) (session later : Session) (old new : Delivery) → session.delivery ≡ Some old → later ≡ going_on file session.update session.durations new
-      → IsOnBus file events session → wanted session ≡ Do op → ((own : Events) → ToldPatient own old.patient → ToldPatient (made op reply ∷ own) new.patient) → terms_of new.patient ≡ terms_of old.patient
+      → IsOnBus file events session → wanted session ≡ Do op → ((own : Events) → ToldDelivery own old → ToldDelivery (made op reply ∷ own) new) → terms_of new.patient ≡ terms_of old.patient
       → turns_left later < turns_left session
   fewer_made events op reply session later old new is exact at asks more same =
       let (command, way) = subst (λ (o : Option Delivery). IsInHand file session.durations session.update at.own o) is at.hand in
-      let now = more at.own way.told in
+      let (now, turned) = more at.own way.told in
       let limit = limit_of old new session.durations session.update command at.own way same in
-      let steps : new.patient.steps ≡ old.patient.steps + 1 = omega (arith, now.1, way.told.1) in
+      let steps : new.patient.steps ≡ old.patient.steps + 1 = omega (arith, now.1, way.told.0.1) in
       let few : new.patient.steps ≤ 4096 = subst (λ (n : ℕ). new.patient.steps ≤ n) limit now.2 in
       let less = do_by session.update session.durations command new old.patient.steps (delivery_wants new) way.sends steps few in
       let turn : wait_turn (wanted session) ≡ 0 = ap (λ (n : Next (Result ⊤ Cause)). wait_turn n) asks in
@@ -96,12 +97,12 @@ module _ (file : List ℕ) where
       (subst (λ (n : ℕ). turns_left (going_on file session.update session.durations new) < n) whole less)
 
   pub fewer_waited : (events : Events) (time : ℕ) (session later : Session) (old new : Delivery) → session.delivery ≡ Some old → later ≡ going_on file session.update session.durations new
-      → IsOnBus file events session → wanted session ≡ Wait time → ((own : Events) → ToldPatient own old.patient → ToldPatient (Waited time ∷ own) new.patient) → ¬ (IsWait (delivery_wants new))
+      → IsOnBus file events session → wanted session ≡ Wait time → ((own : Events) → ToldDelivery own old → ToldDelivery (Waited time ∷ own) new) → ¬ (IsWait (delivery_wants new))
       → turns_left later < turns_left session
   fewer_waited events time session later old new is exact at asks more none =
       let (command, way) = subst (λ (o : Option Delivery). IsInHand file session.durations session.update at.own o) is at.hand in
-      let now = more at.own way.told in
-      let steps : new.patient.steps ≡ old.patient.steps = sym now.1 ∙ way.told.1 in
+      let (now, turned) = more at.own way.told in
+      let steps : new.patient.steps ≡ old.patient.steps = sym now.1 ∙ way.told.0.1 in
       let less = wait_by session.update session.durations command new old.patient.steps (delivery_wants new) refl way.sends steps none in
       let turn : wait_turn (wanted session) ≡ 1 = ap (λ (n : Next (Result ⊤ Cause)). wait_turn n) asks in
       let whole : 2 * (left session.update * 4097 + (4096 - old.patient.steps)) + 1 ≡ turns_left session =
@@ -140,7 +141,7 @@ module _ (file : List ℕ) where
   hand_short session own None (none, is_end) = subst (λ (e : Events). length (steps_of e) ≤ 4096) (sym none) (omega arith)
   hand_short session own (Some delivery) (command, way) =
       let limit = limit_of delivery delivery session.durations session.update command own way refl in
-      let few = subst (λ (n : ℕ). delivery.patient.steps ≤ n) limit way.told.2 in omega (arith, few, way.told.1)
+      let few = subst (λ (n : ℕ). delivery.patient.steps ≤ n) limit way.told.0.2 in omega (arith, few, way.told.0.1)
 
   bus_few : (n l m s a b : ℕ) → n + l ≤ (m + 8) * 34 + 32 → s ≡ a + b → a ≤ 4096 → b ≤ n * 4096 → s ≤ (34 * m + 305) * 4096
   bus_few n l m s a b few is own steps = omega (arith, few, is, own, steps)

@@ -2,7 +2,8 @@
 use Rattle.std.specs.Prelude.{◌≡◌, ◌≤◌, ℕ, ◌*◌, ◌-◌, ◌+◌, nat_lt, List, [], ◌∷◌, ◌++◌, length, Option, Some, None, Result, Err, ⊤, if◌then◌else◌}
 use Rattle.command_block.specs.declared.delivery.Delivery.{Delivery}
 use Rattle.command_block.specs.declared.outcome.Outcome.{Outcome}
-use Rattle.command_block.specs.Deliveries.{IsDelivered, ToldPatient, begun_delivery, delivery_wants, most_steps, terms_for, terms_of}
+use Rattle.command_block.specs.Deliveries.{IsDelivered, begun_delivery, delivery_wants, most_steps, terms_for, terms_of}
+use Rattle.command_block.specs.Turns.{ToldDelivery}
 use Rattle.conversations.specs.declared.next.Next.{Next}
 use Rattle.conversations.specs.declared.next.Next.TheVariants.{Do, Wait, End}
 use Rattle.conversations.specs.Events.{Events}
@@ -95,7 +96,7 @@ IsUnderWay (End end) = ⊥
 pub record IsOnItsWay (file : List ℕ) (durations : Durations) (update : Update) (command : Command) (own : Events) (delivery : Delivery) : Type 0 where
   pub sends : next update ≡ Send command
   pub terms : terms_of delivery.patient ≡ terms_for (message_of file command) (duration_for command durations) (delay_for update)
-  pub told : ToldPatient own delivery.patient
+  pub told : ToldDelivery own delivery
   pub under_way : IsUnderWay (delivery_wants delivery)
 
 abbrev pub IsInHand : List ℕ → Durations → Update → Events → Option Delivery → Type 0

@@ -3,11 +3,11 @@
 use Rattle.std.specs.Prelude.{◌≡◌, ℕ, List, [], ◌∷◌, length, Option, Some, None}
 use Rattle.bus_model.specs.declared.operation.Reply.{Reply}
 use Rattle.command_block.specs.declared.delivery.Delivery.{Delivery}
-use Rattle.command_block.specs.Deliveries.{ToldPatient, delivery_after, delivery_wants, terms_of}
+use Rattle.command_block.specs.Deliveries.{delivery_after}
+use Rattle.command_block.specs.Turns.{IsRested}
 use Rattle.conversations.specs.declared.event.Event.TheVariants.{Made, Waited, Lacked, Asked}
 use Rattle.conversations.specs.declared.next.Next.TheVariants.{Do, Wait}
 use Rattle.conversations.specs.Events.{Events}
-use Rattle.conversations.specs.Wanted.{IsWait}
 use Rattle.firmware_update.specs.declared.session.Session.{Session}
 use Rattle.firmware_update.specs.Courses.{going_on, session_at, wanted}
 use Rattle.firmware_update.specs.Durations.{none}
@@ -23,12 +23,6 @@ replied_by file session (Some delivery) reply = going_on file session.update ses
 
 abbrev pub replied : List ℕ → Session → Reply → Session
 replied file session reply = replied_by file session session.delivery reply
-
--- a delivery is the same one once it has waited, and doesn't wait again at once
-pub record IsRested (delivery : Delivery) (rested : Delivery) : Type 0 where
-  pub terms : terms_of rested.patient ≡ terms_of delivery.patient
-  pub told : (own : Events) (time : ℕ) → delivery_wants delivery ≡ Wait time → ToldPatient own delivery.patient → ToldPatient (Waited time ∷ own) rested.patient
-  pub once : ¬ (IsWait (delivery_wants rested))
 
 -- the command on its way has waited
 abbrev pub HasRestedBy : List ℕ → Session → Option Delivery → Session → Type 0

@@ -5,7 +5,8 @@ ghost use Rattle.firmware_update.specs.Runs.{IsRunOf};
 use crate::known::Known;
 use crate::session::Session;
 use crate::update::Cause;
-use conversations::{Next, TimedBus};
+use command_block::MAX_STEPS;
+use conversations::{TimedBus, Within, run};
 
 /// How an update on a bus ended.
 #[derive(Drop)]
@@ -19,25 +20,25 @@ pub enum UpdateRun<F> {
     },
 }
 
-/// Updates a module's firmware to this file.
+/// Updates a module's firmware to this file: its commands are delivered one after another.
 pub fn run_update<B: TimedBus>(bus: &mut B, file: &[u8]) -> UpdateRun<B::Fault>
     requires { length file.now < 2 ^ 32 }
     ensures { MakesEvents B.makes B.passes bus.old (λ last events.
         IsRunOf file.now events (last ≡ bus.new) (λ fault. B.fails last fault bus.new) result) }
 {
     let mut session = Session::of(file);
-    'told: loop {
-        match session.next() {
-            Next::Do(op) => match bus.transact(op) {
-                Ok(reply) => session.take(file, &reply),
-                Err(fault) => return UpdateRun::Stopped(fault),
-            },
-            Next::Wait(milliseconds) => {
-                bus.pause(milliseconds);
-                session.waited(file);
+    'delivered: loop {
+        match session.delivery.take() {
+            Some(delivery) => {
+                let mut within = Within::new(delivery, MAX_STEPS);
+                match run(bus, &mut within) {
+                    Ok(_spent) => session.go_on(file, within.conversation),
+                    Err(fault) => return UpdateRun::Stopped(fault),
+                }
             }
-            Next::End(end) => {
+            None => {
                 let known = session.update.known();
+                let end = session.end();
                 return UpdateRun::Over { known, end };
             }
         }

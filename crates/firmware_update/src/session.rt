@@ -12,7 +12,7 @@ ghost use Rattle.conversations.specs.Wanted.{IfDo, IsReplyTo, IsWait};
 ghost use Rattle.firmware_update.specs.declared.command.Command.{Command};
 ghost use Rattle.firmware_update.specs.declared.update.Cause.{Cause};
 ghost use Rattle.firmware_update.specs.declared.update.UpdateNext.TheVariants.{Send, Done};
-ghost use Rattle.firmware_update.specs.Courses.{IsOnBus, IsSafeOnBus, IsWhole, delay_for, delivery_at, going_on, learned_by, turns_left, wanted};
+ghost use Rattle.firmware_update.specs.Courses.{IsOnBus, IsSafeOnBus, IsWhole, delay_for, delivery_at, going_on, learned_by, stopped, turns_left, wanted};
 ghost use Rattle.firmware_update.specs.Payloads.{HasRoom};
 ghost use Rattle.firmware_update.specs.Progress.{next, taken};
 ghost use Rattle.firmware_update.specs.Sessions.{IsAbout};
@@ -75,10 +75,17 @@ impl Session {
                 Next::Wait(time) => Next::Wait(time),
                 Next::End(_outcome) => Next::End(Err(Cause::GaveUp)),
             },
-            None => match self.update.next() {
-                UpdateNext::Send(_command) => Next::End(Err(Cause::GaveUp)),
-                UpdateNext::Done(end) => Next::End(end),
-            },
+            None => Next::End(self.end()),
+        }
+    }
+
+    /// How the update ended, where nothing is on the way.
+    pub(crate) fn end(&self) -> Result<(), Cause>
+        ensures { stopped (next self.now.update) ≡ End result }
+    {
+        match self.update.next() {
+            UpdateNext::Send(_command) => Err(Cause::GaveUp),
+            UpdateNext::Done(end) => end,
         }
     }
 
@@ -118,8 +125,8 @@ impl Session {
         }
     }
 
-    // Keeps what is on the way, or takes what came of it.
-    fn go_on(&mut self, file: &[u8], delivery: Delivery)
+    /// Keeps what is on the way, or takes what came of it.
+    pub(crate) fn go_on(&mut self, file: &[u8], delivery: Delivery)
         requires short { length file.now < 2 ^ 32 }
         requires room { (outcome : Outcome) (command : Command) → delivery_wants delivery ≡ End outcome →
             next (taken self.old.update outcome) ≡ Send command → HasRoom command }

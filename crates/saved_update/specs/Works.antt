@@ -5,6 +5,7 @@ use Rattle.command_block.specs.declared.delivery.Delivery.{Delivery}
 use Rattle.command_block.specs.declared.message.Message.{Message}
 use Rattle.command_block.specs.declared.outcome.Outcome.{Outcome}
 use Rattle.command_block.specs.Deliveries.{begun_delivery, delivery_after, delivery_wants, terms_for, terms_of}
+use Rattle.command_block.specs.Turns.{IsRested}
 use Rattle.conversations.specs.declared.next.Next.{Next}
 use Rattle.conversations.specs.declared.next.Next.TheVariants.{Do, Wait, End}
 use Rattle.firmware_update.specs.declared.session.Session.{Session}
@@ -15,7 +16,7 @@ use Rattle.firmware_update.specs.declared.update.Update.{Update}
 use Rattle.firmware_update.specs.Courses as update
 use Rattle.firmware_update.specs.Payloads.{abort_message, commit_message, features_message, info_message, password_message}
 use Rattle.firmware_update.specs.Sessions.{IsAbout}
-use Rattle.firmware_update.specs.Turned.{IsRested, begun_session}
+use Rattle.firmware_update.specs.Turned.{begun_session}
 use Rattle.firmware_update.specs.Turned as turned
 use Rattle.saved_update.specs.declared.work.Ending.{Ending}
 use Rattle.saved_update.specs.declared.work.Ending.TheVariants.{Updated, Answered}

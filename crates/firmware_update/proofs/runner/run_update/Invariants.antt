@@ -1,13 +1,12 @@
 use Rattle.conversations.specs.Carried.{Happens}
 use Rattle.conversations.specs.Events.{Events}
-use Rattle.firmware_update.specs.Courses.{IsOnBus, turns_left}
-use Rattle.firmware_update.specs.Sessions.{IsAbout}
-use Rattle.firmware_update.specs.Turned.{HasTurned}
+use Rattle.firmware_update.specs.Progress.{left}
+use Rattle.firmware_update.proofs.Delivering.{IsDue}
 use Rattle.firmware_update.proofs.runner.run_update.Given as goal
 
-abbrev pub decreases-told : goal.decreases-told
-decreases-told g l = turns_left l.session
+abbrev pub decreases-delivered : goal.decreases-delivered
+decreases-delivered g l = left l.session.update
 
 -- it was told the events that happened
-abbrev pub invariant-told : goal.invariant-told
-invariant-told g l = (events : Events) × Happens g.B.TimedBus.makes g.B.TimedBus.passes l.fn.bus l.bus events × IsOnBus l.fn.file events l.session × HasTurned l.fn.file events l.session × IsAbout l.fn.file l.session
+abbrev pub invariant-delivered : goal.invariant-delivered
+invariant-delivered g l = (events : Events) × Happens g.B.TimedBus.makes g.B.TimedBus.passes l.fn.bus l.bus events × IsDue l.fn.file events l.session

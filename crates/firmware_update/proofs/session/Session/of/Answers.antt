@@ -13,7 +13,7 @@ returns-clause-begins c =
     let update = c.of-update.result in
     let durations = c.new-durations.result in
     subst (λ (o : Option Delivery). IsOnBus file [] (record { update = update; durations = durations; delivery = o })) (sym c.delivery_at-delivery.ensures)
-    (begins file durations update [] [] refl c.of-update.ensures.begins c.new-durations.ensures (omega (arith, c.of-update.ensures.bound)))
+    (begins file durations update [] [] (record { course = refl; come = c.of-update.ensures.begins; learnt = c.new-durations.ensures; few = omega (arith, c.of-update.ensures.bound) }))
 
 pub returns-clause-about : goal.returns-clause-about
 returns-clause-about c =

@@ -16,7 +16,7 @@ pub returns-in-Some-clause-rests : goal.returns-in-Some-clause-rests
 returns-in-Some-clause-rests c =
     let is = sym c.take.ensures.value ∙ c.in-Some.is in
     subst (λ (o : Option Delivery). HasRestedBy c.args.file.now c.args.self.now o c.go_on.new.self) (sym is)
-    (c.waited.new.self, record { terms = c.waited.ensures.topic; told = c.waited.ensures.told; once = c.waited.ensures.once }, c.go_on.ensures)
+    (c.waited.new.self, c.waited.ensures.rested, c.go_on.ensures)
 
 pub returns-in-Some-clause-told : goal.returns-in-Some-clause-told
 returns-in-Some-clause-told c events time at asks =

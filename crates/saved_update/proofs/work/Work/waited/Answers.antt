@@ -8,4 +8,4 @@ pub returns-in-Asking-clause-rests : goal.returns-in-Asking-clause-rests
 returns-in-Asking-clause-rests c =
     let later = c.waited-in-Asking.new.self in
     subst (λ (w : Work). HasRested c.args.file.now w (Asking c.in-Asking.question later)) (sym c.in-Asking.is)
-    (later, record { terms = c.waited-in-Asking.ensures.topic; told = c.waited-in-Asking.ensures.told; once = c.waited-in-Asking.ensures.once }, refl)
+    (later, c.waited-in-Asking.ensures.rested, refl)
