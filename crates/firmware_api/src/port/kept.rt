@@ -2,7 +2,9 @@
 ghost use Rattle.std.specs.Prelude.{◌≡◌, ◌≢◌, ◌≤◌, ◌<◌, None, Some, false, true};
 ghost use Rattle.port_manager.specs.declared.port.Outcome.{Outcome};
 ghost use Rattle.port_manager.specs.Jobs.{IsReplyTo, asked};
-ghost use Rattle.port_manager.specs.Ports.{IfWorking, IsAwaited, IsTaken, asked_in};
+ghost use Rattle.port_manager.specs.declared.port.Outstanding.TheVariants.{Nothing};
+ghost use Rattle.port_manager.specs.Flags.{no_flags};
+ghost use Rattle.port_manager.specs.Ports.{IfWorking, IsAwaited, IsTaken, absent, asked_in};
 ghost use Rattle.saved_port.specs.Known.{IsKnown};
 ghost use Rattle.saved_port.specs.Outcomes.{AreNumbersOf};
 ghost use Rattle.firmware_api.specs.KeptPorts.{FitsIn, HasFewHalves, HasRoom, IsHalfAt, IsHalfBy, IsHalfIn, IsKept, count_at, count_of, kept_in};
@@ -40,8 +42,10 @@ pub fn restore(kept: &KeptPort, port: &mut Port) -> bool
     saved_port::restore(&kept.numbers, image_of(&kept.halves[..count]), port)
 }
 
-/// A port to be filled.
-pub fn blank() -> Port {
+/// A port to be filled: an empty one, all of whose times are 0.
+pub fn blank() -> Port
+    ensures { result ≡ absent (record { settle = 0; period = 0; first = 0; most = 0 }) Nothing no_flags false }
+{
     Port::new(Times {
         settle: 0,
         period: 0,
