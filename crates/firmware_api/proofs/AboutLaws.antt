@@ -33,7 +33,9 @@ use Rattle.firmware_api.specs.declared.conversation.numbers.SavedConversation.{S
 use Rattle.firmware_api.specs.declared.half.HalfBytes.{HalfBytes}
 use Rattle.firmware_api.specs.declared.kept.Kept.{Kept}
 use Rattle.firmware_api.specs.declared.kept.Kept.TheVariants.{OfTasks, OfPower, OfReading}
-use Rattle.firmware_api.specs.KeptConversations.{Bringing, Ending, Fetching, InHand, Subject, Turning, WasTold, about, after, after_pause, halves_after, halves_want, needed, next_of, patience_of}
+use Rattle.port_manager.specs.Jobs.{paged_halves}
+use Rattle.port_manager.specs.Patients.{after_on, wants_on}
+use Rattle.firmware_api.specs.KeptConversations.{Bringing, Ending, Fetching, InHand, Subject, Turning, WasTold, about, after, after_pause, next_of, patience_of}
 use Rattle.firmware_api.specs.SavedConversations.{IsReplyFor, IsSavedAt, conversation_in, wanted}
 use Rattle.firmware_api.proofs.PauseLaws.{told_after_pause}
 use Rattle.firmware_api.proofs.ReadingRoom.{same_piece}
@@ -45,18 +47,18 @@ same_power : (change : PowerChange) (result : Result PowerStage ProvisionFault) 
 same_power change (Ok stage) = refl
 same_power change (Err fault) = refl
 
-doubts_by : (pieces : InHand) (reply : Reply) (whole : Option Reply) → (after_told halves_want halves_after pieces reply whole).conversation.doubts ≡ pieces.conversation.doubts
+doubts_by : (pieces : InHand) (reply : Reply) (whole : Option Reply) → (after_told (wants_on paged_halves) (after_on paged_halves) pieces reply whole).conversation.doubts ≡ pieces.conversation.doubts
 doubts_by pieces reply None = refl
 doubts_by pieces reply (Some whole) =
     let on = pieces.conversation in
-    keeps_doubts reading.after_reply (λ (halves : Halves) (page : ℕ). reading.after_lack halves) true (chosen (reading.addressing on.conversation)) (needed on.conversation) on whole
+    keeps_doubts reading.after_reply (λ (halves : Halves) (page : ℕ). reading.after_lack halves) true (chosen (reading.addressing on.conversation)) (paged_halves.page on.conversation) on whole
 
-request_by : (pieces : InHand) (reply : Reply) (whole : Option Reply) → (after_told halves_want halves_after pieces reply whole).conversation.conversation.request ≡ pieces.conversation.conversation.request
+request_by : (pieces : InHand) (reply : Reply) (whole : Option Reply) → (after_told (wants_on paged_halves) (after_on paged_halves) pieces reply whole).conversation.conversation.request ≡ pieces.conversation.conversation.request
 request_by pieces reply None = refl
 request_by pieces reply (Some whole) =
     let on = pieces.conversation in
     let hand = reading.in_hand on.conversation in
-    on_page_by reading.after_reply (λ (halves : Halves) (page : ℕ). reading.after_lack halves) true (chosen (reading.addressing on.conversation)) (needed on.conversation) on whole
+    on_page_by reading.after_reply (λ (halves : Halves) (page : ℕ). reading.after_lack halves) true (chosen (reading.addressing on.conversation)) (paged_halves.page on.conversation) on whole
     (λ (halves : Halves). halves.request ≡ on.conversation.request) refl (same_request hand on.conversation whole) (λ number. lacks_same_request hand on.conversation)
 
 pub same_about : (kept : Kept) (reply : Reply) → about (after kept reply) ≡ about kept
@@ -73,8 +75,8 @@ same_about (OfPower change) reply =
 same_about (OfReading read) reply =
     let pieces = read.conversation.conversation in
     let piece = same_piece pieces reply in
-    let doubts = doubts_by pieces reply (whole_reply pieces.piece pieces.part.items (halves_want pieces.conversation) reply) in
-    let request = request_by pieces reply (whole_reply pieces.piece pieces.part.items (halves_want pieces.conversation) reply) in
+    let doubts = doubts_by pieces reply (whole_reply pieces.piece pieces.part.items (wants_on paged_halves pieces.conversation) reply) in
+    let request = request_by pieces reply (whole_reply pieces.piece pieces.part.items (wants_on paged_halves pieces.conversation) reply) in
     (λ i. Fetching (request i) (piece i) (doubts i))
 
 same_patience : (kept : Kept) (reply : Reply) → patience_of (after kept reply) ≡ patience_of kept

@@ -34,9 +34,7 @@ use Rattle.sff8636_map.specs.Refusals.{module_fault as qsfp_module_fault, identi
 use Rattle.sff8472_map.specs.Refusals as sff8472
 use Rattle.sff8472_map.specs.Refusals.{module_fault as sfp_module_fault, flags_fault as sfp_flags_fault, measured_fault as sfp_measured_fault}
 use Rattle.firmware_api.specs.declared.status.Refusal.TheVariants.{Decode}
-use Rattle.firmware_api.specs.Identities.{identity_refusal}
-use Rattle.firmware_api.specs.Monitors.{monitors_refusal}
-use Rattle.firmware_api.specs.RaisedFlags.{flags_refusal}
+use Rattle.firmware_api.specs.Halves.{report_refusal}
 use Rattle.firmware_api.specs.Statuses.{is_answered}
 
 abbrev AreAnswered : Option DecodeFault → Type 0
@@ -173,14 +171,6 @@ module _ (memory : Memory) where
   unfolding fault_of
   answered report = by_fault report (module_fault memory) refl
 
-pub of_identity : (memory : Memory) → IfSome (identity_refusal memory) (λ r. IsTrue (is_answered r))
-unfolding identity_refusal
-of_identity memory = answered memory Inventory
-
-pub of_monitors : (memory : Memory) → IfSome (monitors_refusal memory) (λ r. IsTrue (is_answered r))
-unfolding monitors_refusal
-of_monitors memory = answered memory Monitors
-
-pub of_flags : (memory : Memory) → IfSome (flags_refusal memory) (λ r. IsTrue (is_answered r))
-unfolding flags_refusal
-of_flags memory = answered memory Flags
+pub of_report : (report : Report) (memory : Memory) → IfSome (report_refusal report memory) (λ r. IsTrue (is_answered r))
+unfolding report_refusal
+of_report report memory = answered memory report

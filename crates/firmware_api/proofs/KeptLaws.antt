@@ -31,7 +31,6 @@ use Rattle.saved_port.specs.Known.{HasRead, IsKnown, IsKnownJob, IsReadingAfter,
 use Rattle.firmware_api.specs.declared.half.HalfBytes.{HalfBytes}
 use Rattle.firmware_api.specs.declared.port.kept.KeptPort.{KeptPort}
 use Rattle.firmware_api.specs.Halves.{key_of, memory_of}
-use Rattle.firmware_api.specs.KeptConversations.{halves_after, halves_want}
 use Rattle.firmware_api.specs.KeptPorts.{FitsIn, HasFewHalves, HasRoom, IsCounted, IsHalfBy, IsHalfIn, IsKept, count_by, count_in, count_of, kept_in}
 use Rattle.firmware_api.specs.PortsTold.{next_told}
 use Rattle.firmware_api.specs.SavedConversations.{HasHalf, IsInFront}
@@ -134,7 +133,7 @@ heard_known presences.Same port alive began now known = known
 
 -- ---- where a reading goes on
 
-goes_on : (job : Patient (OnPage Halves)) (reply : Reply) (half : Option HalfBytes) → HasHalf half (halves_of job) (halves_after job.conversation.conversation reply).conversation →
+goes_on : (job : Patient (OnPage Halves)) (reply : Reply) (half : Option HalfBytes) → HasHalf half (halves_of job) (after_on paged_halves job.conversation.conversation reply).conversation →
     HasHalf half (halves_of job) (halves_of (reading_after job reply))
 goes_on job reply half has =
     kept_within (λ (on : OnPage Halves). HasHalf half (halves_of job) on.conversation) (wants_on paged_halves) (after_on paged_halves) job reply has
@@ -214,7 +213,7 @@ replies (Do op) reply answers = answers
 replies (Wait time) reply answers = absurd answers
 replies (End end) reply answers = absurd answers
 
-pub reading_replies : (job : Patient (OnPage Halves)) (reply : Reply) → IsReplyTo (op_of (reading_wants job)) reply → conversations.IsReplyTo (halves_want job.conversation.conversation) reply
+pub reading_replies : (job : Patient (OnPage Halves)) (reply : Reply) → IsReplyTo (op_of (reading_wants job)) reply → conversations.IsReplyTo (wants_on paged_halves job.conversation.conversation) reply
 reading_replies job reply answers = (made (wants_on paged_halves) job reply (replies (reading_wants job) reply answers)).1
 
 -- ---- the memory

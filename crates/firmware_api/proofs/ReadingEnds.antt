@@ -32,7 +32,8 @@ use Rattle.firmware_api.specs.declared.kept.Kept.{Kept}
 use Rattle.firmware_api.specs.declared.kept.Kept.TheVariants.{OfTasks, OfPower, OfReading}
 use Rattle.firmware_api.specs.Halves.{memory_of}
 use Rattle.conversations.specs.Patiently.{wants_patiently}
-use Rattle.firmware_api.specs.KeptConversations.{Bringing, Ending, Fetching, Spending, Subject, Turning, WasTold, about, ending_by, needed, next_of, pieces_want, read_ending}
+use Rattle.port_manager.specs.Jobs.{paged_halves}
+use Rattle.firmware_api.specs.KeptConversations.{Bringing, Ending, Fetching, Spending, Subject, Turning, WasTold, about, ending_by, next_of, pieces_want, read_ending}
 use Rattle.firmware_api.specs.ReadEnds.{HasImage, HasReadModule}
 use Rattle.firmware_api.specs.SavedConversations as saving
 use Rattle.firmware_api.specs.SavedConversations.{IsSavedAt, conversation_in, halves_in}
@@ -96,7 +97,7 @@ module _ (saved : SavedConversation) (halves : List HalfBytes) (request : Reques
       let pieces = pausing.conversation in
       let on = pieces.conversation in
       let (own, same_steps, (joined, half, part, joins, outcome)) = patient_outcome events read _ told.0 told.1 told.2 numbers.room.0 in
-      let found = ends_by read.steps read.limit pausing.idle pausing.patience pieces.piece pieces.part.items (chosen (reading.addressing on.conversation)) on.selection (needed on.conversation) spent pausing.due (reading.in_hand on.conversation) ends in
+      let found = ends_by read.steps read.limit pausing.idle pausing.patience pieces.piece pieces.part.items (chosen (reading.addressing on.conversation)) on.selection (paged_halves.page on.conversation) spent pausing.due (reading.in_hand on.conversation) ends in
       let ended : HasReadModule on.doubts on.conversation.request events on.conversation.image (InOrder spent) =
       (own, same_steps, (joined, half, part, joins, (outcome.is_reading, image_by spent.end on.doubts (steps_of joined) on.conversation found outcome))) in
       let same_doubts : on.doubts ≡ doubts = ap doubts_in same in

@@ -23,7 +23,9 @@ use Rattle.module_reading.specs.ImageReading.{in_hand, wants_by}
 use Rattle.firmware_api.specs.declared.half.HalfBytes.{HalfBytes}
 use Rattle.firmware_api.specs.Halves.{has_place, key_of, memory_of}
 use Rattle.conversations.specs.Patiently.{Patient, after_patiently, wants_patiently}
-use Rattle.firmware_api.specs.KeptConversations.{InHand, ending_by, halves_after, halves_of, halves_want, pieces_after, pieces_want, read_ending}
+use Rattle.port_manager.specs.Jobs.{paged_halves}
+use Rattle.port_manager.specs.Patients.{after_on, wants_on}
+use Rattle.firmware_api.specs.KeptConversations.{InHand, ending_by, halves_of, pieces_after, pieces_want, read_ending}
 use Rattle.firmware_api.specs.SavedConversations.{HasHalf, HasInFront, HasNumbers, HasRead, IsInFront}
 use Rattle.firmware_api.proofs.WholeHalfLaws.{placed_by}
 
@@ -46,12 +48,12 @@ placed pieces reply answers =
 
 -- ---- the part of a half
 
-same_piece_by : (it : InHand) (reply : Reply) (whole : Option Reply) → (after_told halves_want halves_after it reply whole).piece ≡ it.piece
+same_piece_by : (it : InHand) (reply : Reply) (whole : Option Reply) → (after_told (wants_on paged_halves) (after_on paged_halves) it reply whole).piece ≡ it.piece
 same_piece_by it reply None = refl
 same_piece_by it reply (Some whole) = refl
 
 pub same_piece : (it : InHand) (reply : Reply) → (pieces_after it reply).piece ≡ it.piece
-same_piece it reply = same_piece_by it reply (whole_reply it.piece it.part.items (halves_want it.conversation) reply)
+same_piece it reply = same_piece_by it reply (whole_reply it.piece it.part.items (wants_on paged_halves it.conversation) reply)
 
 left_short : (again : Bool) (part : List ℕ) → length part < 128 → length (part_left again part) < 128
 left_short true part short = short
@@ -59,7 +61,7 @@ left_short false part short = omega arith
 
 module _ (it : InHand) (reply : Reply) (was_short : length it.part.items < 128) (answers : IsReplyTo (pieces_want it) reply) where
   abbrev asked : Next (Unit {0})
-  asked = halves_want it.conversation
+  asked = wants_on paged_halves it.conversation
 
   abbrev part : List ℕ
   part = it.part.items
@@ -82,9 +84,9 @@ module _ (it : InHand) (reply : Reply) (was_short : length it.part.items < 128) 
       let other : length (part ++ bytes_in reply) ≡ 128 → ⊥ = not_whole reply none in
       omega (arith, most, other, length-append part (bytes_in reply))
 
-  short_by : (whole : Option Reply) → whole_reply it.piece part asked reply ≡ whole → length (after_told halves_want halves_after it reply whole).part.items < 128
+  short_by : (whole : Option Reply) → whole_reply it.piece part asked reply ≡ whole → length (after_told (wants_on paged_halves) (after_on paged_halves) it reply whole).part.items < 128
   short_by None none = short none
-  short_by (Some whole) is = left_short (refused reply && is_same_wanted (op_of asked) (op_of (halves_want (halves_after it.conversation whole)))) part was_short
+  short_by (Some whole) is = left_short (refused reply && is_same_wanted (op_of asked) (op_of (wants_on paged_halves (after_on paged_halves it.conversation whole)))) part was_short
 
   pub stays_short : length (pieces_after it reply).part.items < 128
   stays_short = short_by (whole_reply it.piece part asked reply) refl

@@ -8,16 +8,18 @@ use Rattle.conversations.specs.Patiently.{after_patiently, wants_patiently}
 use Rattle.conversations.specs.Watching.{is_looking, look_at, looked, shown}
 use Rattle.control_sets.specs.PatientProcedures.{WatchfulProcedure}
 use Rattle.control_sets.specs.Progress.{tasks_want}
-use Rattle.firmware_api.specs.KeptConversations.{tasks_after, watchful_after}
+use Rattle.port_manager.specs.Jobs.{paged_tasks}
+use Rattle.port_manager.specs.Patients.{after_on}
+use Rattle.firmware_api.specs.KeptConversations.{watchful_after}
 
 module _ (it : WatchfulProcedure) (reply : Reply) (P : WatchfulProcedure → Type 0)
     (same : (look : Look) → P (record { conversation = it.conversation; watches = it.watches; look = look }))
-    (told : (r : Reply) (look : Look) → P (record { conversation = after_patiently tasks_want tasks_after it.conversation r; watches = it.watches; look = look })) where
-  looked_by : (found : Option ℕ) → P (looked (after_patiently tasks_want tasks_after) it found)
+    (told : (r : Reply) (look : Look) → P (record { conversation = after_patiently tasks_want (after_on paged_tasks) it.conversation r; watches = it.watches; look = look })) where
+  looked_by : (found : Option ℕ) → P (looked (after_patiently tasks_want (after_on paged_tasks)) it found)
   looked_by (Some code) = same (look_at code)
   looked_by None = told Refused Seen
 
-  by_looking : (looking : Bool) → P (if looking then looked (after_patiently tasks_want tasks_after) it (shown reply) else record { conversation = after_patiently tasks_want tasks_after it.conversation reply; watches = it.watches; look = Seen })
+  by_looking : (looking : Bool) → P (if looking then looked (after_patiently tasks_want (after_on paged_tasks)) it (shown reply) else record { conversation = after_patiently tasks_want (after_on paged_tasks) it.conversation reply; watches = it.watches; look = Seen })
   by_looking true = looked_by (shown reply)
   by_looking false = told reply Seen
 

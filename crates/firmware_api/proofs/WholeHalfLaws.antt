@@ -26,7 +26,9 @@ use Rattle.module_reading.specs.declared.region.Region.TheVariants.{Lower}
 use Rattle.module_reading.specs.Regions.{key_of, operation, regions_of}
 use Rattle.module_reading.specs.ImageReading.{addressing, after_fetch, after_lack, after_reply, in_hand, leaving_out, put_in, wants_by}
 use Rattle.module_reading.proofs.RegionLaws.{at_most_five}
-use Rattle.firmware_api.specs.KeptConversations.{OnHalves, halves_after, halves_want, needed}
+use Rattle.port_manager.specs.Jobs.{paged_halves}
+use Rattle.port_manager.specs.Patients.{after_on, wants_on}
+use Rattle.firmware_api.specs.KeptConversations.{OnHalves}
 use Rattle.firmware_api.specs.SavedConversations.{Leaves, Puts}
 use Rattle.firmware_api.specs.WholeHalves.{if_bytes, kept}
 
@@ -97,8 +99,8 @@ asks_by : (by : PageAddressing) (selected : KnownPage) (page : Option ℕ) (foun
 asks_by by selected page None reply answers = absurd answers
 asks_by by selected page (Some region) reply answers = record { region = region; is = refl; answers = answers }
 
-asks : (on : OnHalves) (reply : Reply) → IsReplyTo (halves_want on) reply → Asks (in_hand on.conversation) (chosen (addressing on.conversation)) on.selection (needed on.conversation) reply
-asks on reply answers = asks_by (chosen (addressing on.conversation)) on.selection (needed on.conversation) (in_hand on.conversation) reply answers
+asks : (on : OnHalves) (reply : Reply) → IsReplyTo (wants_on paged_halves on) reply → Asks (in_hand on.conversation) (chosen (addressing on.conversation)) on.selection (paged_halves.page on.conversation) reply
+asks on reply answers = asks_by (chosen (addressing on.conversation)) on.selection (paged_halves.page on.conversation) (in_hand on.conversation) reply answers
 
 pub placed_by : (halves : Halves) (region : Region) → in_hand halves ≡ Some region → halves.settled < 5
 placed_by halves region is =
@@ -106,7 +108,7 @@ placed_by halves region is =
     let most = at_most_five halves.request halves.image in
     omega (arith, within, most)
 
-pub placed_on : (on : OnHalves) (reply : Reply) → IsReplyTo (halves_want on) reply → on.conversation.settled < 5
+pub placed_on : (on : OnHalves) (reply : Reply) → IsReplyTo (wants_on paged_halves on) reply → on.conversation.settled < 5
 placed_on on reply answers = let asked = asks on reply answers in placed_by on.conversation asked.region asked.is
 
 -- ---- the half that it gives
@@ -153,7 +155,7 @@ module _ (on : OnHalves) (reply : Reply) where
   by = chosen (addressing on.conversation)
 
   abbrev page : Option ℕ
-  page = needed on.conversation
+  page = paged_halves.page on.conversation
 
   abbrev lacking : Halves → ℕ → Halves
   lacking halves number = after_lack halves
@@ -167,7 +169,7 @@ module _ (on : OnHalves) (reply : Reply) where
   keeps_by false None region few is answers = fetched on.conversation (in_hand on.conversation) region reply few is answers
 
   -- what the reply makes of the halves
-  pub keeps : map.len on.conversation.image ≤ 5 → IsReplyTo (halves_want on) reply → Keeps (kept on reply) reply on.conversation (halves_after on reply).conversation
+  pub keeps : map.len on.conversation.image ≤ 5 → IsReplyTo (wants_on paged_halves on) reply → Keeps (kept on reply) reply on.conversation (after_on paged_halves on reply).conversation
   keeps few answers =
       let asked = asks on reply answers in
       as_trusting after_reply lacking true by page on reply (λ (h : Halves). Keeps (kept on reply) reply on.conversation h)
@@ -175,24 +177,24 @@ module _ (on : OnHalves) (reply : Reply) where
 
 module _ (on : OnHalves) (few : map.len on.conversation.image ≤ 5) where
   abbrev after : Reply → Halves
-  after reply = (halves_after on reply).conversation
+  after reply = (after_on paged_halves on reply).conversation
 
-  pub no_half : (reply : Reply) → IsReplyTo (halves_want on) reply → kept on reply ≡ None → Leaves on.conversation (after reply)
+  pub no_half : (reply : Reply) → IsReplyTo (wants_on paged_halves on) reply → kept on reply ≡ None → Leaves on.conversation (after reply)
   no_half reply answers none = subst (λ (key : Option Key). Keeps key reply on.conversation (after reply)) none (keeps on reply few answers)
 
-  one_half : (bytes : ArrayVec ℕ) (key : Key) → IsReplyTo (halves_want on) (Bytes bytes) → kept on (Bytes bytes) ≡ Some key → Puts on.conversation key bytes.items (after (Bytes bytes))
+  one_half : (bytes : ArrayVec ℕ) (key : Key) → IsReplyTo (wants_on paged_halves on) (Bytes bytes) → kept on (Bytes bytes) ≡ Some key → Puts on.conversation key bytes.items (after (Bytes bytes))
   one_half bytes key answers is = subst (λ (key : Option Key). Keeps key (Bytes bytes) on.conversation (after (Bytes bytes))) is (keeps on (Bytes bytes) few answers)
 
-  pub half_given : (reply : Reply) (bytes : ArrayVec ℕ) (key : Key) → reply ≡ Bytes bytes → IsReplyTo (halves_want on) reply → kept on reply ≡ Some key → Puts on.conversation key bytes.items (after reply)
+  pub half_given : (reply : Reply) (bytes : ArrayVec ℕ) (key : Key) → reply ≡ Bytes bytes → IsReplyTo (wants_on paged_halves on) reply → kept on reply ≡ Some key → Puts on.conversation key bytes.items (after reply)
   half_given reply bytes key same answers is =
-      subst (λ (r : Reply). IsReplyTo (halves_want on) r → kept on r ≡ Some key → Puts on.conversation key bytes.items (after r)) (sym same) (one_half bytes key) answers is
+      subst (λ (r : Reply). IsReplyTo (wants_on paged_halves on) r → kept on r ≡ Some key → Puts on.conversation key bytes.items (after r)) (sym same) (one_half bytes key) answers is
 
   -- only bytes are a half
   none_of : (selects : Bool) (key : Option Key) (reply : Reply) → if_bytes key reply ≡ None → (if selects then None else if_bytes key reply) ≡ None
   none_of true key reply none = refl
   none_of false key reply none = none
 
-  pub other_reply : (reply : Reply) → IsReplyTo (halves_want on) reply → ((key : Option Key) → if_bytes key reply ≡ None) → Leaves on.conversation (after reply)
+  pub other_reply : (reply : Reply) → IsReplyTo (wants_on paged_halves on) reply → ((key : Option Key) → if_bytes key reply ≡ None) → Leaves on.conversation (after reply)
   other_reply reply answers none =
       let key : Option Key = option_map key_of (in_hand on.conversation) in
-      no_half reply answers (none_of (is_awaited on.selection || is_some (missing_page on.selection (needed on.conversation))) key reply (none key))
+      no_half reply answers (none_of (is_awaited on.selection || is_some (missing_page on.selection (paged_halves.page on.conversation))) key reply (none key))

@@ -1,4 +1,4 @@
--- The memory of a module whose halves are handed over, why its Applications are not read, and what it advertises.
+-- The memory of a module whose halves are handed over, why its Applications or its reports are not read, and what it advertises.
 -- (docs/firmware.md, "Halves" and "Plans"; OIF-CMIS-05.0, "Management Memory Map")
 use Rattle.std.specs.Prelude.{◌==◌, ◌&&◌, ◌||◌, Bool, false, ℕ, not, nat_lt, List, length, map, Option, Some, if◌then◌else◌}
 use Rattle.std.specs.List.{list_all}
@@ -12,22 +12,26 @@ use Rattle.paged_memory.specs.Images.{Memory, most_pages}
 use Rattle.applications.specs.Advertised.{Advertised, advertised_under}
 use Rattle.applications.specs.declared.conventions.Conventions.{Conventions}
 use Rattle.applications.specs.Refusals.{advert_fault_under}
+use Rattle.module_decoding.specs.declared.report.Report.{Report}
+use Rattle.module_decoding.specs.Reports.{fault_of}
 use Rattle.firmware_api.specs.declared.half.HalfBytes.{HalfBytes}
 use Rattle.firmware_api.specs.declared.status.Refusal.{Refusal}
-use Rattle.firmware_api.specs.declared.status.Refusal.TheVariants.{TooManyHalves, NoPlace, Advert}
+use Rattle.firmware_api.specs.declared.status.Refusal.TheVariants.{TooManyHalves, NoPlace, Advert, Decode}
 
--- the device is A0h or A2h; a lower half is of bank 0 and page 0
+-- A0h or A2h
+abbrev pub is_device : ℕ → Bool
+is_device device = device == 160 || device == 162
+
+abbrev pub device_of : ℕ → Dev
+device_of device = if device == 162 then A2 else A0
+
+-- a lower half is of bank 0 and page 0
 abbrev pub has_place : HalfBytes → Bool
-has_place half =
-    (half.device == 160 || half.device == 162)
-    && (half.upper == 1 || half.upper == 0 && half.bank == 0 && half.page == 0)
-
-abbrev pub device_of : HalfBytes → Dev
-device_of half = if half.device == 162 then A2 else A0
+has_place half = is_device half.device && (half.upper == 1 || half.upper == 0 && half.bank == 0 && half.page == 0)
 
 -- of a half that has a place
 abbrev pub key_of : HalfBytes → Key
-key_of half = if half.upper == 0 then lower_key (device_of half) else upper_key (device_of half) half.bank half.page
+key_of half = if half.upper == 0 then lower_key (device_of half.device) else upper_key (device_of half.device) half.bank half.page
 
 -- of halves at one place the first counts
 unfoldable pub memory_of : List HalfBytes → Memory
@@ -39,6 +43,10 @@ refusal_under conventions halves =
     if nat_lt most_pages (length halves) then Some TooManyHalves
     else (if not (list_all has_place halves) then Some NoPlace
     else option_map Advert (advert_fault_under conventions (memory_of halves)))
+
+-- why C is not told what a report says
+unfoldable pub report_refusal : Report → Memory → Option Refusal
+report_refusal report memory = option_map Decode (fault_of report memory)
 
 -- it takes what the module advertises as it stands
 abbrev pub as_it_stands : Conventions

@@ -1,7 +1,6 @@
--- What a module is, as C sees it, and why C is not told. (docs/firmware.md, "Decoders"; OIF-CMIS-05.0, "Administrative Information
+-- What a module is, as C sees it. (docs/firmware.md, "Decoders"; OIF-CMIS-05.0, "Administrative Information
 -- (Page 00h)"; SFF-8636, "Upper Page 00h"; SFF-8472, "Serial ID: Data Fields")
-use Rattle.std.specs.Prelude.{◌+◌, pos, Option, None}
-use Rattle.std.specs.Option.{option_map}
+use Rattle.std.specs.Prelude.{◌+◌, pos, None}
 use Rattle.paged_memory.specs.declared.family.Family.{Family}
 use Rattle.paged_memory.specs.declared.family.Family.TheVariants.{Cmis, Sff8636, Sff8472}
 use Rattle.paged_memory.specs.Images.{Memory}
@@ -10,14 +9,10 @@ use Rattle.field_tables.specs.declared.field.Sum.TheVariants as sums
 use Rattle.field_tables.specs.declared.field.TextField.TheVariants as texts
 use Rattle.field_tables.specs.Readings.{all_numbers, is_sum_right, number, text}
 use Rattle.module_decoding.specs.Amounts.{amount_at, length_in}
-use Rattle.module_decoding.specs.declared.report.Report.TheVariants.{Inventory}
 use Rattle.module_decoding.specs.CmisPages.{is_flat}
 use Rattle.module_decoding.specs.ModuleFamilies.{family_of}
-use Rattle.module_decoding.specs.Reports.{fault_of}
 use Rattle.firmware_api.specs.declared.identity.ModuleIdentity.{ModuleIdentity}
 use Rattle.firmware_api.specs.declared.identity.SharedFields.{SharedFields}
-use Rattle.firmware_api.specs.declared.status.Refusal.{Refusal}
-use Rattle.firmware_api.specs.declared.status.Refusal.TheVariants.{Decode}
 use Rattle.firmware_api.specs.ShownTexts.{shown_text}
 use Rattle.firmware_api.specs.Statuses.{family_number, number_of}
 
@@ -98,10 +93,6 @@ abbrev pub identity_of : Family → Memory → ModuleIdentity
 identity_of Cmis memory = cmis_identity memory
 identity_of Sff8636 memory = record (shared_identity memory Sff8636 qsfp_fields) { sum_ext = number_of (is_sum_right memory sums.QSumExt) }
 identity_of Sff8472 memory = record (shared_identity memory Sff8472 sfp_fields) { sum_ext = number_of (is_sum_right memory sums.SSumExt) }
-
--- why C is not told what a module is
-unfoldable pub identity_refusal : Memory → Option Refusal
-identity_refusal memory = option_map Decode (fault_of Inventory memory)
 
 -- by its family
 unfoldable pub identity_in : Memory → ModuleIdentity

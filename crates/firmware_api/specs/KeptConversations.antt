@@ -1,6 +1,6 @@
 -- The conversations that C keeps: procedures of tasks, changes of power, and readings. What each wants, what a reply or a pause makes
 -- of it, which events it was told, and how it ends. (docs/firmware.md, "Conversations"; this project's own)
-use Rattle.std.specs.Prelude.{◌≡◌, ℕ, false, true, Bool, Option, None}
+use Rattle.std.specs.Prelude.{◌≡◌, ℕ, true, Bool, Option, None}
 use Rattle.std.specs.Option.{option_map}
 use Rattle.bus_model.specs.declared.operation.Reply.{Reply}
 use Rattle.conversations.specs.declared.in_pieces.InPieces.{InPieces}
@@ -16,10 +16,9 @@ use Rattle.conversations.specs.declared.within.Spent.{Spent}
 use Rattle.conversations.specs.Events.{Events, steps_of}
 use Rattle.conversations.specs.Patiently.{EndsPatiently, GoesOnPatiently, Patient, ToldPatiently, after_patiently, paused, wants_patiently}
 use Rattle.conversations.specs.Pieces.{InHalves, InHalvesSoFar, IsInPieces, after_piece, next_piece}
-use Rattle.conversations.specs.Selecting.{Knows, chosen, next_on, on_after, trusted}
+use Rattle.conversations.specs.Selecting.{Knows, trusted}
 use Rattle.conversations.specs.Wanted.{op_of}
 use Rattle.conversations.specs.Watching.{EndsWatching, WithLooks, after_watching, look_after_wait, next_watching}
-use Rattle.paged_memory.specs.declared.page_addressing.PageAddressing.TheVariants.{BankAndPage}
 use Rattle.control_sets.specs.declared.fault.ProvisionFault.{ProvisionFault}
 use Rattle.control_sets.specs.declared.procedures.power.Power.{Power}
 use Rattle.control_sets.specs.declared.procedures.procedure.Work.{Work}
@@ -30,18 +29,15 @@ use Rattle.module_reading.specs.declared.halves.Halves.{Halves}
 use Rattle.module_reading.specs.declared.request.Request.{Request}
 use Rattle.module_reading.specs.ImageReading as reading
 use Rattle.module_reading.specs.ReadingRuns.{WithOwn}
+use Rattle.port_manager.specs.Jobs.{paged_halves, paged_tasks}
+use Rattle.port_manager.specs.Patients.{after_on, wants_on}
 use Rattle.firmware_api.specs.declared.kept.Kept.{Kept}
 use Rattle.firmware_api.specs.declared.kept.Kept.TheVariants.{OfTasks, OfPower, OfReading}
 
--- ---- tasks on confirmed pages
-
-abbrev pub tasks_after : tasks.OnTasks → Reply → tasks.OnTasks
-tasks_after on reply = on_after tasks.after_reply (λ list number. list) false BankAndPage (tasks.page_by (tasks.hand on.conversation)) on reply
-
--- ---- and with looks at the module's state
+-- ---- tasks on confirmed pages, with looks at the module's state
 
 abbrev pub watchful_after : WatchfulProcedure → Reply → WatchfulProcedure
-watchful_after it reply = after_watching (wants_patiently tasks.tasks_want) (after_patiently tasks.tasks_want tasks_after) it reply
+watchful_after it reply = after_watching (wants_patiently tasks.tasks_want) (after_patiently tasks.tasks_want (after_on paged_tasks)) it reply
 
 -- ---- halves on confirmed pages, in pieces
 
@@ -51,29 +47,19 @@ OnHalves = OnPage Halves
 abbrev pub InHand : Type 0
 InHand = InPieces OnHalves
 
-abbrev pub needed : Halves → Option ℕ
-needed halves = reading.page_by (reading.in_hand halves)
-
-abbrev pub halves_want : OnHalves → Next (Unit {0})
-halves_want on = next_on (chosen (reading.addressing on.conversation)) on.selection (needed on.conversation) (reading.wants on.conversation)
-
-abbrev pub halves_after : OnHalves → Reply → OnHalves
-halves_after on reply =
-    on_after reading.after_reply (λ halves page. reading.after_lack halves) true (chosen (reading.addressing on.conversation)) (needed on.conversation) on reply
-
 abbrev pub halves_told : OnHalves → Events → Type 0
 halves_told on events =
     Knows true (reading.addressing on.conversation) on.selection on.taken (trusted on.doubts (steps_of events))
     × WithOwn on.doubts on.conversation.request (λ own. reading.IsTold own on.conversation) events
 
 abbrev pub pieces_want : InHand → Next (Unit {0})
-pieces_want pieces = next_piece pieces.piece pieces.part.items (halves_want pieces.conversation)
+pieces_want pieces = next_piece pieces.piece pieces.part.items (wants_on paged_halves pieces.conversation)
 
 abbrev pub pieces_after : InHand → Reply → InHand
-pieces_after pieces reply = after_piece halves_want halves_after pieces reply
+pieces_after pieces reply = after_piece (wants_on paged_halves) (after_on paged_halves) pieces reply
 
 abbrev pub pieces_told : Events → InHand → Type 0
-pieces_told events pieces = IsInPieces (halves_told pieces.conversation) (halves_want pieces.conversation) pieces.piece pieces.part.items events
+pieces_told events pieces = IsInPieces (halves_told pieces.conversation) (wants_on paged_halves pieces.conversation) pieces.piece pieces.part.items events
 
 -- how far the halves of a reading have come
 abbrev pub halves_of : Patient InHand → Halves

@@ -17,7 +17,8 @@ use Rattle.firmware_api.specs.declared.port.kept.KeptPort.{KeptPort}
 use Rattle.firmware_api.specs.declared.status.Refusal.{Refusal}
 use Rattle.firmware_api.specs.declared.status.Refusal.TheVariants.{NoConversation, NoReply}
 use Rattle.firmware_api.specs.Halves.{memory_of}
-use Rattle.firmware_api.specs.KeptConversations.{halves_after}
+use Rattle.port_manager.specs.Jobs.{paged_halves}
+use Rattle.port_manager.specs.Patients.{after_on}
 use Rattle.firmware_api.specs.SavedConversations.{HasHalf}
 use Rattle.firmware_api.specs.Statuses.{done, status_of}
 
@@ -91,7 +92,7 @@ HasRoom (Watching job) = ⊥
 
 -- the half that the reply adds to a reading, if it is awaited
 abbrev pub IsHalfAt : Job → Reply → Option HalfBytes → Type 0
-IsHalfAt (Reading job woken) reply half = HasHalf half (halves_of job) (halves_after job.conversation.conversation reply).conversation
+IsHalfAt (Reading job woken) reply half = HasHalf half (halves_of job) (after_on paged_halves job.conversation.conversation reply).conversation
 IsHalfAt (Waking job) reply half = half ≡ None
 IsHalfAt (Sleeping job) reply half = half ≡ None
 IsHalfAt (Provisioning job goal) reply half = half ≡ None

@@ -1,23 +1,18 @@
--- What a module measures, as C sees it, and why C is not told. (docs/firmware.md, "Decoders"; OIF-CMIS-05.0, "Module-Level Monitor
+-- What a module measures, as C sees it. (docs/firmware.md, "Decoders"; OIF-CMIS-05.0, "Module-Level Monitor
 -- Values" of lower memory, "Supported Monitors Advertisement" of page 01h, the monitor thresholds of page 02h and "Lane-Specific
 -- Monitors" of page 11h; SFF-8636, "Free Side Device Monitors", "Channel Monitors" and their thresholds; SFF-8472, "Real Time
 -- Diagnostic and Control Registers" and "Alarm and Warning Thresholds")
-use Rattle.std.specs.Prelude.{not, if◌then◌else◌, Bool, true, false, Option, Some, None}
-use Rattle.std.specs.Option.{option_map}
+use Rattle.std.specs.Prelude.{not, if◌then◌else◌, Bool, true, false, Some, None}
 use Rattle.paged_memory.specs.declared.family.Family.{Family}
 use Rattle.paged_memory.specs.declared.family.Family.TheVariants.{Cmis, Sff8636, Sff8472}
 use Rattle.paged_memory.specs.Images.{Memory}
 use Rattle.field_tables.specs.declared.field.Field.TheVariants as fields
 use Rattle.field_tables.specs.declared.field.Sum.TheVariants as sums
 use Rattle.field_tables.specs.Readings.{bit, is_sum_right}
-use Rattle.module_decoding.specs.declared.report.Report.TheVariants as report
 use Rattle.module_decoding.specs.CmisPages.{is_flat}
 use Rattle.module_decoding.specs.ModuleFamilies.{family_of}
-use Rattle.module_decoding.specs.Reports.{fault_of}
 use Rattle.firmware_api.specs.declared.monitors.MeasuredFields.{MeasuredFields}
 use Rattle.firmware_api.specs.declared.monitors.ModuleMonitors.{ModuleMonitors}
-use Rattle.firmware_api.specs.declared.status.Refusal.{Refusal}
-use Rattle.firmware_api.specs.declared.status.Refusal.TheVariants.{Decode}
 use Rattle.firmware_api.specs.MeasuredValues.{lane_values, module_value, no_lane_values, supported_values, unsupported}
 use Rattle.firmware_api.specs.Statuses.{family_number, number_of}
 
@@ -97,10 +92,6 @@ abbrev pub monitors_of : Family → Memory → ModuleMonitors
 monitors_of Cmis memory = cmis_monitors memory
 monitors_of Sff8636 memory = qsfp_monitors memory
 monitors_of Sff8472 memory = sfp_monitors memory
-
--- why C is not told what a module measures
-unfoldable pub monitors_refusal : Memory → Option Refusal
-monitors_refusal memory = option_map Decode (fault_of report.Monitors memory)
 
 -- by the family
 unfoldable pub monitors_in : Memory → ModuleMonitors

@@ -1,22 +1,17 @@
--- The states of a module and the flags that it raises, as C sees them, and why C is not told. (docs/firmware.md, "Decoders";
+-- The states of a module and the flags that it raises, as C sees them. (docs/firmware.md, "Decoders";
 -- OIF-CMIS-05.0, "Module-Level Flags" of lower memory, of page 11h the data path states, the lane-specific flags and "Configuration
 -- Command Status"; SFF-8636, "Interrupt Flags"; SFF-8472, "Alarm and Warning Flag Bits")
-use Rattle.std.specs.Prelude.{ℕ, ◌+◌, if◌then◌else◌, List, [], ◌∷◌, Option}
-use Rattle.std.specs.Option.{option_map}
+use Rattle.std.specs.Prelude.{ℕ, ◌+◌, if◌then◌else◌, List, [], ◌∷◌}
 use Rattle.paged_memory.specs.declared.family.Family.{Family}
 use Rattle.paged_memory.specs.declared.family.Family.TheVariants.{Cmis, Sff8636, Sff8472}
 use Rattle.paged_memory.specs.Images.{Memory}
 use Rattle.field_tables.specs.declared.field.Field.{Field}
 use Rattle.field_tables.specs.declared.field.Field.TheVariants as fields
 use Rattle.field_tables.specs.Readings.{all_numbers, bit_at, number}
-use Rattle.module_decoding.specs.declared.report.Report.TheVariants.{Flags}
 use Rattle.module_decoding.specs.CmisPages.{is_flat}
 use Rattle.module_decoding.specs.ModuleFamilies.{family_of}
-use Rattle.module_decoding.specs.Reports.{fault_of}
 use Rattle.firmware_api.specs.declared.flags.ModuleFlags.{ModuleFlags}
 use Rattle.firmware_api.specs.declared.flags.LevelFlags.{LevelFlags}
-use Rattle.firmware_api.specs.declared.status.Refusal.{Refusal}
-use Rattle.firmware_api.specs.declared.status.Refusal.TheVariants.{Decode}
 use Rattle.firmware_api.specs.Statuses.{family_number}
 
 -- a bit of a byte of lanes
@@ -32,32 +27,23 @@ eight_lanes memory field =
     four_lanes memory field
     + lane_bit memory field 5 16 + lane_bit memory field 6 32 + lane_bit memory field 7 64 + lane_bit memory field 8 128
 
+-- what stands at the place of each limit
+abbrev pub levels_at : {A : Type 0} → (A → ℕ) → A → A → A → A → LevelFlags
+levels_at flag high_alarm low_alarm high_warning low_warning = record {
+  high_alarm = flag high_alarm;
+  low_alarm = flag low_alarm;
+  high_warning = flag high_warning;
+  low_warning = flag low_warning;
+}
+
 -- of the module itself: four flags of a field from the first on
 abbrev pub past_limits : Memory → Field → ℕ → LevelFlags
-past_limits memory field first = record {
-  high_alarm = lane_bit memory field first 1;
-  low_alarm = lane_bit memory field (first + 1) 1;
-  high_warning = lane_bit memory field (first + 2) 1;
-  low_warning = lane_bit memory field (first + 3) 1;
-}
+past_limits memory field first = levels_at (λ place. lane_bit memory field place 1) first (first + 1) (first + 2) (first + 3)
 
 -- of the module, or of its one lane: two flags of a field of alarms and of one of warnings, from the first on
 abbrev pub past_pairs : Memory → Field → Field → ℕ → LevelFlags
-past_pairs memory alarms warnings first = record {
-  high_alarm = lane_bit memory alarms first 1;
-  low_alarm = lane_bit memory alarms (first + 1) 1;
-  high_warning = lane_bit memory warnings first 1;
-  low_warning = lane_bit memory warnings (first + 1) 1;
-}
-
--- of each lane: a field for each limit
-abbrev pub of_fields : (Field → ℕ) → Field → Field → Field → Field → LevelFlags
-of_fields lanes high_alarm low_alarm high_warning low_warning = record {
-  high_alarm = lanes high_alarm;
-  low_alarm = lanes low_alarm;
-  high_warning = lanes high_warning;
-  low_warning = lanes low_warning;
-}
+past_pairs memory alarms warnings first =
+    levels_at (λ (place : Field × ℕ). lane_bit memory place.0 place.1 1) (alarms, first) (alarms, first + 1) (warnings, first) (warnings, first + 1)
 
 abbrev pub no_levels : LevelFlags
 no_levels = record { high_alarm = 0; low_alarm = 0; high_warning = 0; low_warning = 0 }
@@ -108,9 +94,9 @@ paged_flags memory = record (flat_flags memory) {
   tx_eq_fail = eight_lanes memory fields.CTxEqFail;
   rx_los = eight_lanes memory fields.CRxLos;
   rx_lol = eight_lanes memory fields.CRxLol;
-  tx_power = of_fields (eight_lanes memory) fields.CTxPowerHighAlarm fields.CTxPowerLowAlarm fields.CTxPowerHighWarning fields.CTxPowerLowWarning;
-  tx_bias = of_fields (eight_lanes memory) fields.CTxBiasHighAlarm fields.CTxBiasLowAlarm fields.CTxBiasHighWarning fields.CTxBiasLowWarning;
-  rx_power = of_fields (eight_lanes memory) fields.CRxPowerHighAlarm fields.CRxPowerLowAlarm fields.CRxPowerHighWarning fields.CRxPowerLowWarning;
+  tx_power = levels_at (eight_lanes memory) fields.CTxPowerHighAlarm fields.CTxPowerLowAlarm fields.CTxPowerHighWarning fields.CTxPowerLowWarning;
+  tx_bias = levels_at (eight_lanes memory) fields.CTxBiasHighAlarm fields.CTxBiasLowAlarm fields.CTxBiasHighWarning fields.CTxBiasLowWarning;
+  rx_power = levels_at (eight_lanes memory) fields.CRxPowerHighAlarm fields.CRxPowerLowAlarm fields.CRxPowerHighWarning fields.CRxPowerLowWarning;
 }
 
 abbrev pub qsfp_flags : Memory → ModuleFlags
@@ -124,9 +110,9 @@ qsfp_flags memory = record no_flags {
   rx_lol = four_lanes memory fields.QRxLol;
   temperature = past_limits memory fields.QTempFlag 1;
   vcc = past_limits memory fields.QVccFlag 1;
-  tx_power = of_fields (four_lanes memory) fields.QTxPowerHighAlarm fields.QTxPowerLowAlarm fields.QTxPowerHighWarning fields.QTxPowerLowWarning;
-  tx_bias = of_fields (four_lanes memory) fields.QTxBiasHighAlarm fields.QTxBiasLowAlarm fields.QTxBiasHighWarning fields.QTxBiasLowWarning;
-  rx_power = of_fields (four_lanes memory) fields.QRxPowerHighAlarm fields.QRxPowerLowAlarm fields.QRxPowerHighWarning fields.QRxPowerLowWarning;
+  tx_power = levels_at (four_lanes memory) fields.QTxPowerHighAlarm fields.QTxPowerLowAlarm fields.QTxPowerHighWarning fields.QTxPowerLowWarning;
+  tx_bias = levels_at (four_lanes memory) fields.QTxBiasHighAlarm fields.QTxBiasLowAlarm fields.QTxBiasHighWarning fields.QTxBiasLowWarning;
+  rx_power = levels_at (four_lanes memory) fields.QRxPowerHighAlarm fields.QRxPowerLowAlarm fields.QRxPowerHighWarning fields.QRxPowerLowWarning;
 }
 
 abbrev pub sfp_flags : Memory → ModuleFlags
@@ -149,10 +135,6 @@ abbrev pub flags_of : Family → Memory → ModuleFlags
 flags_of Cmis memory = cmis_flags memory
 flags_of Sff8636 memory = qsfp_flags memory
 flags_of Sff8472 memory = sfp_flags memory
-
--- why C is not told which flags are raised
-unfoldable pub flags_refusal : Memory → Option Refusal
-flags_refusal memory = option_map Decode (fault_of Flags memory)
 
 -- by the family
 unfoldable pub flags_in : Memory → ModuleFlags

@@ -3,8 +3,6 @@
 use Rattle.std.specs.Prelude.{◌≡◌, ℕ, ◌+◌, ◌==◌, ◌&&◌, ◌||◌, nat_le, nat_lt, Bool, true, false, not, List, length, Option, Some, None, Result, Ok, Err, if◌then◌else◌}
 use Rattle.std.specs.List.{list_all}
 use Rattle.std.specs.Option.{option_map, option_or}
-use Rattle.bus_model.specs.declared.device.Dev.{Dev}
-use Rattle.bus_model.specs.declared.device.Dev.TheVariants.{A0, A2}
 use Rattle.applications.specs.Refusals.{advert_fault}
 use Rattle.applications.specs.declared.fault.AdvertFault.{AdvertFault}
 use Rattle.sim_module.specs.declared.delays.Delays.{Delays}
@@ -21,7 +19,7 @@ use Rattle.sim_module.specs.Stores.{stored}
 use Rattle.firmware_api.specs.declared.half.HalfBytes.{HalfBytes}
 use Rattle.firmware_api.specs.declared.status.Refusal.{Refusal}
 use Rattle.firmware_api.specs.declared.status.Refusal.TheVariants.{TooManyHalves, NoPlace, Advert, NoStart, NoModule, NoRange, NotTaken}
-use Rattle.firmware_api.specs.Halves.{has_place, memory_of}
+use Rattle.firmware_api.specs.Halves.{device_of, has_place, is_device, memory_of}
 use Rattle.paged_memory.specs.Images.{most_pages}
 
 -- of the halves themselves
@@ -63,15 +61,12 @@ abbrev pub refusal_in : {A : Type 0} → Option A → Option Refusal
 refusal_in None = Some NoModule
 refusal_in (Some found) = None
 
--- the device is A0h or A2h, and there is a byte, and all lie in one half
+-- of such a device, and there is a byte, and all lie in one half
 abbrev pub is_range : ℕ → ℕ → ℕ → Bool
 is_range device offset count =
-    (device == 160 || device == 162)
+    is_device device
     && nat_lt 0 count
     && (nat_le (offset + count) 128 || nat_le 128 offset && nat_le (offset + count) 256)
-
-abbrev pub dev_of : ℕ → Dev
-dev_of device = if device == 162 then A2 else A0
 
 -- the bytes, with the module afterwards, or that the module refuses
 abbrev pub answered : Option (List ℕ) × SimModule → Result (List ℕ × SimModule) Refusal
@@ -82,7 +77,7 @@ answered (None, after) = Err NotTaken
 abbrev pub fetched_by : Result SimModule Refusal → ℕ → ℕ → ℕ → Result (List ℕ × SimModule) Refusal
 fetched_by (Err refusal) device offset count = Err refusal
 fetched_by (Ok sim) device offset count =
-    if is_range device offset count then answered (fetched sim (dev_of device) offset count) else Err NoRange
+    if is_range device offset count then answered (fetched sim (device_of device) offset count) else Err NoRange
 
 -- the module afterwards, or that the module refuses
 abbrev pub taken : Bool × SimModule → Result SimModule Refusal
@@ -93,7 +88,7 @@ taken (false, after) = Err NotTaken
 abbrev pub stored_by : Result SimModule Refusal → ℕ → ℕ → List ℕ → Result SimModule Refusal
 stored_by (Err refusal) device offset bytes = Err refusal
 stored_by (Ok sim) device offset bytes =
-    if nat_le (length bytes) 8 && is_range device offset (length bytes) then taken (stored sim (dev_of device) offset bytes) else Err NoRange
+    if nat_le (length bytes) 8 && is_range device offset (length bytes) then taken (stored sim (device_of device) offset bytes) else Err NoRange
 
 -- each number but 0 holds the pin
 abbrev pub is_on : ℕ → Bool

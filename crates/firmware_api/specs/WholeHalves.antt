@@ -11,7 +11,8 @@ use Rattle.module_reading.specs.Regions.{key_of}
 use Rattle.firmware_api.specs.declared.half.HalfBytes.{HalfBytes}
 use Rattle.firmware_api.specs.declared.kept.Kept.{Kept}
 use Rattle.firmware_api.specs.declared.kept.Kept.TheVariants.{OfReading}
-use Rattle.firmware_api.specs.KeptConversations.{OnHalves, halves_of, needed, pieces_after}
+use Rattle.port_manager.specs.Jobs.{paged_halves}
+use Rattle.firmware_api.specs.KeptConversations.{OnHalves, halves_of, pieces_after}
 use Rattle.firmware_api.specs.SavedConversations.{HasHalf}
 
 abbrev pub if_bytes : Option Key → Reply → Option Key
@@ -21,7 +22,7 @@ if_bytes key reply = None
 -- the place of the half that a reply gives; none if it gives none, or is one to the selection of a page
 abbrev pub kept : OnHalves → Reply → Option Key
 kept on reply =
-    if is_awaited on.selection || is_some (missing_page on.selection (needed on.conversation)) then None
+    if is_awaited on.selection || is_some (missing_page on.selection (paged_halves.page on.conversation)) then None
     else if_bytes (option_map key_of (in_hand on.conversation)) reply
 
 -- no more than a reading reads

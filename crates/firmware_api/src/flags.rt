@@ -1,9 +1,10 @@
 ghost use Rattle.std.specs.Prelude.{◌≡◌, ◌≢◌, ◌+◌, ◌*◌, ◌≤◌, IsTrue};
 ghost use Rattle.field_tables.specs.FieldRows.{row_of};
 ghost use Rattle.field_tables.specs.Readings.{is_of_bytes};
-ghost use Rattle.firmware_api.specs.Halves.{memory_of};
+ghost use Rattle.module_decoding.specs.declared.report.Report.TheVariants.{Flags};
+ghost use Rattle.firmware_api.specs.Halves.{memory_of, report_refusal};
 ghost use Rattle.firmware_api.specs.RaisedFlags as spec;
-ghost use Rattle.firmware_api.specs.RaisedFlags.{flags_in, flags_refusal};
+ghost use Rattle.firmware_api.specs.RaisedFlags.{flags_in};
 ghost use Rattle.std.specs.Option.{option_or};
 ghost use Rattle.firmware_api.specs.SimulatedModules.{half_refusal};
 ghost use Rattle.firmware_api.specs.Statuses.{done, status_by};
@@ -53,7 +54,7 @@ pub struct ModuleFlags {
 /// Puts into `flags` the states and the flags of the module whose memory has these halves.
 #[unsafe(no_mangle)]
 pub extern "C" fn dovecounter_flags(halves: &[HalfBytes], flags: &mut ModuleFlags) -> u32
-    ensures status { result ≡ status_by (option_or (half_refusal halves.now) (flags_refusal (memory_of halves.now))) }
+    ensures status { result ≡ status_by (option_or (half_refusal halves.now) (report_refusal Flags (memory_of halves.now))) }
     ensures done { result ≡ done → flags.new ≡ flags_in (memory_of halves.now) }
     ensures refused { result ≢ done → flags.new ≡ flags.old }
 {
@@ -64,9 +65,9 @@ pub extern "C" fn dovecounter_flags(halves: &[HalfBytes], flags: &mut ModuleFlag
     put_flags(&image_of(halves), flags)
 }
 
-#[tactic(auto, unfolding(crate::specs::RaisedFlags::flags_refusal, crate::specs::RaisedFlags::flags_in))]
+#[tactic(auto, unfolding(crate::specs::Halves::report_refusal, crate::specs::RaisedFlags::flags_in))]
 fn put_flags(image: &Image, flags: &mut ModuleFlags) -> u32
-    ensures status { result ≡ status_by (flags_refusal image.now) }
+    ensures status { result ≡ status_by (report_refusal Flags image.now) }
     ensures done { result ≡ done → flags.new ≡ flags_in image.now }
     ensures refused { result ≢ done → flags.new ≡ flags.old }
 {

@@ -1,9 +1,10 @@
 ghost use Rattle.std.specs.Prelude.{◌≡◌, ◌≢◌, IsTrue};
 ghost use Rattle.field_tables.specs.FieldRows.{row_of};
 ghost use Rattle.field_tables.specs.Readings.{is_of_bytes};
-ghost use Rattle.firmware_api.specs.Halves.{memory_of};
+ghost use Rattle.module_decoding.specs.declared.report.Report.TheVariants.{Inventory};
+ghost use Rattle.firmware_api.specs.Halves.{memory_of, report_refusal};
 ghost use Rattle.firmware_api.specs.Identities as spec;
-ghost use Rattle.firmware_api.specs.Identities.{identity_in, identity_refusal, shared_identity};
+ghost use Rattle.firmware_api.specs.Identities.{identity_in, shared_identity};
 ghost use Rattle.std.specs.Option.{option_or};
 ghost use Rattle.firmware_api.specs.SimulatedModules.{half_refusal};
 ghost use Rattle.firmware_api.specs.Statuses.{done, status_by};
@@ -60,7 +61,7 @@ pub struct SharedFields {
 /// Puts into `identity` what the module whose memory has these halves is.
 #[unsafe(no_mangle)]
 pub extern "C" fn dovecounter_identity(halves: &[HalfBytes], identity: &mut ModuleIdentity) -> u32
-    ensures status { result ≡ status_by (option_or (half_refusal halves.now) (identity_refusal (memory_of halves.now))) }
+    ensures status { result ≡ status_by (option_or (half_refusal halves.now) (report_refusal Inventory (memory_of halves.now))) }
     ensures done { result ≡ done → identity.new ≡ identity_in (memory_of halves.now) }
     ensures refused { result ≢ done → identity.new ≡ identity.old }
 {
@@ -71,9 +72,9 @@ pub extern "C" fn dovecounter_identity(halves: &[HalfBytes], identity: &mut Modu
     put_identity(&image_of(halves), identity)
 }
 
-#[tactic(auto, unfolding(crate::specs::Identities::identity_refusal, crate::specs::Identities::identity_in))]
+#[tactic(auto, unfolding(crate::specs::Halves::report_refusal, crate::specs::Identities::identity_in))]
 fn put_identity(image: &Image, identity: &mut ModuleIdentity) -> u32
-    ensures status { result ≡ status_by (identity_refusal image.now) }
+    ensures status { result ≡ status_by (report_refusal Inventory image.now) }
     ensures done { result ≡ done → identity.new ≡ identity_in image.now }
     ensures refused { result ≢ done → identity.new ≡ identity.old }
 {

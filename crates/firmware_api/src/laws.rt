@@ -4,9 +4,8 @@ ghost use Rattle.paged_memory.specs.Images.{Memory};
 ghost use Rattle.notices.specs.Numbers.{procedure_faults, reasons, statuses, text_by};
 ghost use Rattle.notices.specs.declared.version.TheConstants.{VERSION};
 ghost use Rattle.firmware_api.specs.CodeTexts.{code_text, media_text};
-ghost use Rattle.firmware_api.specs.Identities.{identity_refusal};
-ghost use Rattle.firmware_api.specs.Monitors.{monitors_refusal};
-ghost use Rattle.firmware_api.specs.RaisedFlags.{flags_refusal};
+ghost use Rattle.module_decoding.specs.declared.report.Report.{Report};
+ghost use Rattle.firmware_api.specs.Halves.{report_refusal};
 ghost use Rattle.firmware_api.specs.Statuses.{is_answered, status_of};
 ghost use Rattle.firmware_api.specs.Texts.{text_refusal};
 ghost use Rattle.firmware_api.specs.declared.status.Refusal.{Refusal};
@@ -19,9 +18,7 @@ pub fn each_refusal_has_a_text()
 
 /// The calls that decode a module answer no other refusal.
 pub fn decoders_answer_such_refusals_alone()
-    ensures identity { (memory : Memory) → IfSome (identity_refusal memory) (λ refusal. IsTrue (is_answered refusal)) }
-    ensures monitors { (memory : Memory) → IfSome (monitors_refusal memory) (λ refusal. IsTrue (is_answered refusal)) }
-    ensures flags { (memory : Memory) → IfSome (flags_refusal memory) (λ refusal. IsTrue (is_answered refusal)) }
+    ensures { (report : Report) (memory : Memory) → IfSome (report_refusal report memory) (λ refusal. IsTrue (is_answered refusal)) }
 {}
 
 /// No text is too long for a buffer of 256 bytes.

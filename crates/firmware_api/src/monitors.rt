@@ -1,8 +1,9 @@
 ghost use Rattle.std.specs.Prelude.{◌≡◌, ◌≢◌};
 ghost use Rattle.field_tables.specs.FieldRows.{row_of};
-ghost use Rattle.firmware_api.specs.Halves.{memory_of};
+ghost use Rattle.module_decoding.specs.declared.report.Report.TheVariants.{Monitors};
+ghost use Rattle.firmware_api.specs.Halves.{memory_of, report_refusal};
 ghost use Rattle.firmware_api.specs.Monitors as spec;
-ghost use Rattle.firmware_api.specs.Monitors.{monitors_in, monitors_refusal};
+ghost use Rattle.firmware_api.specs.Monitors.{monitors_in};
 ghost use Rattle.std.specs.Option.{option_or};
 ghost use Rattle.firmware_api.specs.SimulatedModules.{half_refusal};
 ghost use Rattle.firmware_api.specs.Statuses.{done, status_by};
@@ -52,7 +53,7 @@ pub struct MeasuredFields {
 /// Puts into `monitors` what the module whose memory has these halves measures.
 #[unsafe(no_mangle)]
 pub extern "C" fn dovecounter_monitors(halves: &[HalfBytes], monitors: &mut ModuleMonitors) -> u32
-    ensures status { result ≡ status_by (option_or (half_refusal halves.now) (monitors_refusal (memory_of halves.now))) }
+    ensures status { result ≡ status_by (option_or (half_refusal halves.now) (report_refusal Monitors (memory_of halves.now))) }
     ensures done { result ≡ done → monitors.new ≡ monitors_in (memory_of halves.now) }
     ensures refused { result ≢ done → monitors.new ≡ monitors.old }
 {
@@ -63,9 +64,9 @@ pub extern "C" fn dovecounter_monitors(halves: &[HalfBytes], monitors: &mut Modu
     put_monitors(&image_of(halves), monitors)
 }
 
-#[tactic(auto, unfolding(crate::specs::Monitors::monitors_refusal, crate::specs::Monitors::monitors_in))]
+#[tactic(auto, unfolding(crate::specs::Halves::report_refusal, crate::specs::Monitors::monitors_in))]
 fn put_monitors(image: &Image, monitors: &mut ModuleMonitors) -> u32
-    ensures status { result ≡ status_by (monitors_refusal image.now) }
+    ensures status { result ≡ status_by (report_refusal Monitors image.now) }
     ensures done { result ≡ done → monitors.new ≡ monitors_in image.now }
     ensures refused { result ≢ done → monitors.new ≡ monitors.old }
 {

@@ -5,6 +5,7 @@ ghost use Rattle.sim_module.specs.Lanes.{active_bytes};
 ghost use Rattle.sim_module.specs.Record.{moving_of};
 ghost use Rattle.sim_module.specs.SavedModules.{restored};
 ghost use Rattle.sim_module.specs.Ticks.{pinned, ticked};
+ghost use Rattle.firmware_api.specs.Halves.{device_of};
 ghost use Rattle.firmware_api.specs.SimulatedModules as spec;
 ghost use Rattle.firmware_api.specs.Statuses.{by_status, done, status_by, status_in};
 
@@ -183,7 +184,7 @@ fn is_range(device: u8, offset: u8, count: usize) -> bool
 }
 
 fn dev_of(device: u8) -> Dev
-    ensures { result ≡ spec.dev_of device }
+    ensures { result ≡ device_of device }
 {
     if device == 0xA2 { Dev::A2 } else { Dev::A0 }
 }

@@ -3,7 +3,9 @@ ghost use Rattle.std.specs.Prelude.{◌≡◌, ◌≤◌, IsTrue, length};
 ghost use Rattle.std.specs.FinMap as map;
 ghost use Rattle.conversations.specs.Wanted.{IsReplyTo};
 ghost use Rattle.firmware_api.specs.Halves.{has_place, key_of};
-ghost use Rattle.firmware_api.specs.KeptConversations.{halves_after, halves_want, next_of, pieces_after, pieces_want};
+ghost use Rattle.port_manager.specs.Jobs.{paged_halves};
+ghost use Rattle.port_manager.specs.Patients.{after_on, wants_on};
+ghost use Rattle.firmware_api.specs.KeptConversations.{next_of, pieces_after, pieces_want};
 ghost use Rattle.firmware_api.specs.SavedConversations.{HasHalf};
 ghost use Rattle.firmware_api.specs.WholeHalves.{HasFewHalves, IsHalfBy, kept};
 
@@ -40,8 +42,8 @@ fn half_in_hand(pieces: &InPieces<OnPage<Halves>>, reply: &Reply) -> Option<Half
 /// The half that the reply makes whole, which a reading gets from it, if it does.
 pub fn whole_half(on_page: &OnPage<Halves>, reply: &Reply) -> Option<HalfBytes>
     requires few { map.len on_page.now.conversation.image ≤ 5 }
-    requires reply { IsReplyTo (halves_want on_page.now) reply.now }
-    ensures { HasHalf result on_page.now.conversation (halves_after on_page.now reply.now).conversation }
+    requires reply { IsReplyTo (wants_on paged_halves on_page.now) reply.now }
+    ensures { HasHalf result on_page.now.conversation (after_on paged_halves on_page.now reply.now).conversation }
 {
     match reply {
         Reply::Bytes(bytes) => match kept(on_page, reply) {

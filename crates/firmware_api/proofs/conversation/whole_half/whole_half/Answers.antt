@@ -2,7 +2,8 @@ use Rattle.std.proofs.Common.{ℕ, List, ap, sym, subst, ◌∙◌}
 use Rattle.bus_model.specs.declared.operation.Reply.{Reply}
 use Rattle.paged_memory.specs.declared.key.Key.{Key}
 use Rattle.firmware_api.specs.Halves.{key_of}
-use Rattle.firmware_api.specs.KeptConversations.{halves_after}
+use Rattle.port_manager.specs.Jobs.{paged_halves}
+use Rattle.port_manager.specs.Patients.{after_on}
 use Rattle.firmware_api.specs.SavedConversations.{Puts}
 use Rattle.firmware_api.specs.WholeHalves.{if_bytes}
 use Rattle.firmware_api.proofs.WholeHalfLaws.{half_given, no_half, other_reply}
@@ -13,7 +14,7 @@ returns-in-Some c =
     let on = c.args.on_page.now in
     let reply = c.args.reply.now in
     let halves = on.conversation in
-    let later = (halves_after on reply).conversation in
+    let later = (after_on paged_halves on reply).conversation in
     let half = c.half_at.result in
     let puts = half_given on c.requires.few reply c.in-Bytes.bytes c.in-Some.key c.in-Bytes.is c.requires.reply (sym c.kept.ensures ∙ c.in-Some.is) in
     let there = subst (λ (key : Key). Puts halves key c.in-Bytes.bytes.items later) (sym c.half_at.ensures.key) puts in
