@@ -1,5 +1,7 @@
 /* The part of a main loop that provisions a plan and brings its data paths up. It never waits: the bus interrupts when a
-   transaction is over, and the main loop calls `poll_module` whenever it comes by.
+   transaction is over, and the main loop calls `poll_module` whenever it comes by. Before that read the module, plan, judge the change, and
+   wake the module, as plan_and_provision.c does: conversations for reading and waking go through the same dovecounter_next and
+   dovecounter_reply.
 
    The board has i2c_start and milliseconds, its interrupt calls i2c_over, and nobody else uses the module meanwhile. */
 #include "dovecounter.h"
@@ -22,6 +24,7 @@ enum stage { IDLE, PROVISIONING, ACTIVATING, UP, FAILED };
 
 static enum stage stage = IDLE;
 static struct dovecounter_plan plan;
+static uint8_t taken; /* lanes to provision */
 static struct dovecounter_patience patience;
 static struct dovecounter_conversation conversation;
 static struct dovecounter_half halves[DOVECOUNTER_MOST_READ]; /* procedures read none */
@@ -48,24 +51,31 @@ static void begin(enum stage wanted) {
     stage = wanted;
     since = milliseconds();
     if (wanted == PROVISIONING)
-        dovecounter_provision_begin(plan.control, plan.outside, &patience, &conversation);
+        dovecounter_provision_begin(plan.control, taken, &patience, &conversation);
     else
         dovecounter_activate_begin(plan.control, plan.lanes, &patience, &conversation);
 }
 
-/* Begins to carry out a plan, with the patience from dovecounter_patience, unless one is under way. A plan without a path would take
-   all lanes down: don't pass one unless you want that. */
-bool carry_out(const struct dovecounter_plan *wanted, const struct dovecounter_patience *patient) {
+/* Begins to carry out a plan, with the effect that dovecounter_judge told of the memory as just read (spares and activates were 1), and the
+   patience from dovecounter_patience. Returns false if something stands against it, or another plan is under way. Only lanes of
+   effect->taken are provisioned, not all of plan->outside: after a restart of the firmware, paths that are up stay up. */
+bool carry_out(const struct dovecounter_plan *wanted, const struct dovecounter_effect *effect,
+               const struct dovecounter_patience *patient) {
     if (stage == PROVISIONING || stage == ACTIVATING) return false;
+    if (effect->hindrance != DOVECOUNTER_UNHINDERED) return false;
     plan = *wanted;
+    taken = effect->taken;
     patience = *patient;
     memset(&fault, 0, sizeof fault);
-    begin(PROVISIONING);
+    if (effect->is_done)
+        stage = UP;
+    else
+        begin(effect->is_active ? ACTIVATING : PROVISIONING);
     return true;
 }
 
 /* Whether it makes sense to begin the procedure again after a while: the module may just have been slow, or may have shown the success
-   of an earlier apply while it was provisioned. If activation finds the plan no longer active, `carry_out` has to provision it again. */
+   of an earlier apply while it was provisioned. If activation finds the plan no longer active, read, plan and judge again. */
 static bool may_begin_again(uint8_t code) {
     return code == DOVECOUNTER_GAVE_UP_WAITING || code == DOVECOUNTER_OVERDUE ||
            (code == DOVECOUNTER_NOT_ACTIVE && stage == PROVISIONING);

@@ -15,6 +15,7 @@ static struct {
     uint8_t active[8], applied[8]; /* the active bytes; those that they become */
     uint32_t apply_due;            /* and when they do */
     uint8_t down, down_before;     /* DPDeinit, and what it was until `due` */
+    unsigned stores;               /* on page 10h */
     uint32_t due, delay;           /* when the path states follow DPDeinit, and after how long they do */
     unsigned refuse_each;          /* every so many transactions one is refused */
     bool lies;                     /* the driver says stored, whatever was asked */
@@ -22,6 +23,7 @@ static struct {
 } module;
 
 static const struct dovecounter_plan *planned;
+static struct dovecounter_effect effect;
 static uint32_t apply_delay;
 static bool forgets;
 static struct dovecounter_patience patient = {.pause = 100, .limit = 1000000};
@@ -79,7 +81,8 @@ static void store_byte(uint8_t address, uint8_t byte) {
     if (address == 127) module.page = byte;
     if (address < 128 || module.page != 0x10) return;
     module.control[address - 128] = byte;
-    if (address == 128 && byte & ~planned->outside) fail("a path that is kept was taken down");
+    module.stores++;
+    if (address == 128 && byte & ~effect.taken && stage == PROVISIONING) fail("a path that is kept was taken down");
     if (address == 128 && byte != module.down) {
         module.down_before = path_states();
         module.down = byte;
@@ -120,8 +123,6 @@ static const struct dovecounter_plan pairs = {
 
 static const struct dovecounter_plan half = {
     .lanes = 0x0F, .outside = 0xFF, .count = 2, .control = {0x20, 0x20, 0x24, 0x24}};
-static const struct dovecounter_plan kept = {
-    .lanes = 0xFF, .outside = 0xF0, .count = 4, .control = {0x20, 0x20, 0x24, 0x24, 0x28, 0x28, 0x2C, 0x2C}};
 
 /* Carries the plan out on such a module, for two hours at most, and compares how that ended. */
 static void run(const char *name, uint8_t state, uint32_t delay, unsigned refuse_each, bool lies, enum stage end_wanted,
@@ -133,19 +134,20 @@ static void run(const char *name, uint8_t state, uint32_t delay, unsigned refuse
     module.lies = lies;
     module.forgets = forgets;
     for (int lane = 0; lane < 8; lane++)
-        if (!(planned->outside >> lane & 1)) module.applied[lane] = planned->control[lane];
+        if (effect.is_active || !(effect.taken >> lane & 1))
+            module.active[lane] = module.applied[lane] = planned->control[lane];
     transactions = 0;
     was_refused = false;
     memset(&asked_before, 0, sizeof asked_before);
     module.apply_due = clock_now = UINT32_MAX - 5000; /* it starts anew on the way */
-    if (!carry_out(planned, &patient)) fail("a plan was not begun");
-    if (carry_out(planned, &patient)) fail("a plan was begun during another one");
+    if (!carry_out(planned, &effect, &patient)) fail("a plan was not begun");
+    if (!effect.is_done && carry_out(planned, &effect, &patient)) fail("a plan was begun during another one");
     enum stage found = stage;
     for (uint32_t passed = 0; passed < 7200000 && (found == PROVISIONING || found == ACTIVATING); passed++) {
         clock_now++;
         interrupt();
         found = poll_module();
-        if (found == ACTIVATING && carry_out(&pairs, &patient)) fail("a plan was begun during an activation");
+        if (found == ACTIVATING && carry_out(&pairs, &effect, &patient)) fail("a plan was begun during an activation");
     }
     if (poll_module() != found || is_busy) fail("something is done after the end");
     if (found != end_wanted || fault.code != fault_wanted ||
@@ -158,8 +160,24 @@ static void run(const char *name, uint8_t state, uint32_t delay, unsigned refuse
         fail("the plan is not up, or other lanes are");
 }
 
+/* What is judged to be there already. */
+static void try_effects(void) {
+    effect = (struct dovecounter_effect){.taken = 0xF0, .stays = 0x0F};
+    run("paths beside some that are up", 3 << 1, 20, 0, false, UP, 0, 0);
+    effect = (struct dovecounter_effect){.is_active = 1};
+    run("a plan that is active", 3 << 1, 20, 0, false, UP, 0, 0);
+    if (module.stores != 1) fail("more was stored than DPDeinit");
+    effect = (struct dovecounter_effect){.is_active = 1, .is_done = 1};
+    run("a plan that is up", 3 << 1, 0, 0, false, UP, 0, 0);
+    if (transactions != 0) fail("a plan that is up was carried out");
+    effect.hindrance = DOVECOUNTER_WOULD_GO_DOWN;
+    if (carry_out(&pairs, &effect, &patient)) fail("a plan was begun although something stands against it");
+    effect = (struct dovecounter_effect){.taken = 0xFF};
+}
+
 int main(void) {
     planned = &pairs;
+    effect.taken = 0xFF;
     run("a module that follows at once", 3 << 1, 0, 0, false, UP, 0, 0);
     if (transactions != 16 + 10) fail("more transactions than there have to be");
     run("a bus that refuses every fifth transaction", 3 << 1, 20, 5, false, UP, 0, 0);
@@ -186,16 +204,15 @@ int main(void) {
     apply_delay = 0;
     planned = &half;
     run("a plan for half of the lanes", 3 << 1, 20, 0, false, UP, 0, 0);
-    planned = &kept;
-    run("a plan that keeps paths", 3 << 1, 20, 0, false, UP, 0, 0);
     planned = &pairs;
+    try_effects();
     forgets = true;
     run("a module that forgets what was active", 3 << 1, 0, 0, false, FAILED, 3, 0);
     if (beginnings != 1) fail("an activation was begun again whose plan isn't active");
     forgets = false;
     run("a driver that says stored of a fetch", 3 << 1, 0, 0, true, FAILED, 0, DOVECOUNTER_NO_REPLY);
     run("the same once more, of a driver that does not", 3 << 1, 0, 0, false, UP, 0, 0);
-    if (!carry_out(&pairs, &patient)) fail("a plan was not begun after another one");
+    if (!carry_out(&pairs, &effect, &patient)) fail("a plan was not begun after another one");
     conversation.magic = 0;
     if (poll_module() != FAILED || status != DOVECOUNTER_NO_CONVERSATION) fail("other numbers were taken");
     printf("firmware: the main loop of the example carries a plan out, on modules fast and slow\n");
