@@ -46,9 +46,9 @@ static bool carry_out(struct outcome *outcome) {
     return outcome->status == DOVECOUNTER_DONE && ending.fault.code == DOVECOUNTER_NO_FAULT;
 }
 
-/* Reads the module, plans, and judges the change. Four paths of 100GAUI-2 outweigh one of 400GAUI-8, unless that is active. */
-static bool judge_plan(uint8_t may_take_down, struct dovecounter_plan *plan, struct outcome *outcome) {
-    static const uint32_t weights[256] = {[0x0D] = 101, [0x11] = 400}, stay = 50;
+/* Reads the module, plans, and judges the change. Four paths of 100GAUI-2 outweigh one of 400GAUI-8, unless that is active and stay above 4. */
+static bool judge_plan(uint32_t stay, uint8_t may_take_down, struct dovecounter_plan *plan, struct outcome *outcome) {
+    static const uint32_t weights[256] = {[0x0D] = 101, [0x11] = 400};
     static const struct dovecounter_path kept[1]; /* none: `stay` is enough */
     dovecounter_read_begin(128, &patience, &conversation);
     if (!carry_out(outcome)) return false;
@@ -62,18 +62,18 @@ static bool judge_plan(uint8_t may_take_down, struct dovecounter_plan *plan, str
     return outcome->status == DOVECOUNTER_DONE;
 }
 
-/* Returns whether the plan is up. Lanes that are up go down only if may_take_down has them. */
-bool plan_and_provision(uint8_t may_take_down, struct dovecounter_plan *plan, struct outcome *outcome) {
+/* Returns whether the plan is up. Pass 0 and 0xFF for a module that carries nothing, else 50 and 0: then no lane that is up goes down. */
+bool plan_and_provision(uint32_t stay, uint8_t may_take_down, struct dovecounter_plan *plan, struct outcome *outcome) {
     struct dovecounter_effect *effect = &outcome->effect;
     *outcome = (struct outcome){0};
     patience = (struct dovecounter_patience){.pause = 100, .limit = 10000}; /* until the module is known */
-    if (!judge_plan(may_take_down, plan, outcome)) return false;
+    if (!judge_plan(stay, may_take_down, plan, outcome)) return false;
     if (effect->hindrance == DOVECOUNTER_OTHER_STATE && effect->state == DOVECOUNTER_MODULE_LOW_PWR) {
         struct dovecounter_identity module;
         dovecounter_identity(memory, conversation.halves, &module); /* succeeds too */
         if (module.max_power > MOST_MILLIWATTS) return false;
         dovecounter_wake_begin(&patience, &conversation);
-        if (!carry_out(outcome) || !judge_plan(may_take_down, plan, outcome)) return false;
+        if (!carry_out(outcome) || !judge_plan(stay, may_take_down, plan, outcome)) return false;
     }
     if (effect->hindrance != DOVECOUNTER_UNHINDERED) return false;
     if (effect->is_done) return true;

@@ -11,7 +11,9 @@ bool i2c_fetch(uint8_t address, uint8_t offset, uint8_t *bytes, uint8_t count);
 bool i2c_store(uint8_t address, uint8_t offset, const uint8_t *bytes, uint8_t count);
 void print_line(const char *what, uint8_t code, uint8_t fault, uint8_t first);
 
-/* Four paths of 100GAUI-2 outweigh one of 400GAUI-8, unless that is active. No lane that is up goes down. */
+/* Four paths of 100GAUI-2 outweigh one of 400GAUI-8, unless that is active, up or not. No lane that is up goes down. For a module whose
+   plug you saw, which carries nothing: after dovecounter_port_plug call dovecounter_port_request with DOVECOUNTER_REQUEST_PROVISION and
+   0xFF, and pass stay 0 until it came up or is left alone. */
 static const struct dovecounter_wanted wanted = {
     .weights = {[0x0D] = 101, [0x11] = 400}, .stay = 50, .paired = 1, .most_power = 12 * 4 /* 12 W */};
 

@@ -231,7 +231,8 @@ struct dovecounter_advertisement {
 
 /* Writes what the module advertises. Needs the lower half of 0xA0 and pages 00h and 01h. If a module leaves a lane
    count at 0, the interface ID implies the count: with counts_by_id other than 0 it is looked up, and stays 0 if it
-   isn't known (docs/planning.md, "Lane counts of 0"). Pass the counts_by_id of your plans and certificates. */
+   isn't known (docs/planning.md, "Lane counts of 0"). If in doubt pass 0: then no path of such an Application is
+   allowed. Pass the counts_by_id of your plans and certificates. */
 uint32_t dovecounter_advertisement(const struct dovecounter_half *halves, size_t half_count, uint8_t counts_by_id,
                                    struct dovecounter_advertisement *advertisement);
 
@@ -545,9 +546,11 @@ struct dovecounter_plan {
    weighs more. Of equally good plans it is the first in the order of docs/planning.md. If nothing is worth anything,
    count is 0, and to provision the plan would take all lanes down.
 
-   A path weighs weights[its HostInterfaceID], plus `stay` if the Active Control Set already has it (needs page 11h if
-   stay is not 0). Pass paired 1 if the module joins an Application's first host lanes and first media lanes in order.
-   No register shows that; 1 fits any module, so pass 1 if in doubt.
+   A path weighs weights[its HostInterfaceID], plus `stay` if the Active Control Set already has it, up or not (needs
+   page 11h if stay is not 0). With 0 a slightly better plan replaces paths that are up. But pass 0 for a module that
+   carries nothing, since it powers up with a default Application in that set. Pass paired 1 if the module joins an
+   Application's first host lanes and first media lanes in order. No register shows that; 1 fits any module, so pass 1
+   if in doubt.
 
    Next, unless the module carries nothing, ask dovecounter_judge what the plan would take down: `outside` has all lanes
    if nothing is kept. Then pass control and outside to dovecounter_provision_begin, then control and lanes to
@@ -629,7 +632,9 @@ struct dovecounter_effect {
    5. if the change activates, call dovecounter_activate_begin with control and the plan's lanes.
 
    To learn whether the module is in low power, judge with wakes 0: then that is the hindrance,
-   DOVECOUNTER_OTHER_STATE with state DOVECOUNTER_MODULE_LOW_PWR, unless DOVECOUNTER_OTHER_BYTES is. */
+   DOVECOUNTER_OTHER_STATE with state DOVECOUNTER_MODULE_LOW_PWR, unless DOVECOUNTER_OTHER_BYTES is.
+
+   After a hindrance: docs/for_firmware.md, "Read, plan, provision, activate". */
 uint32_t dovecounter_judge(const struct dovecounter_half *halves, size_t half_count,
                            const struct dovecounter_change *change, struct dovecounter_effect *effect);
 
@@ -638,7 +643,8 @@ uint32_t dovecounter_judge(const struct dovecounter_half *halves, size_t half_co
    A conversation is a procedure or a reading under way. It touches no bus: dovecounter_next names the operation to
    make, dovecounter_reply takes its outcome, and dovecounter_end tells how it ended. dovecounter_run is that loop,
    for callers that may block. Meanwhile nobody else may use the module: no driver, no process, no second master of
-   the bus. You may drop a conversation at any moment; the module keeps what was stored.
+   the bus. Between two transactions you may deselect it (ModSelL) and use other modules on its bus. You may drop a
+   conversation at any moment; the module keeps what was stored.
 
    Make each transaction once. After the first NACK report DOVECOUNTER_REFUSED, and switch off the retries of your
    driver: the module may have gone back to page 00h, so a store that is repeated blindly may land there, and a
@@ -818,8 +824,8 @@ struct dovecounter_ending {
 
 /* Writes how the conversation ended. If provisioning succeeded, its last operation read the control bytes from the
    Active Control Set. If a reading succeeded, pass halves and conversation->halves to the functions above. After
-   DOVECOUNTER_GAVE_UP_WAITING and _OVERDUE you may begin again; after _NOT_ACTIVE provision again half a second
-   later. */
+   DOVECOUNTER_GAVE_UP_WAITING and _OVERDUE you may begin again; after _NOT_ACTIVE of provisioning too, with the same
+   lanes, half a second later. After _NOT_ACTIVE of activation read, plan and judge again. */
 uint32_t dovecounter_end(const struct dovecounter_conversation *conversation,
                          const struct dovecounter_half halves[DOVECOUNTER_MOST_READ],
                          struct dovecounter_ending *ending);
@@ -1260,7 +1266,9 @@ struct dovecounter_port {
 /* Makes an empty port. */
 void dovecounter_port_new(const struct dovecounter_times *times, struct dovecounter_port *port);
 
-/* A module was plugged, or the program has started and one may be there. It is read after times.settle. */
+/* A module was plugged, or the program has started and one may be there, or you have reset it by its pin (as after a
+   failure with fault DOVECOUNTER_NOT_READY and DOVECOUNTER_MODULE_FAULT). It is read after times.settle; what was
+   requested is forgotten. Pass an outstanding reply all the same. */
 uint32_t dovecounter_port_plug(struct dovecounter_port *port, uint64_t now);
 
 /* The module was pulled: only its flags are left. Pass an outstanding reply all the same. */
@@ -1275,7 +1283,8 @@ uint32_t dovecounter_port_hold(struct dovecounter_port *port, uint8_t held);
 enum dovecounter_request {
     DOVECOUNTER_REQUEST_WAKE = 0,      /* the default: the module is to be awake, and as wanted */
     DOVECOUNTER_REQUEST_SLEEP = 1,     /* it is to be in low power; these lanes may go down for that */
-    DOVECOUNTER_REQUEST_PROVISION = 2, /* these lanes may go down, until it is up or left alone */
+    DOVECOUNTER_REQUEST_PROVISION = 2, /* these lanes may go down, until it is up or left alone; after a plug that you saw
+                                          pass 0xFF, and want `stay` 0 meanwhile */
     DOVECOUNTER_REQUEST_DEACTIVATE = 3 /* no data path may have one of these lanes, and they may go down */
 };
 
@@ -1322,7 +1331,7 @@ uint32_t dovecounter_port_next(struct dovecounter_port *port, uint64_t now, stru
 /* What you want of the module. */
 struct dovecounter_wanted {
     uint32_t weights[256]; /* of each HostInterfaceID, as dovecounter_weights writes them */
-    uint32_t stay;         /* the extra weight of a path that is already active */
+    uint32_t stay;         /* the extra weight of a path that the Active Control Set has, up or not */
     uint8_t paired;        /* as for dovecounter_plan */
     uint8_t counts_by_id;
     uint8_t most_power;    /* in quarters of a watt: a module that needs more isn't woken; 255: no limit */

@@ -50,8 +50,8 @@ static void begin(unsigned refusals) {
 static struct dovecounter_plan plan;
 static struct outcome outcome;
 
-static void succeed(const char *what, uint8_t may_take_down) {
-    expect(what, 1, plan_and_provision(may_take_down, &plan, &outcome));
+static void succeed_by(uint32_t stay, const char *what, uint8_t may_take_down) {
+    expect(what, 1, plan_and_provision(stay, may_take_down, &plan, &outcome));
     expect(what, DOVECOUNTER_DONE, outcome.status);
     expect(what, DOVECOUNTER_NO_FAULT, outcome.fault.code);
     expect(what, DOVECOUNTER_UNHINDERED, outcome.effect.hindrance);
@@ -61,8 +61,10 @@ static void succeed(const char *what, uint8_t may_take_down) {
     }
 }
 
+static void succeed(const char *what, uint8_t may_take_down) { succeed_by(50, what, may_take_down); }
+
 static void fail(const char *what, uint32_t status, uint8_t fault) {
-    expect(what, 0, plan_and_provision(0, &plan, &outcome));
+    expect(what, 0, plan_and_provision(50, 0, &plan, &outcome));
     expect(what, status, outcome.status);
     expect(what, fault, outcome.fault.code);
 }
@@ -121,6 +123,16 @@ static void try_again(void) {
     expect("it is done", 1, outcome.effect.is_done);
     expect("the path stays", 1, plan.count);
     expect("nothing is stored", 0, stores);
+    succeed("after a restart that may take lanes down", 0xFF);
+    expect("the path stays", 1, plan.count);
+    expect("nothing is stored", 0, stores);
+    succeed_by(0, "without a weight for what stays", 0xFF);
+    expect("another plan replaces it", 4, plan.count);
+    begin(0);
+    change_host_id(0x0D, 1);
+    succeed("one path again", 0);
+    change_host_id(1, 0x0D);
+    stores = 0;
     change_host_id(0x11, 1);
     be_hindered("another plan", DOVECOUNTER_WOULD_GO_DOWN, 0xFF, 0);
     succeed("another plan that is permitted", 0xFF);

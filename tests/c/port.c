@@ -386,6 +386,46 @@ static void try_provision(void) {
     expect("other numbers permit nothing", 1, (unsigned long)is_left(DOVECOUNTER_LEFT_NEEDS_PERMISSION));
 }
 
+/* A plugged module whose lanes are up: what is permitted takes its path down only if that doesn't weigh more by staying. */
+static void try_plug(void) {
+    begin();
+    plug_in();
+    expect("a module comes up", 1, (unsigned long)comes_up());
+    want(400, 201);
+    for (int stays = 1; stays >= 0; stays--) {
+        wanted.stay = stays ? 50 : 0;
+        expect("replaced", 0, dovecounter_port_plug(&port, now));
+        request(DOVECOUNTER_REQUEST_PROVISION, ALL_LANES);
+        ask();
+        expect("it settles", (unsigned long)(now + times.settle), (unsigned long)next.moment);
+        expect("it comes up", 1, (unsigned long)comes_up());
+        expect("permission has ended", DOVECOUNTER_REQUEST_WAKE, port.request);
+        expect("otherwise, if nothing stays", !stays, stores > 0);
+    }
+    expect("all lanes are up", ALL_LANES, lanes_up());
+}
+
+/* A faulty module, which is reset by its pin: it settles, and is read anew, and what was requested is dropped. */
+static void try_reset(void) {
+    begin();
+    plug_in();
+    expect("a module comes up", 1, (unsigned long)comes_up());
+    request(DOVECOUNTER_REQUEST_PROVISION, 0);
+    module.state = DOVECOUNTER_MODULE_FAULT;
+    expect("it is faulty", 1, (unsigned long)drive_to(DOVECOUNTER_PORT_FAILED, 0));
+    expect("not woken", DOVECOUNTER_PORT_NOT_WOKEN, outcome.failure);
+    expect("not ready", DOVECOUNTER_NOT_READY, outcome.fault.code);
+    expect("in ModuleFault", DOVECOUNTER_MODULE_FAULT, outcome.fault.first);
+    insert_module();
+    expect("reset", 0, dovecounter_port_plug(&port, now));
+    expect("nothing is requested", DOVECOUNTER_REQUEST_WAKE, port.request);
+    ask();
+    expect("it settles", DOVECOUNTER_PORT_UNTIL, next.kind);
+    expect("for so long", (unsigned long)(now + times.settle), (unsigned long)next.moment);
+    expect("it comes up", 1, (unsigned long)comes_up());
+    expect("all lanes are up", ALL_LANES, lanes_up());
+}
+
 static void try_deactivation(void) {
     begin();
     want(101, 100);
@@ -534,6 +574,8 @@ int main(void) {
     try_permission();
     try_sleep();
     try_provision();
+    try_plug();
+    try_reset();
     try_deactivation();
     try_silence();
     try_left();
