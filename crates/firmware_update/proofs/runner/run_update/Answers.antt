@@ -1,4 +1,4 @@
-use Rattle.std.proofs.Common.{◌≡◌, ◌++◌, ◌≤◌, ◌<◌, ℕ, [], Option, ap, refl, sym, subst, ◌∙◌, arith}
+use Rattle.std.proofs.Common.{◌≡◌, ◌++◌, ◌≤◌, ◌<◌, ℕ, [], Option, Some, ap, refl, sym, subst, ◌∙◌, arith}
 use Rattle.command_block.specs.Deliveries.{Terms, delivery_wants, terms_of}
 use Rattle.command_block.specs.declared.delivery.Delivery.{Delivery}
 use Rattle.command_block.specs.Turns.{ToldDelivery}
@@ -18,7 +18,7 @@ pub run-requires : goal.run-requires
 run-requires g c =
     let (events, happens, due) = c.delivered.invariant in
     let told = told_nothing c.args.file.now c.delivered.session events due c.in-Some.delivery (sym c.take.ensures.value ∙ c.in-Some.is) in
-    subst (λ (w : Within Delivery). ToldDelivery [] w.conversation × (0 ≡ w.steps) × (w.steps ≤ w.limit)) (sym c.new-within.ensures) (told, refl, omega arith)
+    record { begun = subst (λ (w : Within Delivery). ToldDelivery [] w.conversation × (0 ≡ w.steps) × (w.steps ≤ w.limit)) (sym c.new-within.ensures) (told, refl, omega arith) }
 
 pub go_on-requires-clause-room : goal.go_on-requires-clause-room
 go_on-requires-clause-room g c outcome command asks sent =
