@@ -57,7 +57,16 @@ static uint8_t transact(const struct dovecounter_operation *it, uint8_t bytes[12
                : DOVECOUNTER_REFUSED;
 }
 
-static void keep(uint32_t *most_next, uint32_t *most_take) {
+/* The most that a kind of call takes. */
+static struct {
+    uint32_t next, idle, take, planning; /* idle: nothing is to be done; planning: it ends a reading */
+} most;
+
+static void raise(uint32_t *highest, uint32_t ticks) {
+    if (*highest < ticks) *highest = ticks;
+}
+
+static void keep(void) {
     static const struct dovecounter_times times = {1, 1, 1, 1};
     uint8_t bytes[128] = {0};
     dovecounter_port_new(&times, &port);
@@ -65,28 +74,30 @@ static void keep(uint32_t *most_next, uint32_t *most_take) {
     for (now = 1; now < 10000; now++) {
         uint32_t before = SYSTICK[2];
         dovecounter_port_next(&port, now, &next);
-        uint32_t taken = since(before);
-        if (*most_next < taken) *most_next = taken;
+        uint32_t ticks = since(before);
+        raise(next.kind == DOVECOUNTER_PORT_DO ? &most.next : &most.idle, ticks);
         if (next.kind != DOVECOUNTER_PORT_DO) continue;
+        bool reads = port.stage == DOVECOUNTER_PORT_READING;
         uint8_t reply = transact(&next.operation, bytes);
         before = SYSTICK[2];
         dovecounter_port_take(&port, reply, bytes, next.operation.count, &wanted, now, &outcome);
-        taken = since(before);
-        if (*most_take < taken) *most_take = taken;
+        ticks = since(before);
+        raise(reads && port.stage != DOVECOUNTER_PORT_READING ? &most.planning : &most.take, ticks);
     }
 }
 
 int main(void) {
-    uint32_t most_next = 0, most_take = 0;
     SYSTICK[1] = LONGEST;
     SYSTICK[0] = 5; /* on, by the processor's clock, without an interrupt */
     begin();
     uint32_t before = SYSTICK[2];
     dovecounter_plan(halves, half_count, 0, 0, wanted.weights, 1, kept, 0, &plan);
     print_most("dovecounter_plan", since(before));
-    keep(&most_next, &most_take);
-    print_most("dovecounter_port_next", most_next);
-    print_most("dovecounter_port_take", most_take);
+    keep();
+    print_most("dovecounter_port_next, idle", most.idle);
+    print_most("dovecounter_port_next", most.next);
+    print_most("dovecounter_port_take", most.take);
+    print_most("dovecounter_port_take, which plans", most.planning);
     if (port.stage != DOVECOUNTER_PORT_WATCHING) print("it isn't watched\n");
     return 0;
 }
