@@ -552,9 +552,10 @@ struct dovecounter_plan {
    Application's first host lanes and first media lanes in order. No register shows that; 1 fits any module, so pass 1
    if in doubt.
 
-   Next, unless the module carries nothing, ask dovecounter_judge what the plan would take down: `outside` has all lanes
-   if nothing is kept. Then pass control and outside to dovecounter_provision_begin, then control and lanes to
-   dovecounter_activate_begin. Save paths if you will want to keep them: no register holds the media lanes of a path. */
+   Next ask dovecounter_judge what the plan would take down. Then pass control and the judgement's `taken` to
+   dovecounter_provision_begin, then control and lanes to dovecounter_activate_begin. Only for a module that carries
+   nothing you may pass `outside` and ask nothing: it has all lanes if nothing is kept. Save paths if you will want to
+   keep them: no register holds the media lanes of a path. */
 uint32_t dovecounter_plan(const struct dovecounter_half *halves, size_t half_count, uint8_t paired,
                           uint8_t counts_by_id, const uint32_t weights[256], uint32_t stay,
                           const struct dovecounter_path *kept, size_t kept_count, struct dovecounter_plan *plan);
