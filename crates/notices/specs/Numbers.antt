@@ -59,6 +59,12 @@ statuses =
     ∷ says 91 (codes "the line is none of weights: write '[host]' once, and after it lines as '0Dh = 101', comments or empty lines, with numbers up to 4294967295")
     ∷ stands_for 92 (codes "WT2")
     ∷ says 94 (codes "the line writes a HostInterfaceID that an earlier line writes: keep one of them")
+    ∷ says 101 (codes "the stored equalization that a lane is to recall is none of 0 to 3")
+    ∷ says 102 (codes "the module advertises no such fixed equalization of the input: ask what it can do")
+    ∷ says 103 (codes "the module advertises no such equalization before the cursor: ask what it can do")
+    ∷ says 104 (codes "the module advertises no such equalization after the cursor: ask what it can do")
+    ∷ says 105 (codes "the module advertises no such amplitude: ask what it can do")
+    ∷ says 106 (codes "a lane of the change may not be disturbed: settings change while lanes are up, so permit each")
     ∷ []
 
 unfoldable pub procedure_faults : List Says

@@ -64,6 +64,12 @@ pub fn statuses() -> &'static [Numbered]
         91 "" "the line is none of weights: write '[host]' once, and after it lines as '0Dh = 101', comments or empty lines, with numbers up to 4294967295";
         92 "WT2" "";
         94 "" "the line writes a HostInterfaceID that an earlier line writes: keep one of them";
+        101 "" "the stored equalization that a lane is to recall is none of 0 to 3";
+        102 "" "the module advertises no such fixed equalization of the input: ask what it can do";
+        103 "" "the module advertises no such equalization before the cursor: ask what it can do";
+        104 "" "the module advertises no such equalization after the cursor: ask what it can do";
+        105 "" "the module advertises no such amplitude: ask what it can do";
+        106 "" "a lane of the change may not be disturbed: settings change while lanes are up, so permit each";
     }
 }
 
