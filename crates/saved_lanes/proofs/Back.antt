@@ -43,7 +43,7 @@ procedure_back saved procedure parts = λ i. record {
   limit = parts.most i;
 }
 
-both : (a b : Bool) → a ≡ true → b ≡ true → (a && b) ≡ true
+pub both : (a b : Bool) → a ≡ true → b ≡ true → (a && b) ≡ true
 both a b one two = ap (λ (t : Bool). t && b) one ∙ two
 
 sound : (saved : SavedChanging) → saved.magic ≡ change_magic → is_change saved.change ≡ true → is_sound saved ≡ true

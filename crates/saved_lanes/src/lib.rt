@@ -1,10 +1,11 @@
-//! A change of lanes as plain numbers, for a caller that keeps it in memory of another language.
+//! Changes of lanes and of their settings as plain numbers, for a caller that keeps them in memory of another language.
 #![tactic(auto)]
 
 mod ending;
 mod numbers;
 mod restoring;
 mod saving;
+pub mod settings;
 mod turning;
 
 pub use ending::{SavedLaneEnd, ending_of};

@@ -136,13 +136,13 @@ pub fn numbers_of_end(end: LaneEnd) -> (u8, u8, u8)
     }
 }
 
-fn number_of(yes: bool) -> u8
+pub(crate) fn number_of(yes: bool) -> u8
     ensures { spec.is_one result ≡ yes }
 {
     if yes { 1 } else { 0 }
 }
 
-fn numbers_of_page(selected: KnownPage) -> (u8, u8)
+pub(crate) fn numbers_of_page(selected: KnownPage) -> (u8, u8)
     ensures { spec.page_in result.0 result.1 ≡ selected }
 {
     match selected {
@@ -152,7 +152,7 @@ fn numbers_of_page(selected: KnownPage) -> (u8, u8)
     }
 }
 
-fn numbers_of_taken(taken: Option<u8>) -> (u8, u8)
+pub(crate) fn numbers_of_taken(taken: Option<u8>) -> (u8, u8)
     ensures { spec.taken_in result.0 result.1 ≡ taken }
 {
     match taken {
