@@ -9,11 +9,12 @@
      Conversations with a module  read, provision, activate, wake, sleep
      A module's firmware          look at it, update it
      Single lanes                 switch outputs, polarity and squelch
+     Signal integrity settings    look at them, change them while lanes are up
      A port's manager             keep the module in a port as wanted
      A simulated module           a module without hardware
 
-   Every function except dovecounter_run, _update_run and _lane_run is proved to return and to do what this file says,
-   except where it says "tested". Nothing is proved about real modules. No function allocates, prints, waits, keeps a pointer or has state
+   Every function except dovecounter_run, _update_run, _lane_run and _settings_run is proved to return and to do what this
+   file says, except where it says "tested". Nothing is proved about real modules. No function allocates, prints, waits, keeps a pointer or has state
    of its own, so calls may run in parallel unless one writes what another uses.
 
    You have to ensure what no function can check:
@@ -44,8 +45,8 @@ extern "C" {
 
    Each function returns the first of its statuses that applies, and 0 if none does. With any status but 0 it has
    written nothing, with these exceptions: dovecounter_certificate writes the text's length if the buffer is too small,
-   and dovecounter_weights the number of the faulty line; dovecounter_run, _update_run and _lane_run have gone on up to
-   the reply that they return status 34 for.
+   and dovecounter_weights the number of the faulty line; dovecounter_run, _update_run, _lane_run and _settings_run have
+   gone on up to the reply that they return status 34 for.
 
      status_text, fault_text, verdict_text   3 4
      code_name                               3 4
@@ -64,7 +65,7 @@ extern "C" {
      next                                    31 32
      reply                                   31 32 34
      end                                     31 33
-     run, update_run, lane_run               31 34
+     run, update_run, lane_run, settings_run 31 34
      port_plug to port_next                  31
      port_take                               31 34
      update_next                             31 32
@@ -75,6 +76,11 @@ extern "C" {
      lane_next                               31 32
      lane_reply                              31 32 34
      lane_end                                31 33
+     settings, settings_limits               as advertisement, then 14 (page 11h)
+     settings_begin                          106, then 101 to 105
+     settings_next                           31 32
+     settings_reply                          31 32 34
+     settings_end                            31 33
      module_begin                            1 2 51, then as advertisement, then 53 54
      module_fetch, module_store              as advertisement, then 61 62 63
      module_tick, module_pin, module_active  61
@@ -137,7 +143,15 @@ enum dovecounter_status {
     /* weights */
     DOVECOUNTER_BAD_WEIGHT_LINE = 91, /* a line has no known form, or a wrong place */
     DOVECOUNTER_SAME_ID_TWICE = 94,   /* a line repeats the ID of an earlier one */
-    DOVECOUNTER_NO_HOST_LINE = 92     /* WT2: the line `[host]` is missing */
+    DOVECOUNTER_NO_HOST_LINE = 92,    /* WT2: the line `[host]` is missing */
+
+    /* signal integrity settings, of a lane of a change */
+    DOVECOUNTER_NO_SUCH_RECALL = 101,      /* it is to recall another stored equalization than 0 to 3 */
+    DOVECOUNTER_NO_SUCH_FIXED_INPUT = 102, /* the module advertises no such fixed equalization of the input, */
+    DOVECOUNTER_NO_SUCH_PRE_CURSOR = 103,  /* no such equalization of the output before the cursor, */
+    DOVECOUNTER_NO_SUCH_POST_CURSOR = 104, /* or after it, */
+    DOVECOUNTER_NO_SUCH_AMPLITUDE = 105,   /* or no such amplitude */
+    DOVECOUNTER_NOT_PERMITTED = 106        /* it isn't permitted */
 };
 
 /* ---- Texts for people ----
@@ -1138,6 +1152,139 @@ static inline uint32_t dovecounter_lane_run(struct dovecounter_changing_lanes *c
         else
             outcome = transact(context, &operation, bytes);
         status = dovecounter_lane_reply(changing, outcome, bytes, operation.count);
+        if (status != DOVECOUNTER_DONE) return status;
+    }
+    return status == DOVECOUNTER_ENDED ? (uint32_t)DOVECOUNTER_DONE : status;
+}
+
+/* ---- Signal integrity settings ----
+
+   What equalizers, outputs and clock recovery of each lane are set to, and a change of it for lanes that are up and stay up
+   (docs/lanes.md). It counts only for lanes under explicit control. A change touches no bus, as one of lanes.
+
+   It reads which lanes are up and under explicit control, and ends if one of its lanes isn't. Then it stores and reads back the staged
+   settings of these lanes, and no other, applies exactly these lanes at once, and reads the active settings. */
+
+/* A number or a bit for each lane: lane 1 first, and sets of lanes. */
+struct dovecounter_signal_targets {
+    uint8_t adaptive;       /* lanes whose transmitter equalizes its input by itself */
+    uint8_t recall[8];      /* the stored equalization that it recalls, 0 to 3; 0 recalls none */
+    uint8_t fixed_input[8]; /* the code of the fixed equalization of the input */
+    uint8_t recover_tx;     /* lanes whose transmitter recovers the clock */
+    uint8_t recover_rx;     /* lanes whose receiver does */
+    uint8_t pre_cursor[8];  /* the code of the output's equalization before the cursor, */
+    uint8_t post_cursor[8]; /* and after it */
+    uint8_t amplitude[8];   /* the code of the output's amplitude */
+};
+
+struct dovecounter_settings {
+    struct dovecounter_signal_targets active; /* bytes 214 to 234 of page 11h */
+    struct dovecounter_signal_targets staged; /* bytes 153 to 173 of page 10h */
+    uint8_t has_staged;                       /* 1 if page 10h is there; else staged is zeros, and this 0 */
+};
+
+/* Writes the settings of a module. Needs the lower half of 0xA0 and pages 00h, 01h and 11h. */
+uint32_t dovecounter_settings(const struct dovecounter_half *halves, size_t half_count,
+                              struct dovecounter_settings *settings);
+
+/* What a module can do. */
+struct dovecounter_settings_limits {
+    uint8_t amplitudes;  /* bit i: code i, 0 to 3; without any, a target has to be 0 */
+    uint8_t fixed_input; /* the greatest codes */
+    uint8_t pre_cursor;
+    uint8_t post_cursor;
+};
+
+/* Writes what bytes 153 and 154 of page 01h advertise. Needs the lower half of 0xA0 and pages 00h and 01h. */
+uint32_t dovecounter_settings_limits(const struct dovecounter_half *halves, size_t half_count,
+                                     struct dovecounter_settings_limits *limits);
+
+/* What to change. */
+struct dovecounter_settings_change {
+    uint8_t lanes;     /* host lanes */
+    uint8_t permitted; /* host lanes that may be disturbed though their data path is up: each of `lanes` has to be */
+    uint8_t tries;     /* how often in all settings may be staged again, or be looked for again */
+    struct dovecounter_signal_targets targets; /* those of other lanes don't count */
+};
+
+/* A change under way. Copy it and save it; change nothing. Changed numbers are refused, or taken for another change. */
+struct dovecounter_changing_settings {
+    uint32_t magic;
+    uint32_t idle;
+    uint32_t pause;
+    uint32_t limit;
+    uint16_t steps;
+    uint16_t most_steps;
+    uint8_t lanes;
+    uint8_t tries;
+    uint8_t stage;
+    uint8_t end;
+    uint8_t end_lane;
+    uint8_t left;
+    uint8_t due;
+    uint8_t doubts;
+    uint8_t selection;
+    uint8_t page;
+    uint8_t taken;
+    uint8_t taken_page;
+    uint8_t settings[21];
+    uint8_t staged[29];
+    uint8_t mixed[21];
+};
+
+/* Begins to change settings, by 4096 operations at most, of a module with these limits. Refuses a change of a lane that isn't
+   permitted, and one that the module doesn't advertise. */
+uint32_t dovecounter_settings_begin(const struct dovecounter_settings_change *change,
+                                    const struct dovecounter_settings_limits *limits,
+                                    const struct dovecounter_patience *patience,
+                                    struct dovecounter_changing_settings *changing);
+
+/* Writes what to do now. */
+uint32_t dovecounter_settings_next(const struct dovecounter_changing_settings *changing,
+                                   struct dovecounter_operation *operation);
+
+/* Takes the outcome of that operation, as dovecounter_reply does. */
+uint32_t dovecounter_settings_reply(struct dovecounter_changing_settings *changing, uint8_t outcome,
+                                    const uint8_t *bytes, size_t byte_count);
+
+enum dovecounter_settings_outcome {
+    DOVECOUNTER_SETTINGS_ACTIVE = 0, /* the lanes have the settings, as the active ones were read last */
+    DOVECOUNTER_SETTINGS_NOT_UP = 1, /* `lane` is neither DPActivated nor DPInitialized */
+    DOVECOUNTER_SETTINGS_NOT_EXPLICIT =
+        2, /* `lane` isn't under explicit control, or another control byte is staged for it */
+    DOVECOUNTER_SETTINGS_NOT_STAGED = 3, /* the module shows other staged settings after all tries */
+    DOVECOUNTER_SETTINGS_REJECTED = 4,   /* the module rejected those of `lane` */
+    DOVECOUNTER_SETTINGS_NOT_ACTIVE = 5, /* `lane` has other active settings after all tries */
+    DOVECOUNTER_SETTINGS_OVERDUE = 6,    /* out of patience */
+    DOVECOUNTER_SETTINGS_GAVE_UP = 7     /* 4096 operations */
+};
+
+struct dovecounter_settings_end {
+    uint8_t outcome; /* enum dovecounter_settings_outcome */
+    uint8_t lane;    /* the lowest lane that it is so with, or 0 */
+    uint8_t reached; /* 0: nothing was stored; 1: settings may be staged; 2: they may be active, too */
+};
+
+/* Writes how it ended. */
+uint32_t dovecounter_settings_end(const struct dovecounter_changing_settings *changing,
+                                  struct dovecounter_settings_end *end);
+
+/* Carries a change of settings out, as dovecounter_run does. */
+static inline uint32_t dovecounter_settings_run(struct dovecounter_changing_settings *changing,
+                                                uint8_t (*transact)(void *context,
+                                                                    const struct dovecounter_operation *operation,
+                                                                    uint8_t bytes[128]),
+                                                void (*pause)(void *context, uint32_t milliseconds), void *context) {
+    struct dovecounter_operation operation;
+    uint8_t bytes[128];
+    uint32_t status;
+    while ((status = dovecounter_settings_next(changing, &operation)) == DOVECOUNTER_DONE) {
+        uint8_t outcome = DOVECOUNTER_WAITED;
+        if (operation.kind == DOVECOUNTER_WAIT)
+            pause(context, operation.milliseconds);
+        else
+            outcome = transact(context, &operation, bytes);
+        status = dovecounter_settings_reply(changing, outcome, bytes, operation.count);
         if (status != DOVECOUNTER_DONE) return status;
     }
     return status == DOVECOUNTER_ENDED ? (uint32_t)DOVECOUNTER_DONE : status;

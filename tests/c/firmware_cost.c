@@ -240,6 +240,31 @@ static void *switches(void *x) {
     return x;
 }
 
+static const struct dovecounter_settings_limits limits = {.amplitudes = 15, .pre_cursor = 7};
+static const struct dovecounter_settings_change tunes = {
+    .lanes = 0x0C, .permitted = 0xFF, .tries = 3, .targets.pre_cursor = {[2] = 7, [3] = 7}};
+static struct dovecounter_settings settings;
+static struct dovecounter_changing_settings tuning;
+static struct dovecounter_settings_end settings_end;
+
+static void *has_settings(void *x) {
+    dovecounter_settings(halves, half_count, &settings);
+    return x;
+}
+
+/* All operations of a change of settings, each answered. */
+static void *tunes_lanes(void *x) {
+    dovecounter_settings_begin(&tunes, &limits, &patience, &tuning);
+    for (int made = 0; made < 40; made++) {
+        if (dovecounter_settings_next(&tuning, &operation) != DOVECOUNTER_DONE) break;
+        uint8_t reply = operation.kind == DOVECOUNTER_WAIT ? DOVECOUNTER_WAITED : transact(0, &operation, fetched);
+        size_t count = reply == DOVECOUNTER_FETCHED ? operation.count : 0;
+        dovecounter_settings_reply(&tuning, reply, fetched, count);
+    }
+    dovecounter_settings_end(&tuning, &settings_end);
+    return x;
+}
+
 int main(void) {
     read_halves();
     wanted.weights[0x0D] = 101;
@@ -282,5 +307,7 @@ int main(void) {
     if (port.stage != DOVECOUNTER_PORT_PROVISIONING && port.stage != DOVECOUNTER_PORT_WAKING) return 1;
     print_used("the calls of an update", updates, alone);
     print_used("the calls of a change of lanes", switches, alone);
+    print_used("dovecounter_settings", has_settings, alone);
+    print_used("the calls of a change of settings", tunes_lanes, alone);
     return 0;
 }

@@ -460,3 +460,58 @@ AT(lane_end, outcome, 0);
 AT(lane_end, byte, 1);
 AT(lane_end, lanes, 2);
 AT(lane_end, stores, 3);
+
+SIZE(signal_targets, 43);
+AT(signal_targets, adaptive, 0);
+AT(signal_targets, recall, 1);
+AT(signal_targets, fixed_input, 9);
+AT(signal_targets, recover_tx, 17);
+AT(signal_targets, recover_rx, 18);
+AT(signal_targets, pre_cursor, 19);
+AT(signal_targets, post_cursor, 27);
+AT(signal_targets, amplitude, 35);
+
+SIZE(settings, 87);
+AT(settings, active, 0);
+AT(settings, staged, 43);
+AT(settings, has_staged, 86);
+
+SIZE(settings_limits, 4);
+AT(settings_limits, amplitudes, 0);
+AT(settings_limits, fixed_input, 1);
+AT(settings_limits, pre_cursor, 2);
+AT(settings_limits, post_cursor, 3);
+
+SIZE(settings_change, 46);
+AT(settings_change, lanes, 0);
+AT(settings_change, permitted, 1);
+AT(settings_change, tries, 2);
+AT(settings_change, targets, 3);
+
+SIZE(changing_settings, 104);
+AT(changing_settings, magic, 0);
+AT(changing_settings, idle, 4);
+AT(changing_settings, pause, 8);
+AT(changing_settings, limit, 12);
+AT(changing_settings, steps, 16);
+AT(changing_settings, most_steps, 18);
+AT(changing_settings, lanes, 20);
+AT(changing_settings, tries, 21);
+AT(changing_settings, stage, 22);
+AT(changing_settings, end, 23);
+AT(changing_settings, end_lane, 24);
+AT(changing_settings, left, 25);
+AT(changing_settings, due, 26);
+AT(changing_settings, doubts, 27);
+AT(changing_settings, selection, 28);
+AT(changing_settings, page, 29);
+AT(changing_settings, taken, 30);
+AT(changing_settings, taken_page, 31);
+AT(changing_settings, settings, 32);
+AT(changing_settings, staged, 53);
+AT(changing_settings, mixed, 82);
+
+SIZE(settings_end, 3);
+AT(settings_end, outcome, 0);
+AT(settings_end, lane, 1);
+AT(settings_end, reached, 2);

@@ -16,6 +16,9 @@ use Rattle.field_tables.specs.declared.sff_fault.SffFault.{SffFault}
 use Rattle.field_tables.specs.declared.sff_fault.SffFault.TheVariants as sff
 use Rattle.applications.specs.declared.weights.lines.WeightLinesFault.{WeightLinesFault}
 use Rattle.applications.specs.declared.weights.lines.WeightLinesFault.TheVariants as weights
+use Rattle.lane_controls.specs.declared.signal_settings.SettingFault.TheVariants as setting
+use Rattle.saved_lanes.specs.declared.settings.targets.SettingsRefusal.{SettingsRefusal}
+use Rattle.saved_lanes.specs.declared.settings.targets.SettingsRefusal.TheVariants as settings
 use Rattle.firmware_api.specs.Statuses.{is_answered, status_of}
 use Rattle.firmware_api.specs.declared.status.Refusal.{Refusal}
 use Rattle.firmware_api.specs.declared.status.Refusal.TheVariants as refusal
@@ -51,6 +54,15 @@ unfolding statuses sentences
 of_weights (weights.BadLine x) answered = refl
 of_weights _ answered = refl
 
+of_settings : (r : SettingsRefusal) → IsTrue (is_some (text_by statuses (status_of (refusal.Settings r))))
+unfolding statuses sentences
+of_settings (settings.NotAdvertised setting.Recall) = refl
+of_settings (settings.NotAdvertised setting.FixedInput) = refl
+of_settings (settings.NotAdvertised setting.PreCursor) = refl
+of_settings (settings.NotAdvertised setting.PostCursor) = refl
+of_settings (settings.NotAdvertised setting.Amplitude) = refl
+of_settings settings.NotPermitted = refl
+
 pub each_refusal_has_a_text : (r : Refusal) → IsTrue (is_answered r) → IsTrue (is_some (text_by statuses (status_of r)))
 unfolding statuses sentences
 each_refusal_has_a_text (refusal.Advert f) answered = of_advert f answered
@@ -59,4 +71,5 @@ each_refusal_has_a_text (refusal.NoStart f) answered = of_start f answered
 each_refusal_has_a_text (refusal.Decode (Module f)) answered = of_module f
 each_refusal_has_a_text (refusal.Decode (Sff f)) answered = of_sff f answered
 each_refusal_has_a_text (refusal.Weights f) answered = of_weights f answered
+each_refusal_has_a_text (refusal.Settings r) answered = of_settings r
 each_refusal_has_a_text _ answered = refl

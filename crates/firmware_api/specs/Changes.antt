@@ -28,8 +28,8 @@ change_in c = record {
   may = record { take_down = lanes_in c.may_take_down; bring_up = lanes_in c.may_bring_up; no_path = not (c.may_have_no_path == 0) };
 }
 
-abbrev pub absence : Result Effect Key → Option Refusal
-absence (Ok effect) = None
+abbrev pub absence : {A : Type 0} → Result A Key → Option Refusal
+absence (Ok value) = None
 absence (Err half) = Some (Advert (Absent half))
 
 -- of the halves themselves, or since one that is needed is absent

@@ -26,3 +26,4 @@ pub mod KeptPorts
 pub mod Updates
 pub mod LanesTold
 pub mod ObservableNumbers
+pub mod SettingsTold

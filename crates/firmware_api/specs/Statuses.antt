@@ -15,10 +15,13 @@ use Rattle.module_decoding.specs.declared.report.DecodeFault.{DecodeFault}
 use Rattle.module_decoding.specs.declared.report.DecodeFault.TheVariants.{Module, Sff}
 use Rattle.plan_certificate.specs.declared.fault.CertificateFault.{CertificateFault}
 use Rattle.plan_certificate.specs.declared.fault.CertificateFault.TheVariants.{BadLine, OutOfOrder, TooMany, NoEnd}
+use Rattle.lane_controls.specs.declared.signal_settings.SettingFault.TheVariants.{Recall, FixedInput, PreCursor, PostCursor, Amplitude}
+use Rattle.saved_lanes.specs.declared.settings.targets.SettingsRefusal.{SettingsRefusal}
+use Rattle.saved_lanes.specs.declared.settings.targets.SettingsRefusal.TheVariants.{NotPermitted, NotAdvertised}
 use Rattle.sim_module.specs.declared.fault.SimFault.{SimFault}
 use Rattle.sim_module.specs.declared.fault.SimFault.TheVariants as sim_fault
 use Rattle.firmware_api.specs.declared.status.Refusal.{Refusal}
-use Rattle.firmware_api.specs.declared.status.Refusal.TheVariants.{TooManyHalves, NoPlace, NoText, TooSmall, Advert, Certificate, TooManyKept, KeptNotAdmissible, NoConversation, Ended, NotEnded, NoReply, TooFewBytes, NoStart, NoModule, NoRange, NotTaken, Decode, Weights}
+use Rattle.firmware_api.specs.declared.status.Refusal.TheVariants.{TooManyHalves, NoPlace, NoText, TooSmall, Advert, Certificate, TooManyKept, KeptNotAdmissible, NoConversation, Ended, NotEnded, NoReply, TooFewBytes, NoStart, NoModule, NoRange, NotTaken, Decode, Weights, Settings}
 
 abbrev pub family_number : Family → ℕ
 family_number Cmis = 1
@@ -77,6 +80,15 @@ weights_status (weights_fault.BadLine line) = 91
 weights_status weights_fault.NoHost = 92
 weights_status (weights_fault.SameIdTwice line) = 94
 
+-- of what isn't advertised, in the order in which it is looked for; but what isn't permitted comes first
+abbrev pub settings_status : SettingsRefusal → ℕ
+settings_status (NotAdvertised Recall) = 101
+settings_status (NotAdvertised FixedInput) = 102
+settings_status (NotAdvertised PreCursor) = 103
+settings_status (NotAdvertised PostCursor) = 104
+settings_status (NotAdvertised Amplitude) = 105
+settings_status NotPermitted = 106
+
 abbrev pub status_of : Refusal → ℕ
 status_of TooManyHalves = 1
 status_of NoPlace = 2
@@ -97,6 +109,7 @@ status_of NoRange = 62
 status_of NotTaken = 63
 status_of (Decode fault) = decode_status fault
 status_of (Weights fault) = weights_status fault
+status_of (Settings refusal) = settings_status refusal
 
 -- a call is refused, or does what it is for
 abbrev pub status_by : Option Refusal → ℕ

@@ -1,6 +1,6 @@
 //! What C calls: what a module is, measures and warns of, its Applications, a plan of its lanes, the check of a
 //! certificate, the longest that its states last, conversations with it that are told what the caller's bus answered, the
-//! manager of a port, updates of a module's firmware, changes of single lanes, and simulated modules.
+//! manager of a port, updates of a module's firmware, changes of single lanes and of their settings, and simulated modules.
 #![tactic(auto)]
 
 mod advertisement;
@@ -24,6 +24,7 @@ mod patience;
 mod planning;
 mod port;
 mod read_module;
+mod settings;
 mod shown_texts;
 mod simulated;
 mod status;

@@ -1,10 +1,12 @@
 ghost use Rattle.std.specs.Prelude.{◌≡◌, ◌≢◌};
-ghost use Rattle.firmware_api.specs.Statuses.{advert_status, certificate_status, decode_status, done, module_status, sff_status, start_status, status_of, weights_status};
+ghost use Rattle.firmware_api.specs.Statuses.{advert_status, certificate_status, decode_status, done, module_status, settings_status, sff_status, start_status, status_of, weights_status};
 
 use applications::{AdvertFault, WeightLinesFault};
 use field_tables::SffFault;
+use lane_controls::SettingFault;
 use module_decoding::{DecodeFault, ModuleFault};
 use plan_certificate::CertificateFault;
+use saved_lanes::settings::SettingsRefusal;
 use sim_module::SimFault;
 
 /// What a call answers if it did what it is for.
@@ -80,6 +82,8 @@ pub enum Refusal {
     Decode(DecodeFault),
     /// The lines say no weights.
     Weights(WeightLinesFault),
+    /// A change of settings isn't allowed.
+    Settings(SettingsRefusal),
 }
 
 impl Refusal {
@@ -108,6 +112,7 @@ impl Refusal {
             Refusal::NotTaken => NOT_TAKEN,
             Refusal::Decode(fault) => decode_status(fault),
             Refusal::Weights(fault) => weights_status(fault),
+            Refusal::Settings(refusal) => settings_status(refusal),
         }
     }
 }
@@ -199,5 +204,20 @@ pub fn weights_status(fault: WeightLinesFault) -> u32
         WeightLinesFault::BadLine(_) => 91,
         WeightLinesFault::NoHost => 92,
         WeightLinesFault::SameIdTwice(_) => 94,
+    }
+}
+
+/// The number by which C knows it.
+pub fn settings_status(refusal: SettingsRefusal) -> u32
+    ensures status { result ≡ settings_status refusal }
+    ensures refused { result ≢ done }
+{
+    match refusal {
+        SettingsRefusal::NotAdvertised(SettingFault::Recall) => 101,
+        SettingsRefusal::NotAdvertised(SettingFault::FixedInput) => 102,
+        SettingsRefusal::NotAdvertised(SettingFault::PreCursor) => 103,
+        SettingsRefusal::NotAdvertised(SettingFault::PostCursor) => 104,
+        SettingsRefusal::NotAdvertised(SettingFault::Amplitude) => 105,
+        SettingsRefusal::NotPermitted => 106,
     }
 }

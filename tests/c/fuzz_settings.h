@@ -1,0 +1,78 @@
+/* Calls about signal integrity settings: those of the halves, and a change that goes on. */
+#ifndef FUZZ_SETTINGS_H
+#define FUZZ_SETTINGS_H
+
+#include "fuzz_conversations.h"
+
+static struct dovecounter_changing_settings tuning;
+
+static void call_settings(void) {
+#define SETTINGS(it) dovecounter_settings(halves, half_count, it)
+    ASK(struct dovecounter_settings, found, LIST(OF_ADVERTISEMENT), SETTINGS);
+    if (!status) stop_if(found->has_staged > 1, "whether settings are staged");
+}
+
+static void call_settings_limits(void) {
+#define LIMITS(it) dovecounter_settings_limits(halves, half_count, it)
+    ASK(struct dovecounter_settings_limits, found, LIST(OF_ADVERTISEMENT), LIMITS);
+    if (status) return;
+    stop_if(found->amplitudes > 15 || found->fixed_input > 15, "limits");
+    stop_if(found->pre_cursor > 15 || found->post_cursor > 15, "limits of cursors");
+}
+
+static void begin_settings(void) {
+    const struct dovecounter_settings_change *wants = filled(SMALL, sizeof *wants);
+    const struct dovecounter_settings_limits *can = filled(TEXT, sizeof *can);
+#define SETTINGS_BEGIN(it) dovecounter_settings_begin(wants, can, &patience, it)
+    ASK(struct dovecounter_changing_settings, found, LIST(106, 101, 102, 103, 104, 105), SETTINGS_BEGIN);
+    stop_if(((wants->lanes & ~wants->permitted) != 0) != (status == 106), "a permission");
+    if (!status) tuning = *found;
+}
+
+static uint32_t reply_to_settings(uint8_t outcome, const uint8_t *bytes, size_t count) {
+    struct dovecounter_changing_settings *it = copied(BYTES, &tuning, sizeof tuning);
+    uint32_t status = dovecounter_settings_reply(it, outcome, bytes, count);
+    judge(status, "settings_reply", LIST(31, 32, 34), it, 0);
+    stop_if(status && memcmp(it, &tuning, sizeof *it), "a refused reply changes the settings");
+    tuning = *it;
+    return status;
+}
+
+static void end_settings(void) {
+#define SETTINGS_END(it) dovecounter_settings_end(&tuning, it)
+    ASK(struct dovecounter_settings_end, found, LIST(31, 33), SETTINGS_END);
+    if (status) return;
+    stop_if(found->outcome > DOVECOUNTER_SETTINGS_GAVE_UP, "the end of a change of settings");
+    stop_if(found->reached > 2, "what it reached");
+}
+
+static void go_on_with_settings(void) {
+    for (int steps = byte(); steps > 0; steps--) {
+#define SETTINGS_NEXT(it) dovecounter_settings_next(&tuning, it)
+        ASK(struct dovecounter_operation, next, LIST(31, 32), SETTINGS_NEXT);
+        if (status) break;
+        stop_if_no_operation(next);
+        struct dovecounter_operation operation = *next;
+        uint8_t how = byte(), outcome = DOVECOUNTER_WAITED, *bytes = room(OUT, 0);
+        if (operation.kind != DOVECOUNTER_WAIT && how % 8 == 7)
+            outcome = DOVECOUNTER_REFUSED;
+        else if (operation.kind == DOVECOUNTER_STORE)
+            outcome = DOVECOUNTER_STORED;
+        else if (operation.kind == DOVECOUNTER_FETCH)
+            outcome = DOVECOUNTER_FETCHED, bytes = fetched_from(&operation, how);
+        if (outcome == DOVECOUNTER_STORED && operation.offset == SELECTION) memcpy(selected, operation.bytes, 2);
+        stop_if(reply_to_settings(outcome, bytes, outcome == DOVECOUNTER_FETCHED ? operation.count : 0) != 0,
+                "a reply about settings");
+    }
+    end_settings();
+}
+
+/* A reply of any kind, or a changed number. */
+static void call_tuning(void) {
+    uint8_t what = byte();
+    if (what & 1) change(&tuning, sizeof tuning);
+    size_t size = byte();
+    if (what & 4) reply_to_settings(what >> 4, filled(OUT, size), size);
+    end_settings();
+}
+#endif
