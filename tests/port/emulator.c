@@ -3,8 +3,15 @@
 #include <stdio.h>
 #include <string.h>
 
-enum { DP_DEINIT = 0, APPLY_DP_INIT = 15, STAGED = 17 };                        /* on page 10h, from byte 128 on */
-enum { PATHS = 0, LATCHED = 6, LAST_LATCHED = 24, STATUSES = 74, ACTIVE = 78 }; /* on page 11h */
+enum {
+    DP_DEINIT = 0,
+    APPLY_DP_INIT = 15,
+    APPLY_IMMEDIATE = 16,
+    STAGED = 17,
+    SETTINGS = 25
+}; /* on page 10h, from byte 128 on */
+enum { PATHS = 0, LATCHED = 6, LAST_LATCHED = 24, STATUSES = 74, ACTIVE = 78, ACTIVE_SETTINGS = 86 }; /* on page 11h */
+enum { SETTINGS_BYTES = 21 };
 
 uint64_t next_random(uint64_t *state) {
     uint64_t x = *state += 0x9E3779B97F4A7C15U; /* splitmix64 */
@@ -57,6 +64,13 @@ size_t describe(const struct emulator *module, char *text, size_t room) {
     if (module->powers != 0)
         at += (size_t)snprintf(text + at, room - at, "power %02x state %u\n", module->lower[26],
                                module->lower[3] >> 1 & 7);
+    if (module->tuned != 0) {
+        at +=
+            (size_t)snprintf(text + at, room - at, "tuned %u lanes %02x settings", module->tuned, module->tuned_lanes);
+        for (int i = 0; i < SETTINGS_BYTES; i++)
+            at += (size_t)snprintf(text + at, room - at, " %02x", module->pages[0x11][ACTIVE_SETTINGS + i]);
+        at += (size_t)snprintf(text + at, room - at, "\n");
+    }
     if (module->switched == 0) return at;
     at += (size_t)snprintf(text + at, room - at, "switched %u controls", module->switched);
     for (unsigned control = 129; control <= 139; control++)
@@ -171,6 +185,30 @@ static void apply(struct emulator *module, uint8_t mask) {
     module->apply_left = module->silent + some_time(module);
 }
 
+/* The bits of a lane in a byte of the settings: lanes share it as bits, in fours, or in pairs. */
+static uint8_t bits_of_lane(int byte, int lane) {
+    if (byte == 0 || byte == 7 || byte == 8) return (uint8_t)(1 << lane);
+    if (byte < 3) return (uint8_t)(lane / 4 == byte - 1 ? 3 << 2 * (lane % 4) : 0);
+    return (uint8_t)(lane / 2 == (byte < 7 ? byte - 3 : (byte - 9) % 4) ? 15 << 4 * (lane % 2) : 0);
+}
+
+/* ApplyImmediate copies control bytes and settings of lanes that are up at once. */
+static void apply_settings(struct emulator *module, uint8_t mask) {
+    module->tuned_lanes |= mask;
+    if (only_tells(module, mask)) return;
+    for (int lane = 0; lane < 8; lane++) {
+        if (!(mask >> lane & 1)) continue;
+        bool up = module->path[lane] == ACTIVATED || module->path[lane] == INITIALIZED;
+        module->status[lane] = up ? SUCCESS : REJECTED;
+        if (!up) continue;
+        module->pages[0x11][ACTIVE + lane] = module->pages[0x10][STAGED + lane];
+        for (int i = 0; i < SETTINGS_BYTES; i++) {
+            uint8_t *active = &module->pages[0x11][ACTIVE_SETTINGS + i], bits = bits_of_lane(i, lane);
+            *active = (uint8_t)((*active & ~bits) | (module->pages[0x10][SETTINGS + i] & bits));
+        }
+    }
+}
+
 uint8_t fetch_byte(struct emulator *module, uint8_t address) {
     uint8_t at = address & 127, *bytes = module->pages[module->page], byte;
     if (address < 126) {
@@ -212,6 +250,11 @@ void store_byte(struct emulator *module, uint8_t address, uint8_t byte) {
         apply(module, byte);
     } else if (at >= STAGED && at < STAGED + 8) {
         if (at - STAGED + 1U != module->unstaged) page[at] = byte;
+    } else if (at == APPLY_IMMEDIATE) {
+        apply_settings(module, byte);
+    } else if (at >= SETTINGS && at < SETTINGS + SETTINGS_BYTES) {
+        module->tuned++;
+        if (!module->fixed) page[at] = byte;
     } else if (is_control(at)) {
         module->switched++;
         if (!module->fixed) page[at] = byte;

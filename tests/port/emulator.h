@@ -40,7 +40,7 @@ struct emulator {
     uint8_t reject;    /* the status of each apply, which changes nothing; 0 for what it would be */
     unsigned unstaged; /* the lane, from 1 on, whose staged byte is not kept; 0 for none */
 
-    bool fixed; /* controls of single lanes are not kept */
+    bool fixed; /* controls of single lanes, and settings, are not kept */
 
     /* what a test looks at */
     uint8_t left_activated;  /* lanes */
@@ -48,6 +48,8 @@ struct emulator {
     unsigned astray;         /* bytes stored elsewhere, but for the selection and the staged control bytes */
     unsigned powers;         /* stores of byte 26 */
     unsigned switched;       /* stores of controls of single lanes */
+    unsigned tuned;          /* bytes of signal integrity settings that were stored */
+    uint8_t tuned_lanes;     /* bits that were stored to ApplyImmediate */
 };
 
 uint64_t next_random(uint64_t *state);

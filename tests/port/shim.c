@@ -190,7 +190,7 @@ static void tell_firmware(FILE *out) {
 }
 
 __attribute__((destructor)) static void tell(void) {
-    char text[256];
+    char text[512];
     FILE *out = shim.out[0] != 0 ? fopen(shim.out, "w") : NULL;
     if (out == NULL) return;
     fwrite(text, 1, describe(&shim.module, text, sizeof text), out);

@@ -62,12 +62,12 @@ bool read_change(struct port *port, const char *name, const char *word, const ch
 
 /* ---- on the bus ---- */
 
-static uint8_t make(void *context, const struct dovecounter_operation *operation, uint8_t bytes[128]) {
+uint8_t make_on_lanes(void *context, const struct dovecounter_operation *operation, uint8_t bytes[128]) {
     struct port *port = context;
     return port->ending == GOES_ON ? transact(port, operation, bytes) : NO_OUTCOME;
 }
 
-static void wait_ms(void *context, uint32_t ms) {
+void wait_on_lanes(void *context, uint32_t ms) {
     struct port *port = context;
     if (port->ending == GOES_ON) pause_ms(port, ms);
 }
@@ -77,12 +77,12 @@ static bool carry_out_change(struct port *port, struct dovecounter_lane_end *end
     const struct dovecounter_patience patience = patience_for(port);
     struct dovecounter_changing_lanes changing;
     dovecounter_lane_begin(&port->change, &patience, &changing);
-    dovecounter_lane_run(&changing, make, wait_ms, port);
+    dovecounter_lane_run(&changing, make_on_lanes, wait_on_lanes, port);
     return dovecounter_lane_end(&changing, end) == DOVECOUNTER_DONE;
 }
 
 /* Reads the module. Says why it has no lanes that can be switched. */
-static bool read_switchable(struct port *port) {
+bool read_switchable(struct port *port) {
     struct dovecounter_advertisement module;
     bool whole = read_module(port, false);
     if (!port->json) print_flags(port);
@@ -100,7 +100,7 @@ static void print_lanes_of(const char *name, unsigned lanes) {
     putchar('\n');
 }
 
-static void print_list(const char *name, unsigned lanes) {
+void print_list(const char *name, unsigned lanes) {
     const char *before = "";
     printf("\"%s\": [", name);
     for (unsigned lane = 0; lane < 8; lane++)

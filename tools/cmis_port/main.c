@@ -16,6 +16,7 @@ static const char usage[] =
     "       cmis-port BUS tx-polarity | rx-polarity normal | flipped LANES\n"
     "       cmis-port BUS tx-squelch | rx-squelch auto | disabled LANES\n"
     "       cmis-port BUS tx-squelch forced | released LANES\n"
+    "       cmis-port BUS settings [set lane=LANES SETTING=VALUE ..]\n"
     "  BUS             /dev/i2c-N, the eeprom file of the driver optoe, or sim:IMAGE[,SCRIPT] to simulate a module\n"
     "  LANES           such as 3 or 1,3,4: media lanes of tx and tx-squelch, else host lanes\n"
     "  WEIGHTS         a file with a line [host] and lines such as 0Dh = 101\n"
@@ -31,6 +32,8 @@ static const char usage[] =
     "    update        write FILE to the bank that doesn't run, run it, and commit it\n"
     "  lanes           print which lanes have which control: outputs disabled, polarity flipped and so on\n"
     "  tx, rx          switch outputs of these lanes on or off; so their polarity, and their squelch\n"
+    "  settings        print the signal integrity settings of each lane, and what the module can do\n"
+    "    set           change some: adaptive, cdr-tx, cdr-rx (on, off), recall, input, pre, post, amplitude (a code)\n"
     "  --keep A,H,M    keep a data path that is active: its Application, first host lane, first media lane\n"
     "  --unpaired      let any first host lane go with any first media lane\n"
     "  --counts-by-id  look up lane counts of 0 by interface ID\n"
@@ -40,7 +43,7 @@ static const char usage[] =
     "  --wake          take the module out of low power first\n"
     "  --reset         let an update restart the module, which takes its lanes down\n"
     "  --no-commit     end an update once the new image runs\n"
-    "  --json          print of firmware, of the progress of an update, and of lanes a line of JSON each\n"
+    "  --json          print of firmware, of the progress of an update, of lanes and settings a line of JSON each\n"
     "  --log FILE      write each transaction to FILE\n"
     "Examples:\n"
     "  cmis-port /dev/i2c-7 image | cmisctl inventory\n"
@@ -103,6 +106,7 @@ struct command {
     bool resets, shows;                                /* it takes --reset and --no-commit; it takes --json */
     bool borrows;                                      /* it may have the bus of a port that cmisd keeps */
     bool sets;                                         /* its words are followed by a setting and lanes */
+    bool tunes;                                        /* its words are followed by settings with their values */
 };
 
 static bool read_host(struct port *port, const char *name) { return read_weights(name, port->weights); }
@@ -134,6 +138,8 @@ static const struct command *read_words(int count, char **words, struct port *po
          .shows = true,
          .borrows = true},
         {.name = "lanes", .run = print_controls, .shows = true},
+        {.name = "settings", .run = print_settings, .shows = true},
+        {.name = "settings", .second = "set", .run = change_settings, .tunes = true, .forces = true, .shows = true},
         {.name = "tx", .run = change_lanes, .sets = true, .forces = true, .shows = true},
         {.name = "rx", .run = change_lanes, .sets = true, .forces = true, .shows = true},
         {.name = "tx-polarity", .run = change_lanes, .sets = true, .forces = true, .shows = true},
@@ -143,10 +149,11 @@ static const struct command *read_words(int count, char **words, struct port *po
     if (!read_flags(count, words, port) || port->help || optind + 1 >= count) return NULL;
     port->bus.name = words[optind];
     for (const struct command *each = commands; each < commands + sizeof commands / sizeof *commands; each++) {
-        int length = 2 + (each->second != NULL) + (each->read != NULL) + 2 * each->sets;
-        if (count - optind != length || strcmp(words[optind + 1], each->name) != 0) continue;
+        int length = 2 + (each->second != NULL) + (each->read != NULL) + 2 * each->sets, more = count - optind - length;
+        if (more < 0 || (more > 0 && !each->tunes) || strcmp(words[optind + 1], each->name) != 0) continue;
         if (each->second != NULL && strcmp(words[optind + 2], each->second) != 0) continue;
         if (each->sets && !read_change(port, each->name, words[optind + 2], words[optind + 3])) return NULL;
+        if (each->tunes && !read_targets(port, words + optind + length, more)) return NULL;
         return is_stray(port, each) ? NULL : each;
     }
     return NULL;

@@ -6,6 +6,7 @@
 #include <signal.h>
 
 enum status { DONE = 0, REFUSED = 1, COMMAND_LINE = 2, NOT_PROVISIONED = 3, IN_USE = 4, NOT_WRITTEN = 6 };
+enum { SETTINGS = 8 }; /* of a lane's signal */
 enum work { PROVISION, ACTIVATE, WAKE, SLEEP };
 
 struct port {
@@ -16,7 +17,9 @@ struct port {
     struct dovecounter_path kept[9];
     size_t kept_count;
     struct dovecounter_lane_change change;
-    uint8_t *file; /* the firmware */
+    uint8_t tuned_lanes;
+    int16_t tuned[SETTINGS]; /* what these settings are to be, or -1 */
+    uint8_t *file;           /* the firmware */
     size_t file_size;
 
     /* the bus */
@@ -86,9 +89,18 @@ enum status firmware_abort(struct port *port);
 enum status firmware_update(struct port *port);
 
 /* controls.c */
+uint8_t make_on_lanes(void *context, const struct dovecounter_operation *operation, uint8_t bytes[128]);
+void wait_on_lanes(void *context, uint32_t ms);
+bool read_switchable(struct port *port);
+void print_list(const char *name, unsigned lanes);
 bool read_change(struct port *port, const char *name, const char *word, const char *lanes);
 enum status print_controls(struct port *port);
 enum status change_lanes(struct port *port);
+
+/* settings.c */
+bool read_targets(struct port *port, char **words, int count);
+enum status print_settings(struct port *port);
+enum status change_settings(struct port *port);
 
 /* lanes.c */
 struct dovecounter_effect judge(const struct port *port);
