@@ -79,6 +79,8 @@ from .reports import (
     Value,
     Voltage,
 )
+from .settings import SettingsChange, SettingsEnd, SettingsFault, SettingsOutcome, SettingsReach
+from .signals import LaneSignal, ModuleSignals, SignalLimits, SignalSettings
 from .simulated import Delays, SimulatedModule
 from .states import ConfigStatus, ModuleState, PathState
 
@@ -123,10 +125,12 @@ __all__ = [
     "LaneFault",
     "LaneOutcome",
     "LanePowers",
+    "LaneSignal",
     "LaneValues",
     "LeftModuleReady",
     "Levels",
     "Limits",
+    "ModuleSignals",
     "ModuleState",
     "Monitors",
     "Observable",
@@ -146,7 +150,14 @@ __all__ = [
     "Reading",
     "Reply",
     "Request",
+    "SettingsChange",
+    "SettingsEnd",
+    "SettingsFault",
+    "SettingsOutcome",
+    "SettingsReach",
     "Side",
+    "SignalLimits",
+    "SignalSettings",
     "SimulatedModule",
     "Sleeping",
     "Stage",

@@ -35,6 +35,7 @@ from .reports import (
     inventory_of,
     monitors_of,
 )
+from .signals import ModuleSignals, SignalLimits, limits_of, signals_of
 
 HALF, MOST_HALVES = dumps.HALF, dumps.MOST_HALVES
 
@@ -50,6 +51,8 @@ _identity = library.function("identity")
 _flags = library.function("flags")
 _monitors = library.function("monitors")
 _observables = library.function("observables")
+_settings = library.function("settings")
+_settings_limits = library.function("settings_limits")
 
 
 @dataclass(frozen=True, order=True)
@@ -298,6 +301,19 @@ class Image:
             if place.value == 0:
                 return tuple(observed)
             observed.append(observable_of(found))
+
+    def signal_settings(self) -> ModuleSignals:
+        """The signal integrity settings of each lane. Needs the lower half of 0xA0 and its pages 00h,
+        01h and 11h; those that are staged need page 10h. Raises a Fault of AD1 to AD6."""
+        found = library.Settings()
+        self.take(_settings(*self.arguments(), byref(found)))
+        return signals_of(found)
+
+    def signal_limits(self) -> SignalLimits:
+        """Which of them the module can have. Raises a Fault of AD1 to AD6."""
+        found = library.SettingsLimits()
+        self.take(_settings_limits(*self.arguments(), byref(found)))
+        return limits_of(found)
 
     def details(self) -> Details:
         """All that the module has about itself, with names (docs/tables/details.md). Needs the halves

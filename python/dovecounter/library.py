@@ -282,6 +282,43 @@ class LaneEnd(Structure):
     _fields_ = _members(c_uint8, "outcome byte lanes stores")
 
 
+class SignalTargets(Structure):
+    _fields_ = [
+        ("adaptive", c_uint8),
+        *_members(Lanes, "recall fixed_input"),
+        *_members(c_uint8, "recover_tx recover_rx"),
+        *_members(Lanes, "pre_cursor post_cursor amplitude"),
+    ]
+
+
+class Settings(Structure):
+    _fields_ = [*_members(SignalTargets, "active staged"), ("has_staged", c_uint8)]
+
+
+class SettingsLimits(Structure):
+    _fields_ = _members(c_uint8, "amplitudes fixed_input pre_cursor post_cursor")
+
+
+class SettingsChange(Structure):
+    _fields_ = [*_members(c_uint8, "lanes permitted tries"), ("targets", SignalTargets)]
+
+
+class ChangingSettings(Structure):
+    _fields_ = [
+        *_members(c_uint32, "magic idle pause limit"),
+        *_members(c_uint16, "steps most_steps"),
+        *_members(c_uint8, "lanes tries stage end end_lane left due doubts"),
+        *_members(c_uint8, "selection page taken taken_page"),
+        ("settings", c_uint8 * 21),
+        ("staged", c_uint8 * 29),
+        ("mixed", c_uint8 * 21),
+    ]
+
+
+class SettingsEnd(Structure):
+    _fields_ = _members(c_uint8, "outcome lane reached")
+
+
 class Times(Structure):
     _fields_ = _members(c_uint32, "settle period first most")
 
@@ -444,6 +481,15 @@ FUNCTIONS: Dict[str, Tuple[Any, Tuple[Any, ...]]] = {
     "lane_next": (c_uint32, (POINTER(ChangingLanes), POINTER(Operation))),
     "lane_reply": (c_uint32, (POINTER(ChangingLanes), c_uint8, *_BYTES)),
     "lane_end": (c_uint32, (POINTER(ChangingLanes), POINTER(LaneEnd))),
+    "settings": (c_uint32, (*_HALVES, POINTER(Settings))),
+    "settings_limits": (c_uint32, (*_HALVES, POINTER(SettingsLimits))),
+    "settings_begin": (
+        c_uint32,
+        tuple(map(POINTER, (SettingsChange, SettingsLimits, Patience, ChangingSettings))),
+    ),
+    "settings_next": (c_uint32, (POINTER(ChangingSettings), POINTER(Operation))),
+    "settings_reply": (c_uint32, (POINTER(ChangingSettings), c_uint8, *_BYTES)),
+    "settings_end": (c_uint32, (POINTER(ChangingSettings), POINTER(SettingsEnd))),
     "port_new": (None, (POINTER(Times), POINTER(Port))),
     "port_plug": (c_uint32, (POINTER(Port), c_uint64)),
     "port_pull": (c_uint32, (POINTER(Port),)),
