@@ -6,7 +6,8 @@ pub mod OneMoreInstance
 pub mod ExactTexts
 pub mod ExactFractions
 pub mod NextObservations
-pub mod OneMoreObservation
+pub mod MoreObservations
+pub mod DescribedPlaces
 pub mod Times
 pub mod PlacesOfList
 pub mod Floors

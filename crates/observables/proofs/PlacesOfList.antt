@@ -9,15 +9,15 @@ at_monitor : (memory : Memory) (place n lane : ℕ) → nat_lt place 64 ≡ true
 unfolding observation_at
 at_monitor memory place n lane within number of_lane = rw (within, number, of_lane) refl
 
-at_instance : (memory : Memory) (place bank n : ℕ) → nat_lt place 64 ≡ false → nat_lt place 1088 ≡ true → (place - 64) / 256 ≡ bank
+pub at_instance : (memory : Memory) (place bank n : ℕ) → nat_lt place 64 ≡ false → nat_lt place 1088 ≡ true → (place - 64) / 256 ≡ bank
     → (place - 64) % 256 ≡ n → observation_at memory place ≡ observed memory bank n
 unfolding observation_at
 at_instance memory place bank n after within of_bank number = rw (after, within, of_bank, number) refl
 
-below : (place most : ℕ) → place < most → nat_lt place most ≡ true
+pub below : (place most : ℕ) → place < most → nat_lt place most ≡ true
 below place most less = grind (arith, nat_tests)
 
-not_below : (place least : ℕ) → least ≤ place → nat_lt place least ≡ false
+pub not_below : (place least : ℕ) → least ≤ place → nat_lt place least ≡ false
 not_below place least more = grind (arith, nat_tests)
 
 pub each_monitor : EachMonitorHasAPlace

@@ -1,8 +1,7 @@
 //! What a module measures, as one list.
-ghost use Rattle.std.specs.Prelude.{◌≡◌, ◌≤◌, ◌<◌, ℕ, None, IfSome, MatchOption};
+ghost use Rattle.std.specs.Prelude.{◌≡◌, ◌≤◌, ◌<◌, IfSome};
 ghost use Rattle.observables.specs.Monitors.{MonitorFits};
 ghost use Rattle.observables.specs.Observations as spec;
-ghost use Rattle.observables.specs.Observations.{IsNextObservation};
 
 use crate::amount::Amount;
 use crate::cmis_monitors::cmis_monitor;
@@ -20,8 +19,8 @@ use paged_memory::{Family, Image};
 /// How many places the list has.
 pub const PLACES: u16 = MONITOR_PLACES + 4 * 256;
 
-// Eight monitors of eight lanes; then four banks of instances.
-const MONITOR_PLACES: u16 = 64;
+/// How many of them are of monitors, eight of eight lanes. Those of four banks of instances follow.
+pub(crate) const MONITOR_PLACES: u16 = 64;
 
 /// Where something is measured. Lanes and data paths are counted from 1, a data path by its first lane.
 #[derive(Clone, Copy, Debug, PartialEq, Eq)]
@@ -58,20 +57,6 @@ pub fn observation_at(image: &Image, place: u16) -> Option<Observation>
     if place < PLACES {
         let instance = place - MONITOR_PLACES;
         return observed(image, (instance / 256) as u8, (instance % 256) as u8);
-    }
-    None
-}
-
-/// The first observation from a place on, with its place. The next one begins at the place after that.
-#[tactic(auto, using(crate::proofs::NextObservations::next))]
-pub fn next_observation(image: &Image, from: u16) -> Option<(u16, Observation)>
-    ensures first { MatchOption result ((k : ℕ) → from ≤ k → k < 1088 → spec.observation_at image.now k ≡ None) (IsNextObservation image.now from) }
-    ensures within { IfSome result (λ found. found.0 < 1088) }
-{
-    for place in from..PLACES {
-        if let Some(observation) = observation_at(image, place) {
-            return Some((place, observation));
-        }
     }
     None
 }

@@ -1,20 +1,94 @@
-ghost use Rattle.std.specs.Prelude.{◌≡◌, IfOk};
-ghost use Rattle.observables.specs.Observations.{observations_before};
+//! All that a module measures, in the order of the list.
+ghost use Rattle.std.specs.Prelude.{◌≡◌, ◌≤◌, ◌<◌, ◌+◌, ◌*◌, ◌/◌, ◌%◌, ℕ, max, None, Some, IfOk, IfSome, MatchOption};
+ghost use Rattle.observables.specs.Observations as spec;
+ghost use Rattle.observables.specs.Observations.{IsNextObservation, observations_before};
+ghost use Rattle.observables.specs.Words.{page_of};
 
-use crate::observation::{Observation, PLACES, observation_at};
-use paged_memory::Image;
+use crate::observation::{MONITOR_PLACES, Observation, observation_at};
+use crate::words::{byte_in, page_of};
+use paged_memory::{Image, PAGE_LEN};
 use std::alloc::{AllocError, Global};
 
-/// All that a module measures, in the order of the list.
-#[tactic(auto, using(crate::proofs::OneMoreObservation::one_more, crate::proofs::OneMoreObservation::none_more))]
+// How many pages describe instances, four of each bank, and how many each.
+const DESCRIBING_PAGES: u16 = 16;
+
+const INSTANCES_OF_PAGE: u16 = 64;
+
+/// All of them.
+#[tactic(auto, using(crate::proofs::MoreObservations::one_more, crate::proofs::MoreObservations::no_more))]
 pub fn all_observations(alloc: Global, image: &Image) -> Result<Vec<Observation>, AllocError>
     ensures { IfOk result (λ all. all.items ≡ observations_before image.now 1088) }
 {
     let mut all = Vec::new(alloc);
-    for place in 0..PLACES {
-        if let Some(observation) = observation_at(image, place) {
-            all.push(observation)?;
-        }
+    let mut from = 0;
+    while let Some((place, observation)) = next_observation(image, from) {
+        all.push(observation)?;
+        from = place + 1;
     }
     Ok(all)
+}
+
+/// The first observation from a place on, with its place. The next one begins at the place after that.
+#[tactic(auto, using(crate::proofs::NextObservations::next))]
+pub fn next_observation(image: &Image, from: u16) -> Option<(u16, Observation)>
+    ensures first { MatchOption result ((k : ℕ) → from ≤ k → k < 1088 → spec.observation_at image.now k ≡ None) (IsNextObservation image.now from) }
+    ensures within { IfSome result (λ found. found.0 < 1088) }
+{
+    for place in from..MONITOR_PLACES {
+        if let Some(observation) = observation_at(image, place) {
+            return Some((place, observation));
+        }
+    }
+    next_of_instances(image, from.max(MONITOR_PLACES))
+}
+
+// The first from a place of instances on.
+fn next_of_instances(image: &Image, from: u16) -> Option<(u16, Observation)>
+    requires { 64 ≤ from }
+    ensures first { MatchOption result ((k : ℕ) → from ≤ k → k < 1088 → spec.observation_at image.now k ≡ None) (IsNextObservation image.now from) }
+{
+    for page in (from - MONITOR_PLACES) / INSTANCES_OF_PAGE..DESCRIBING_PAGES {
+        if let Some(found) = next_on_page(image, page, from) {
+            return Some(found);
+        }
+    }
+    None
+}
+
+// The first from a place on of the instances that a page describes: none if it is absent.
+fn next_on_page(image: &Image, page: u16, from: u16) -> Option<(u16, Observation)>
+    requires { page < 16 }
+    ensures first { MatchOption result ((k : ℕ) → max from (64 + 64 * page) ≤ k → k < 128 + 64 * page → spec.observation_at image.now k ≡ None)
+        (IsNextObservation image.now (max from (64 + 64 * page))) }
+{
+    let Some(described) = page_of(image, (page / 4) as u8, 0x20 + (page % 4) as u8) else {
+        return None;
+    };
+    let first = MONITOR_PLACES + INSTANCES_OF_PAGE * page;
+    for place in from.max(first)..first + INSTANCES_OF_PAGE {
+        if let Some(observation) = described_at(image, page, described.bytes(), place) {
+            return Some((place, observation));
+        }
+    }
+    None
+}
+
+// The observation at a place of those that a page describes: none if it says that the instance is unused.
+fn described_at(
+    image: &Image,
+    _page: u16,
+    described: &[u8; PAGE_LEN],
+    place: u16,
+) -> Option<Observation>
+    requires few { _page < 16 }
+    requires first { 64 + 64 * _page ≤ place }
+    requires last { place < 128 + 64 * _page }
+    requires page { page_of image.now (_page / 4) (32 + _page % 4) ≡ Some described.now }
+    ensures { result ≡ spec.observation_at image.now place }
+{
+    let kind = byte_in(described, 129 + 2 * (place % INSTANCES_OF_PAGE) as u8);
+    if kind == 0 {
+        return None;
+    }
+    observation_at(image, place)
 }

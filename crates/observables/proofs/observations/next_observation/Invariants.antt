@@ -1,6 +1,6 @@
 use Rattle.std.proofs.Common.{◌≡◌, ◌<◌, ◌≤◌, None, ℕ}
 use Rattle.observables.specs.Observations as spec
-use Rattle.observables.proofs.observation.next_observation.Given as goal
+use Rattle.observables.proofs.observations.next_observation.Given as goal
 
 -- no place so far has an observation
 abbrev pub invariant-loop-place : goal.invariant-loop-place
