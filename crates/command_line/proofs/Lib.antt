@@ -10,6 +10,7 @@ mod MetricsAnswers
 mod OddLineLemmas
 mod OwnAnswers
 mod PartCuts
+mod PlainWalks
 mod PlainChoices
 mod PlanningRefusals
 mod ProcedureAnswers

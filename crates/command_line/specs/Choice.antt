@@ -74,22 +74,13 @@ request_in = option_and_then (λ found. option_map (λ entry. request_with entry
 abbrev pub json_word : Text
 json_word = codes "--json"
 
--- a command's name after the program's, alone or with `--json`
-abbrev pub plain_words : Bool → Text → Text → List Text
-plain_words true program_name name = program_name ∷ name ∷ json_word ∷ []
-plain_words false program_name name = program_name ∷ name ∷ []
-
--- what they ask for
+-- what a command's name asks for, alone or with `--json`
 abbrev pub plain_request : Bool → CommandName → Request
 plain_request json command = record { command = command; options = record no_options { json = json } }
 
 -- whether a command has that flag
 abbrev pub takes_json : Entry → Bool
 takes_json entry = list_any (λ flag. bytes_eq flag.name json) entry.flags
-
--- whether it takes those words
-abbrev pub takes_plainly : Bool → Entry → Bool
-takes_plainly with_json entry = not with_json || takes_json entry
 
 -- what the words ask for, or which word of a flag is wrong
 abbrev pub request_of : List Text → Option (Result Request WordFault)

@@ -2,6 +2,7 @@ pub mod GivenFlags
 pub mod Coloring
 pub mod Options
 pub mod Choice
+pub mod PlainFlags
 pub mod WordFaults
 pub mod ChoiceFault
 pub mod Entries

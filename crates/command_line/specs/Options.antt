@@ -6,7 +6,6 @@ use Rattle.clap.specs.Words.{Row, Text, all_of, first_of}
 use Rattle.module_metrics.specs.CommonLabels.{key_of, label_fault, value_of}
 use Rattle.module_metrics.specs.Exposition.{Label, label}
 use Rattle.module_metrics.specs.declared.label_fault.LabelFault.{LabelFault}
-use Rattle.applications.specs.declared.conventions.Conventions.{Conventions}
 use Rattle.command_line.specs.Coloring.{coloring_by}
 use Rattle.command_line.specs.GivenFlags.{activate, bus, color_flag, counts_by_id, first, flags_flag, is_given, json, keep, label_flag, now, paired, svg, wake}
 use Rattle.command_line.specs.declared.choice.coloring.Coloring.{Coloring}
@@ -41,25 +40,24 @@ labels_with labels (w ∷ ws) = then_with (λ more. labels_with more ws) (with_l
 abbrev pub labels_in : List Row → Result (List Label) WordFault
 labels_in rows = labels_with [] (unwrap_or (all_of label_flag rows) [])
 
--- how what a module advertises is to be read
-abbrev pub conventions_in : List Row → Conventions
-conventions_in rows = record { paired = is_given paired rows; counts_by_id = is_given counts_by_id rows; now = is_given now rows }
-
--- what is given, by how the words of flags are read
-abbrev pub options_of : List Row → Coloring → List Label → Bool → Options
-options_of rows coloring labels all_flags = record {
-  json = is_given json rows;
-  bus = is_given bus rows;
+-- what is given, by what gives flags and how the words of flags are read
+abbrev pub options_by : (Text → Bool) → Coloring → List Label → Bool → Options
+options_by gives coloring labels all_flags = record {
+  json = gives json;
+  bus = gives bus;
   coloring = coloring;
   all_flags = all_flags;
   labels = labels;
-  svg = is_given svg rows;
-  keep = is_given keep rows;
-  first = is_given first rows;
-  wake = is_given wake rows;
-  activate = is_given activate rows;
-  conventions = conventions_in rows;
+  svg = gives svg;
+  keep = gives keep;
+  first = gives first;
+  wake = gives wake;
+  activate = gives activate;
+  conventions = record { paired = gives paired; counts_by_id = gives counts_by_id; now = gives now };
 }
+
+abbrev pub options_of : List Row → Coloring → List Label → Bool → Options
+options_of rows = options_by (λ flag. is_given flag rows)
 
 -- the labels are judged before the word of `--flags`
 abbrev pub options_in : List Row → Result Options WordFault

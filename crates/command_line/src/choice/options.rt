@@ -1,9 +1,9 @@
 //! The options of all commands, as the words give them.
-ghost use Rattle.std.specs.Prelude.{◌≡◌, map, option_map};
-ghost use Rattle.clap.specs.Words.{all_of, first_of, found_of, rows_of};
+ghost use Rattle.std.specs.Prelude.{◌≡◌, Bool, map, option_map};
+ghost use Rattle.clap.specs.Words.{Text, all_of, first_of, found_of, rows_of};
 ghost use Rattle.command_line.specs.ChoiceFault.{Gives};
 ghost use Rattle.command_line.specs.GivenFlags.{is_given};
-ghost use Rattle.command_line.specs.Options.{all_by, conventions_in, labels_in, no_options, options_in};
+ghost use Rattle.command_line.specs.Options.{all_by, labels_in, options_by, options_in};
 
 use super::coloring::{Coloring, coloring_by};
 use super::fault::ChoiceFault;
@@ -12,6 +12,26 @@ use applications::Conventions;
 use clap::ArgMatches;
 use module_metrics::Labels;
 use std::alloc::Global;
+
+/// What gives flags to a command.
+pub trait GivenFlags {
+    ghost gives: { Self → Text → Bool };
+
+    /// Whether the flag is given.
+    fn is_given(&self, flag: &str) -> bool
+        ensures { result ≡ gives self.now flag.now };
+}
+
+impl GivenFlags for ArgMatches<'_> {
+    ghost gives = { λ given flag. is_given flag (rows_of (found_of given)) };
+
+    fn is_given(&self, flag: &str) -> bool {
+        match word_after(self, flag) {
+            Some(value) => value == "true",
+            None => false,
+        }
+    }
+}
 
 /// What the flags of a command ask for; of those that it doesn't have none is given.
 #[derive(Drop)]
@@ -40,29 +60,6 @@ pub struct Options {
 }
 
 impl Options {
-    /// None but `--json`, if that is given.
-    pub fn none_but(alloc: Global, json: bool) -> Options
-        ensures { result ≡ record no_options { json = json } }
-    {
-        Options {
-            json,
-            bus: false,
-            coloring: Coloring::Auto,
-            all_flags: false,
-            labels: Labels::new(alloc),
-            svg: false,
-            keep: false,
-            first: false,
-            wake: false,
-            activate: false,
-            conventions: Conventions {
-                paired: false,
-                counts_by_id: false,
-                now: false,
-            },
-        }
-    }
-
     /// Those that a command's matches give.
     pub fn of(alloc: Global, given: &ArgMatches<'_>) -> Result<Options, ChoiceFault>
         ensures { Gives (options_in (rows_of (found_of given.now))) result }
@@ -70,30 +67,35 @@ impl Options {
         let coloring = coloring_by(word_after(given, "color"))?;
         let labels = labels_in(alloc, given)?;
         let all_flags = all_by(word_after(given, "flags"))?;
-        Ok(Options {
-            json: is_given(given, "json"),
-            bus: is_given(given, "bus"),
+        Ok(Options::with(given, coloring, all_flags, labels))
+    }
+
+    /// Those that are given, with what is asked for by a word.
+    pub fn with<G: GivenFlags>(
+        given: &G,
+        coloring: Coloring,
+        all_flags: bool,
+        labels: Labels,
+    ) -> Options
+        ensures { result ≡ options_by (G.gives given.now) coloring labels all_flags }
+    {
+        Options {
+            json: given.is_given("json"),
+            bus: given.is_given("bus"),
             coloring,
             all_flags,
             labels,
-            svg: is_given(given, "svg"),
-            keep: is_given(given, "keep"),
-            first: is_given(given, "first"),
-            wake: is_given(given, "wake"),
-            activate: is_given(given, "activate"),
-            conventions: conventions_in(given),
-        })
-    }
-}
-
-// How what a module advertises is to be read, by the flags that say so.
-fn conventions_in(given: &ArgMatches<'_>) -> Conventions
-    ensures { result ≡ conventions_in (rows_of (found_of given.now)) }
-{
-    Conventions {
-        paired: is_given(given, "paired"),
-        counts_by_id: is_given(given, "counts-by-id"),
-        now: is_given(given, "now"),
+            svg: given.is_given("svg"),
+            keep: given.is_given("keep"),
+            first: given.is_given("first"),
+            wake: given.is_given("wake"),
+            activate: given.is_given("activate"),
+            conventions: Conventions {
+                paired: given.is_given("paired"),
+                counts_by_id: given.is_given("counts-by-id"),
+                now: given.is_given("now"),
+            },
+        }
     }
 }
 
@@ -124,16 +126,6 @@ fn all_by(word: Option<&str>) -> Result<bool, WordFault>
             }
         }
         None => Ok(false),
-    }
-}
-
-// Whether the flag stands among the words.
-fn is_given(given: &ArgMatches<'_>, flag: &str) -> bool
-    ensures { result ≡ is_given flag.now (rows_of (found_of given.now)) }
-{
-    match word_after(given, flag) {
-        Some(value) => value == "true",
-        None => false,
     }
 }
 

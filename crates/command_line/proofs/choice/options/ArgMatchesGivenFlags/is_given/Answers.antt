@@ -2,7 +2,7 @@ use Rattle.std.proofs.Common.{ap, false, rules}
 use Rattle.std.specs.Prelude.{codes, Option, ℕ, List}
 use Rattle.std.specs.Option.{option_map_or}
 use Rattle.std.specs.Str.{bytes_eq}
-use Rattle.command_line.proofs.choice.options.is_given.Goals as goal
+use Rattle.command_line.proofs.choice.options.ArgMatchesGivenFlags.is_given.Goals as goal
 
 pub returns-in-Some : goal.returns-in-Some
 returns-in-Some c =
