@@ -1,10 +1,10 @@
 -- The instances that are seen: one more, and that their numbers rise.
-use Rattle.std.proofs.Common.{◌≡◌, ◌≢◌, ◌∙◌, ℕ, zero, suc, ◌+◌, ◌<◌, ◌≤◌, Bool, true, false, Option, None, Some, List, [], ◌∷◌, ◌++◌, map, sym, ap, subst, append-nil, if◌then◌else◌, arith}
+use Rattle.std.proofs.Common.{◌≡◌, ◌≢◌, ◌∙◌, ℕ, zero, suc, ◌+◌, ◌-◌, ◌<◌, ◌≤◌, Bool, true, false, Option, None, Some, List, [], ◌∷◌, ◌++◌, map, sym, ap, subst, append-nil, if◌then◌else◌, arith}
 use Rattle.std.proofs.lemmas.List.{map-append}
 use Rattle.std.specs.List.{AllByRecursion}
 use Rattle.paged_memory.specs.Images.{Memory}
 use Rattle.observables.specs.declared.observation.Observation.{Observation}
-use Rattle.observables.specs.Observations.{observation_at}
+use Rattle.observables.specs.Observations.{IsNextObservation, observation_at}
 use Rattle.reports.specs.declared.fault.ReportFault.{ReportFault}
 use Rattle.reports.specs.Families.{detail_fault}
 use Rattle.module_metrics.specs.Unless.{unless}
@@ -13,14 +13,40 @@ use Rattle.module_metrics.specs.declared.vdm_metrics.Seen.{Seen}
 use Rattle.module_metrics.specs.WellFormed.{AreApart}
 use Rattle.module_metrics.proofs.RightMetrics.{all_append}
 
-successor : (n : ℕ) → n + 1 ≡ suc n
-successor n = omega arith
+abbrev NoneUpTo : Memory → ℕ → ℕ → Type 0
+NoneUpTo memory from to = (k : ℕ) → from ≤ k → k < to → observation_at memory k ≡ None
 
-pub one_more : (memory : Memory) (n : ℕ) → seen_before memory (n + 1) ≡ seen_before memory n ++ listed (n + 1) (observation_at memory (64 + n))
+same_after : (memory : Memory) (from n to : ℕ) → to ≡ n + from → NoneUpTo memory (64 + from) (64 + to) → seen_before memory to ≡ seen_before memory from
 unfolding seen_before
-one_more memory n =
-    ap (λ (k : ℕ). seen_before memory k) (successor n)
-    ∙ ap (λ (k : ℕ). seen_before memory n ++ listed k (observation_at memory (64 + n))) (sym (successor n))
+same_after memory from zero to is none = let same : to ≡ from = omega (arith, is) in ap (λ (k : ℕ). seen_before memory k) same
+same_after memory from (suc n) to is none =
+    let last : to ≡ suc (n + from) = omega (arith, is) in
+    ap (λ (k : ℕ). seen_before memory k) last
+    ∙ ap (λ (o : Option Observation). seen_before memory (n + from) ++ listed (suc (n + from)) o) (none (64 + (n + from)) (omega arith) (omega (arith, last)))
+    ∙ append-nil (seen_before memory (n + from))
+    ∙ same_after memory from n (n + from) (omega arith) (λ k reached below. none k reached (omega (arith, last, below)))
+
+same_up_to : (memory : Memory) (from to : ℕ) → from ≤ to → NoneUpTo memory (64 + from) (64 + to) → seen_before memory to ≡ seen_before memory from
+same_up_to memory from to within none = same_after memory from (to - from) to (omega (arith, within)) none
+
+-- the first observation from a place on is one more instance
+pub one_more : (memory : Memory) (from place : ℕ) (found : Observation) → 64 ≤ from → IsNextObservation memory from (place, found)
+    → seen_before memory (place + 1 - 64) ≡ seen_before memory (from - 64) ++ listed (place + 1 - 64) (Some found)
+unfolding seen_before
+one_more memory from place found after next =
+    let reached = next.not_before in
+    let last : place + 1 - 64 ≡ suc (place - 64) = omega (arith, reached, after) in
+    ap (λ (k : ℕ). seen_before memory k) last
+    ∙ ap (λ (k : ℕ). seen_before memory (place - 64) ++ listed (suc (place - 64)) (observation_at memory k)) (omega (arith, reached, after))
+    ∙ ap (λ (o : Option Observation). seen_before memory (place - 64) ++ listed (suc (place - 64)) o) next.is_there
+    ∙ ap (λ (n : ℕ). seen_before memory (place - 64) ++ listed n (Some found)) (sym last)
+    ∙ ap (λ before. before ++ listed (place + 1 - 64) (Some found))
+    (same_up_to memory (from - 64) (place - 64) (omega (arith, reached)) (λ k above below. next.first k (omega (arith, above, after)) (omega (arith, below, reached, after))))
+
+-- where no more follows, all are seen
+pub no_more : (memory : Memory) (from : ℕ) → 64 ≤ from → from ≤ 1088 → NoneUpTo memory from 1088 → seen_before memory 1024 ≡ seen_before memory (from - 64)
+no_more memory from after within none =
+    same_up_to memory (from - 64) 1024 (omega (arith, within)) (λ k above below. none k (omega (arith, above, after)) (omega (arith, below)))
 
 -- ---- numbers
 

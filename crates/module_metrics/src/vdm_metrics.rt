@@ -1,5 +1,5 @@
 // The metrics of what a CMIS module lists itself (VDM).
-ghost use Rattle.std.specs.Prelude.{◌≡◌, ◌++◌, ◌∷◌, [], IfOk, OnOk, option_map};
+ghost use Rattle.std.specs.Prelude.{◌≡◌, ◌++◌, ◌∷◌, [], IfOk, OnOk, Some, option_map};
 ghost use Rattle.std.specs.List.{flat_map};
 ghost use Rattle.module_metrics.specs.Unless.{unless};
 ghost use Rattle.module_metrics.specs.Exposition.{label};
@@ -17,7 +17,7 @@ use crate::vdm_name::{Measure, VdmHelp, VdmName, measures, power_of};
 use module_decoding::detail_family_of;
 use observable_reports::shown_as;
 use observables::{
-    Amount, Observable, Observation, PLACES, figure_number, lane_of, observation_at,
+    Amount, Observable, Observation, PLACES, figure_number, lane_of, next_observation,
     quantity_number, quantity_row, scope_name,
 };
 use paged_memory::Image;
@@ -31,10 +31,8 @@ pub struct Seen {
     pub observation: Observation,
 }
 
-// The places of monitors, before those of instances, and how many instances four banks have.
-const MONITOR_PLACES: u16 = PLACES - INSTANCES;
-
-const INSTANCES: u16 = 1024;
+// The places of monitors, before those of 1,024 instances of four banks.
+const MONITOR_PLACES: u16 = PLACES - 1024;
 
 // The instances that a module advertises, by rising number.
 #[tactic(auto, unfolding(crate::specs::VdmMetrics::vdm_seen, reports::specs::Families::detail_fault))]
@@ -47,31 +45,22 @@ fn vdm_seen(alloc: Global, image: &Image) -> Result<Vec<Seen>, AllocError>
     }
 }
 
-#[tactic(auto, using(crate::proofs::SeenInstances::one_more))]
+#[tactic(auto, using(crate::proofs::SeenInstances::one_more, crate::proofs::SeenInstances::no_more))]
 fn all_seen(alloc: Global, image: &Image) -> Result<Vec<Seen>, AllocError>
     ensures { IfOk result (λ seen. seen.items ≡ seen_before image.now 1024) }
 {
     let mut seen = Vec::new(alloc);
-    for index in 0..INSTANCES {
-        add_seen(
-            &mut seen,
-            index + 1,
-            observation_at(image, MONITOR_PLACES + index),
-        )?;
+    let mut from = MONITOR_PLACES;
+    while let Some((place, observation)) = next_observation(image, from) {
+        from = place + 1;
+        add_seen(&mut seen, from - MONITOR_PLACES, observation)?;
     }
     Ok(seen)
 }
 
-fn add_seen(
-    seen: &mut Vec<Seen>,
-    number: u16,
-    observation: Option<Observation>,
-) -> Result<(), AllocError>
-    ensures { OnOk result (seen.new.items ≡ seen.old.items ++ listed number observation) }
+fn add_seen(seen: &mut Vec<Seen>, number: u16, observation: Observation) -> Result<(), AllocError>
+    ensures { OnOk result (seen.new.items ≡ seen.old.items ++ listed number (Some observation)) }
 {
-    let Some(observation) = observation else {
-        return Ok(());
-    };
     if observation.advertised {
         seen.push(Seen {
             number,
