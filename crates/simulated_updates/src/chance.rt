@@ -1,0 +1,48 @@
+ghost use Rattle.std.specs.Prelude.{◌≡◌};
+ghost use Rattle.simulated_updates.specs.Undisturbed.{undisturbed};
+
+/// What comes before a transaction.
+#[derive(Clone, Copy, Debug, PartialEq, Eq, Drop)]
+pub enum Before {
+    Nothing,
+    /// Power is lost, and comes back.
+    PowerLoss,
+    /// The reset of a Run, if one is still to come; the new image boots, or doesn't.
+    Reset { boots: bool },
+}
+
+/// What a message comes to whose id is stored.
+#[derive(Clone, Copy, Debug, PartialEq, Eq, Drop)]
+pub enum Fate {
+    /// It is carried out, if it can be.
+    Carried,
+    /// It fails.
+    Fails,
+    /// Power is lost in its midst, when it is done or before.
+    CutShort { done: bool },
+}
+
+/// What the bus and chance do with one transaction.
+#[derive(Clone, Copy, Debug, PartialEq, Eq, Drop)]
+pub struct Chance {
+    pub before: Before,
+    /// It is refused, and so many bytes of a store reach the module.
+    pub kept: Option<u8>,
+    pub fate: Fate,
+    /// For how many milliseconds a message that it brings keeps the module busy.
+    pub busy: u32,
+}
+
+impl Chance {
+    /// Nothing comes before it, and it reaches the module, which carries out what it brings at once.
+    pub fn none() -> Chance
+        ensures { result ≡ undisturbed }
+    {
+        Chance {
+            before: Before::Nothing,
+            kept: None,
+            fate: Fate::Carried,
+            busy: 0,
+        }
+    }
+}
