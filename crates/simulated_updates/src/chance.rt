@@ -46,3 +46,9 @@ impl Chance {
         }
     }
 }
+
+impl Default for Chance {
+    fn default() -> Chance {
+        Chance::none()
+    }
+}

@@ -44,7 +44,7 @@ pub struct SimulatedModule {
 impl SimulatedModule {
     /// It has just come up with this firmware.
     pub fn of(firmware: Banks, background: bool) -> SimulatedModule
-        ensures { module_of result ≡ spec.come_up (firmware_of firmware) (module_of result) }
+        ensures value { module_of result ≡ spec.come_up (firmware_of firmware) (module_of result) }
         ensures mode { result.background ≡ background }
     {
         SimulatedModule {
