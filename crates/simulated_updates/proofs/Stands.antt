@@ -49,11 +49,11 @@ joins at body kept less same =
     let end = min (at + 8) (length body) in
     let there : length (take at body) ≡ at = length-take-le at body (omega (arith, less)) in
     let whole : take (at + (end - at)) body ≡ take at body ++ take (end - at) (drop at body) =
-        subst (λ (l : List ℕ). take (at + (end - at)) l ≡ take at body ++ take (end - at) (drop at body)) (take-append-drop at body)
-        (subst (λ (n : ℕ). take (n + (end - at)) (take at body ++ drop at body) ≡ take at body ++ take (end - at) (drop at body)) there (take-append-add (take at body) (drop at body) (end - at))) in
+    subst (λ (l : List ℕ). take (at + (end - at)) l ≡ take at body ++ take (end - at) (drop at body)) (take-append-drop at body)
+    (subst (λ (n : ℕ). take (n + (end - at)) (take at body ++ drop at body) ≡ take at body ++ take (end - at) (drop at body)) there (take-append-add (take at body) (drop at body) (end - at))) in
     let sum_is : at + (end - at) ≡ end = omega (arith, less) in
     let now : take at kept ++ slice_range body at end ≡ take end body =
-        ap (λ (l : List ℕ). l ++ slice_range body at end) same ∙ sym whole ∙ ap (λ (n : ℕ). take n body) sum_is in
+    ap (λ (l : List ℕ). l ++ slice_range body at end) same ∙ sym whole ∙ ap (λ (n : ℕ). take n body) sum_is in
     let few : length (take end body) ≤ at + 8 = let l = length-take end body in omega (arith, l) in
     ap (λ (l : List ℕ). take (at + 8) l) now ∙ take_all (at + 8) (take end body) few ∙ take_min (at + 8) body
 
@@ -233,6 +233,7 @@ module _ (sent : Message) (start : Module) where
   id_is high low e = let one : sent.id / 256 ≡ high = firsts e in let two : sent.id % 256 ≡ low = seconds e in omega (arith, one, two) where
     firsts : sent.id / 256 ∷ sent.id % 256 ∷ [] ≡ high ∷ low ∷ [] → sent.id / 256 ≡ high
     firsts f = cc
+
     seconds : sent.id / 256 ∷ sent.id % 256 ∷ [] ≡ high ∷ low ∷ [] → sent.id % 256 ≡ low
     seconds f = cc
 

@@ -73,6 +73,7 @@ piece_step chance at bytes old = by_store chance (136 + at) bytes old (AddsPiece
   body given m =
       cond_both (nat_le at (length m.body)) (true, record m { body = take at m.body ++ given }) (false, m) (λ (r : Stored). ((r.0 ≡ true) × AddsPiece at given m r.1) ⊎ ((r.0 ≡ false) × (r.1 ≡ m)))
       (λ e. inl (refl, (leb-true at (length m.body) e, refl))) (λ e. inr (refl, refl))
+
   page : (given : List ℕ) (m : Module) → (((store_page chance (136 + at) given m).0 ≡ true) × AddsPiece at given m (store_page chance (136 + at) given m).1) ⊎ (((store_page chance (136 + at) given m).0 ≡ false) × ((store_page chance (136 + at) given m).1 ≡ m))
   page given m =
       let P : Stored → Type 0 = λ r. ((r.0 ≡ true) × AddsPiece at given m r.1) ⊎ ((r.0 ≡ false) × (r.1 ≡ m)) in
@@ -81,6 +82,7 @@ piece_step chance at bytes old = by_store chance (136 + at) bytes old (AddsPiece
       (λ b. cond_both (nat_le 136 (136 + at)) _ _ P
       (λ c. let same : 136 + at - 136 ≡ at = omega arith in subst (λ (n : ℕ). P (store_body n given m)) (sym same) (body given m))
       (λ c. inr (refl, refl))))
+
   does : (given : List ℕ) (m : Module) → (((stored chance (136 + at) given m).0 ≡ true) × AddsPiece at given m (stored chance (136 + at) given m).1) ⊎ (((stored chance (136 + at) given m).0 ≡ false) × ((stored chance (136 + at) given m).1 ≡ m))
   does given m =
       stored_on chance (136 + at) given m (λ (r : Stored). ((r.0 ≡ true) × AddsPiece at given m r.1) ⊎ ((r.0 ≡ false) × (r.1 ≡ m))) (omega arith) (page given m) (inr (refl, refl))
@@ -106,6 +108,7 @@ id_step chance bytes old = by_store chance 128 bytes old (Takes chance) does whe
   id (high ∷ []) m = inr (refl, refl)
   id (high ∷ low ∷ []) m = inl (refl, (high, low, refl, refl))
   id (high ∷ low ∷ more ∷ rest) m = inr (refl, refl)
+
   does : (given : List ℕ) (m : Module) → (((stored chance 128 given m).0 ≡ true) × Takes chance given m (stored chance 128 given m).1) ⊎ (((stored chance 128 given m).0 ≡ false) × ((stored chance 128 given m).1 ≡ m))
   does given m =
       stored_on chance 128 given m (λ (r : Stored). ((r.0 ≡ true) × Takes chance given m r.1) ⊎ ((r.0 ≡ false) × (r.1 ≡ m))) (omega arith) (id given m) (inr (refl, refl))

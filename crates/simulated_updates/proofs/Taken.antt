@@ -167,8 +167,8 @@ by_head sent chance mid head is there =
     subst (λ (h : List ℕ). IsTaken sent mid (cond (is_whole sent.id h mid) (comes_to chance.busy (fated chance.fate sent.id (take (count_in h) mid.body) mid.firmware) mid) (comes_to chance.busy (failing wrong_check_code mid.firmware) mid))) (sym is)
     (cond_both (is_whole sent.id (head_of sent) mid) (comes_to chance.busy (fated chance.fate sent.id (take (length sent.body.items) mid.body) mid.firmware) mid) (comes_to chance.busy (failing wrong_check_code mid.firmware) mid) (IsTaken sent mid)
     (λ e. let (choice, same) = fated_is chance.fate sent mid.firmware in
-          subst (λ (l : List ℕ). IsTaken sent mid (comes_to chance.busy (fated chance.fate sent.id l mid.firmware) mid)) (sym (there (body_fits sent.id sent mid e)))
-          (subst (λ (a : Answer). IsTaken sent mid (comes_to chance.busy a mid)) (sym same) (takes sent chance.busy choice mid)))
+    subst (λ (l : List ℕ). IsTaken sent mid (comes_to chance.busy (fated chance.fate sent.id l mid.firmware) mid)) (sym (there (body_fits sent.id sent mid e)))
+    (subst (λ (a : Answer). IsTaken sent mid (comes_to chance.busy a mid)) (sym same) (takes sent chance.busy choice mid)))
     (λ e. fails_code sent chance mid))
 
 pub taken_is : (sent : Message) (chance : Chance) (mid : Module) → IsReady sent mid → IsTaken sent mid (taken chance sent.id mid)
@@ -239,6 +239,7 @@ module _ (answer : Answer) (mid : Module) (shown : IsShown answer mid) where
     of : (count : ℕ) → 0 < count → count ≡ length mid.reply → ShowsReply answer.outcome mid.reply → (own : ArrayVec ℕ) × (answer.outcome ≡ Some (Succeeded own)) × (count ≡ length own.items)
     of count some is (inl none) = absurd (length_nil mid.reply none (subst (λ (n : ℕ). 0 < n) is some))
     of count some is (inr (own, e, same, few)) = (own, e, is ∙ ap (λ (l : List ℕ). length l) same)
+
     by : (count check : ℕ) → (reply ≡ Refused) ⊎ ((bytes : List ℕ) × (reply ≡ Bytes (record { items = bytes })) × (read 134 2 mid ≡ Some bytes)) → Gives operations.read_count (count ∷ check ∷ []) (record { op = operations.read_count; reply = reply })
         → 0 < count → (own : ArrayVec ℕ) × (answer.outcome ≡ Some (Succeeded own)) × (count ≡ length own.items)
     by count check (inl refused) gives some = absurd (let e : Refused ≡ Bytes (record { items = count ∷ check ∷ [] }) = sym refused ∙ gives.1 in cc)
@@ -258,6 +259,7 @@ module _ (answer : Answer) (mid : Module) (shown : IsShown answer mid) where
     same_own one two e f = items_same one two (sym e ∙ f) where
       items_same : (a b : ArrayVec ℕ) → ◌≡◌ {A = Option Outcome} (Some (Succeeded a)) (Some (Succeeded b)) → a.items ≡ b.items
       items_same a b g = cc
+
     of : (own : ArrayVec ℕ) (bytes : List ℕ) (count : ℕ) → answer.outcome ≡ Some (Succeeded own) → bytes ≡ take count mid.reply → count ≤ length mid.reply → count ≡ max 1 (min (length own.items) 120)
         → ShowsReply answer.outcome mid.reply → bytes ≡ own.items
     of own bytes count is was fits same (inl none) = absurd (length_nil mid.reply none (omega (arith, fits, same)))
@@ -266,6 +268,7 @@ module _ (answer : Answer) (mid : Module) (shown : IsShown answer mid) where
         let long : length mid.reply ≡ length own.items = ap (λ (l : List ℕ). length l) it in
         let short : length mid.reply ≤ 120 = subst (λ (l : List ℕ). length l ≤ 120) (sym all) few in
         was ∙ take_all count mid.reply (omega (arith, same, long, short, fits)) ∙ it
+
     by : (own : ArrayVec ℕ) (bytes : List ℕ) → answer.outcome ≡ Some (Succeeded own) → (reply ≡ Refused) ⊎ ((got : List ℕ) × (reply ≡ Bytes (record { items = got })) × (read 136 (max 1 (min asked 120)) mid ≡ Some got))
         → Gives (operations.read_reply (length own.items)) bytes (record { op = operations.read_reply asked; reply = reply }) → bytes ≡ own.items
     by own bytes is (inl refused) gives = absurd (let e : Refused ≡ Bytes (record { items = bytes }) = sym refused ∙ gives.1 in cc)

@@ -133,7 +133,10 @@ impl Banks {
             Outcome::Failed(OUT_OF_RANGE)
         } else {
             download.rest.truncate(address);
-            download.rest.try_extend_from_slice(behind(body, 4)).unwrap();
+            download
+                .rest
+                .try_extend_from_slice(behind(body, 4))
+                .unwrap();
             done()
         };
         self.download = Some(download);
@@ -152,7 +155,9 @@ impl Banks {
         let left = (download.size as usize).saturating_sub(first.len());
         let mut image = ArrayVec::new();
         image.try_extend_from_slice(first).unwrap();
-        image.try_extend_from_slice(&rest[..left.min(rest.len())]).unwrap();
+        image
+            .try_extend_from_slice(&rest[..left.min(rest.len())])
+            .unwrap();
         self.fill_other(true, image);
         done()
     }
@@ -258,7 +263,9 @@ fn features() -> Outcome
     ensures { result ≡ Succeeded (record { items = spec.features }) }
 {
     let mut reply = ArrayVec::new();
-    let bytes: [u8; 18] = [1, 0, 8, 255, 0, 1, 0, 0, 7, 208, 7, 208, 7, 208, 7, 208, 0, 0];
+    let bytes: [u8; 18] = [
+        1, 0, 8, 255, 0, 1, 0, 0, 7, 208, 7, 208, 7, 208, 7, 208, 0, 0,
+    ];
     reply.try_extend_from_slice(&bytes).unwrap();
     Outcome::Succeeded(reply)
 }

@@ -67,8 +67,16 @@ impl SimulatedModule {
     {
         self.befall(chance.before);
         match op {
-            Op::Fetch { dev: Dev::A0, offset, count } => self.fetch(chance, *offset, *count),
-            Op::Store { dev: Dev::A0, offset, bytes } => self.store(chance, *offset, bytes.as_slice()),
+            Op::Fetch {
+                dev: Dev::A0,
+                offset,
+                count,
+            } => self.fetch(chance, *offset, *count),
+            Op::Store {
+                dev: Dev::A0,
+                offset,
+                bytes,
+            } => self.store(chance, *offset, bytes.as_slice()),
             _ => Reply::Refused,
         }
     }
@@ -168,7 +176,11 @@ impl SimulatedModule {
     fn status_shown(&self) -> u8
         ensures { result ≡ spec.status_shown (module_of self.now) }
     {
-        if self.is_busy() { EXECUTING } else { self.status }
+        if self.is_busy() {
+            EXECUTING
+        } else {
+            self.status
+        }
     }
 
     fn store(&mut self, chance: &Chance, offset: u8, bytes: &[u8]) -> Reply
