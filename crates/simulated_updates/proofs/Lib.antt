@@ -4,3 +4,7 @@ pub mod Steps
 pub mod Taken
 pub mod Courses
 pub mod Stands
+pub mod Replied
+pub mod Followed
+pub mod Composed
+pub mod Succeeds

@@ -246,7 +246,7 @@ impl Banks {
 }
 
 /// What a message comes to that fails by chance.
-pub fn failure() -> Outcome
+pub(crate) fn failure() -> Outcome
     ensures { result ≡ Failed spec.failed }
 {
     Outcome::Failed(FAILED)

@@ -11,7 +11,7 @@ use conversations::TimedBus;
 /// How many transactions chance may do something with.
 pub const MAX_CHANCES: usize = 128;
 
-/// A simulated module, and what chance does with the next transactions; with those behind them it does nothing.
+/// A simulated module, and what chance does with the next transactions; those behind them are undisturbed.
 #[derive(Debug, PartialEq, Eq, Drop)]
 pub struct SimulatedBus {
     pub module: SimulatedModule,
@@ -25,7 +25,7 @@ impl SimulatedBus {
         ensures module { self.new.module ≡ self.old.module }
     {
         if self.chances.is_empty() {
-            Chance::none()
+            Chance::undisturbed()
         } else {
             self.chances.remove(0)
         }

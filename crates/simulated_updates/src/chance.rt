@@ -4,6 +4,7 @@ ghost use Rattle.simulated_updates.specs.Undisturbed.{undisturbed};
 /// What comes before a transaction.
 #[derive(Clone, Copy, Debug, PartialEq, Eq, Drop)]
 pub enum Before {
+    /// Nothing; a reset that is still to come comes later.
     Nothing,
     /// Power is lost, and comes back.
     PowerLoss,
@@ -34,12 +35,13 @@ pub struct Chance {
 }
 
 impl Chance {
-    /// Nothing comes before it, and it reaches the module, which carries out what it brings at once.
-    pub fn none() -> Chance
+    /// The reset of a Run comes as soon as it may, and its image boots; the transaction reaches the module, which carries out what it
+    /// brings at once.
+    pub fn undisturbed() -> Chance
         ensures { result ≡ undisturbed }
     {
         Chance {
-            before: Before::Nothing,
+            before: Before::Reset { boots: true },
             kept: None,
             fate: Fate::Carried,
             busy: 0,
@@ -48,7 +50,9 @@ impl Chance {
 }
 
 impl Default for Chance {
+    ghost is_default = { λ chance. chance ≡ undisturbed };
+
     fn default() -> Chance {
-        Chance::none()
+        Chance::undisturbed()
     }
 }
