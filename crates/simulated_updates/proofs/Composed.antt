@@ -1,8 +1,8 @@
 -- After an update on the simulated module there is a committed image that can run.
-use Rattle.std.proofs.Common.{◌≡◌, ℕ, List, [], ◌∷◌, length, Ok, Err, Result, refl, sym, subst, ap, ◌∙◌}
+use Rattle.std.proofs.Common.{◌≡◌, ℕ, List, [], ◌∷◌, length, Ok, Result, refl, sym, subst, ap, ◌∙◌}
 use Rattle.std.specs.Prelude.{⊤}
 use Rattle.conversations.specs.declared.event.Event.TheVariants.{Made, Waited, Lacked, Asked}
-use Rattle.conversations.specs.Carried.{Happens, MakesEvents}
+use Rattle.conversations.specs.Carried.{Happens}
 use Rattle.conversations.specs.Events.{Events}
 use Rattle.firmware_update.specs.declared.bank.Bank.{Bank}
 use Rattle.firmware_update.specs.declared.known.Known.{Known}
@@ -17,14 +17,13 @@ use Rattle.firmware_update.proofs.Ends.{come_finished}
 use Rattle.firmware_update.proofs.OnBus.{safe_of}
 use Rattle.firmware_laws.specs.Contents.{IsOldOrNew}
 use Rattle.firmware_laws.specs.Heard.{heard}
-use Rattle.firmware_laws.specs.Modules.{Firmware, HasImage, IsQuiet, IsStanding, held}
+use Rattle.firmware_laws.specs.Modules.{HasImage, IsQuiet, IsStanding, held}
 use Rattle.firmware_laws.proofs.AtTheBus.{comes_heard}
 use Rattle.firmware_laws.proofs.Heard.{heard_contents, heard_two_banks}
 use Rattle.firmware_laws.proofs.PowerLoss.{image_stays}
 use Rattle.firmware_laws.proofs.WholeImage.{always_whole, finished_whole}
 use Rattle.simulated_updates.specs.declared.bus.SimulatedBus.{SimulatedBus}
 use Rattle.simulated_updates.specs.Buses.{IsUpdated, LetsPass, MakesStep, NeverFails}
-use Rattle.simulated_updates.specs.Modules.{Module}
 use Rattle.simulated_updates.specs.OnTheBus.{Becomes}
 use Rattle.simulated_updates.specs.Performed.{conduct}
 use Rattle.simulated_updates.specs.Seen.{firmware_of, module_of}

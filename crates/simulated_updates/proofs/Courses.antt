@@ -1,9 +1,7 @@
 -- What the simulated module becomes by the own events of an attempt: selections, pauses, losses of power and resets come in between.
-use Rattle.std.proofs.Common.{◌≡◌, ◌⊎◌, ℕ, Bool, true, false, List, [], ◌∷◌, Option, Some, None, refl, sym, subst, inl, inr, ◌∙◌}
-use Rattle.arrayvec.specs.ArrayVec.{ArrayVec}
+use Rattle.std.proofs.Common.{◌≡◌, ℕ, Bool, true, false, [], ◌∷◌, Option, Some, None, sym, subst, inl, inr}
 use Rattle.bus_model.specs.declared.device.Dev.TheVariants.{A0}
 use Rattle.bus_model.specs.declared.operation.Op.{Op}
-use Rattle.bus_model.specs.declared.operation.Op.TheVariants.{Fetch, Store}
 use Rattle.bus_model.specs.declared.operation.Step.{Step}
 use Rattle.conversations.specs.declared.event.Event.TheVariants.{Made, Waited, Lacked, Asked}
 use Rattle.conversations.specs.declared.pausing.Patience.{Patience}
@@ -11,9 +9,9 @@ use Rattle.conversations.specs.Events.{Events, steps_of}
 use Rattle.conversations.specs.Pauses.{AddsPauses}
 use Rattle.conversations.specs.Selecting.{AddsSelections, IsSelecting, trusted}
 use Rattle.paged_memory.specs.declared.page_addressing.PageAddressing.TheVariants.{BankAndPage}
-use Rattle.paged_memory.specs.PageAddressing.{History, read_selection, selection}
-use Rattle.simulated_updates.specs.Modules.{Module, passed}
-use Rattle.simulated_updates.specs.OnTheBus.{Becomes, HasPassed, MayStep}
+use Rattle.paged_memory.specs.PageAddressing.{History, read_selection}
+use Rattle.simulated_updates.specs.Modules.{Module}
+use Rattle.simulated_updates.specs.OnTheBus.{Becomes, MayStep}
 use Rattle.simulated_updates.proofs.Drifts.{Drifts, drifts_on, fetch_drifts, passed_drifts, select_drifts_on, stays}
 
 abbrev pub Course : Module → Events → Module → Type 0

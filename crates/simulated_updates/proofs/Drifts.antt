@@ -1,12 +1,12 @@
 -- What comes of the simulated module besides the stores on page 9Fh: time, losses of power, resets, selections and fetches.
-use Rattle.std.proofs.Common.{◌≡◌, ◌⊎◌, ℕ, zero, suc, ◌+◌, ◌-◌, ◌<◌, ◌≤◌, nat_lt, nat_le, ◌==◌, ◌&&◌, ◌++◌, Bool, true, false, cond, List, [], ◌∷◌, length, take, Option, Some, None, refl, sym, subst, ap, inl, inr, ◌∙◌, arith}
+use Rattle.std.proofs.Common.{◌≡◌, ◌⊎◌, ℕ, ◌&&◌, Bool, true, false, cond, List, [], ◌∷◌, take, Option, Some, None, refl, sym, subst, inl, inr, ◌∙◌}
 use Rattle.std.proofs.lemmas.Bool.{and_from, and_parts, cond_both}
 use Rattle.bus_model.specs.declared.device.Dev.{Dev}
 use Rattle.bus_model.specs.declared.device.Dev.TheVariants.{A0, A2}
 use Rattle.bus_model.specs.declared.operation.Op.{Op}
 use Rattle.bus_model.specs.declared.operation.Op.TheVariants.{Fetch, Store}
 use Rattle.bus_model.specs.declared.operation.Reply.{Reply}
-use Rattle.bus_model.specs.declared.operation.Reply.TheVariants.{Bytes, Done, Refused}
+use Rattle.bus_model.specs.declared.operation.Reply.TheVariants.{Refused}
 use Rattle.arrayvec.specs.ArrayVec.{ArrayVec}
 use Rattle.firmware_update.specs.declared.bank.Bank.{Bank}
 use Rattle.firmware_update.specs.declared.bank.Bank.TheVariants.{A, B}
@@ -15,7 +15,7 @@ use Rattle.firmware_laws.proofs.Endures.{endures_on}
 use Rattle.simulated_updates.specs.declared.chance.Before.{Before}
 use Rattle.simulated_updates.specs.declared.chance.Before.TheVariants.{Nothing, PowerLoss, Reset}
 use Rattle.simulated_updates.specs.declared.chance.Chance.{Chance}
-use Rattle.simulated_updates.specs.Modules.{Module, Stored, befallen, come_up, fetching, has_page, is_deaf, passed, read, read_reply, reset, select, stepped, store_page, stored, storing}
+use Rattle.simulated_updates.specs.Modules.{Module, befallen, come_up, fetching, is_deaf, passed, reset, select, stepped, storing}
 use Rattle.simulated_updates.specs.Resets.{booted, can_boot, lost, reset_to, up}
 
 -- ---- firmware

@@ -1,5 +1,5 @@
 -- An update on the simulated module, turn by turn: the module comes to stand as the commands have it.
-use Rattle.std.proofs.Common.{◌≡◌, ◌⊎◌, ℕ, ◌+◌, ◌<◌, ◌≤◌, nat_le, ◌==◌, ◌&&◌, ◌++◌, if◌then◌else◌, not, Bool, true, false, cond, List, [], ◌∷◌, length, take, Option, Some, None, Result, Ok, Err, refl, sym, subst, ap, inl, inr, ◌∙◌, arith}
+use Rattle.std.proofs.Common.{◌≡◌, ℕ, ◌≤◌, nat_le, ◌==◌, ◌&&◌, ◌++◌, if◌then◌else◌, Bool, true, false, cond, List, [], ◌∷◌, length, take, Option, Some, None, Result, refl, sym, subst, ap, inl, inr, ◌∙◌}
 use Rattle.std.specs.Prelude.{⊤, sum}
 use Rattle.std.proofs.lemmas.Bool.{and_parts, cond_both, eqb-true, leb-true}
 use Rattle.std.proofs.lemmas.List.{length-take-le}
@@ -8,7 +8,7 @@ use Rattle.bus_model.specs.declared.device.Dev.TheVariants.{A0, A2}
 use Rattle.bus_model.specs.declared.operation.Op.{Op}
 use Rattle.bus_model.specs.declared.operation.Op.TheVariants.{Fetch, Store}
 use Rattle.bus_model.specs.declared.operation.Reply.{Reply}
-use Rattle.bus_model.specs.declared.operation.Reply.TheVariants.{Bytes, Done, Refused}
+use Rattle.bus_model.specs.declared.operation.Reply.TheVariants.{Refused}
 use Rattle.bus_model.specs.declared.operation.Step.{Step}
 use Rattle.bus_model.specs.Operations.{Answers}
 use Rattle.command_block.specs.declared.attempt.Phase.TheVariants.{Delayed, Idle}
@@ -26,29 +26,26 @@ use Rattle.conversations.specs.declared.next.Next.{Next}
 use Rattle.conversations.specs.declared.next.Next.TheVariants.{Do, Wait, End}
 use Rattle.conversations.specs.declared.pausing.Timed.{Timed}
 use Rattle.conversations.specs.declared.within.Spent.{Spent}
-use Rattle.conversations.specs.Carried.{Happens}
-use Rattle.conversations.specs.Events.{Events, made, steps_of}
+use Rattle.conversations.specs.Events.{Events, steps_of}
 use Rattle.conversations.specs.Wanted.{op_of}
 use Rattle.firmware_update.specs.declared.command.Command.{Command}
 use Rattle.firmware_update.specs.declared.durations.Durations.{Durations}
-use Rattle.firmware_update.specs.declared.exchange.Exchange.{Exchange}
 use Rattle.firmware_update.specs.declared.session.Session.{Session}
 use Rattle.firmware_update.specs.declared.update.Cause.{Cause}
 use Rattle.firmware_update.specs.declared.update.Update.{Update}
 use Rattle.firmware_update.specs.declared.update.UpdateNext.{UpdateNext}
 use Rattle.firmware_update.specs.declared.update.UpdateNext.TheVariants as updates
-use Rattle.firmware_update.specs.Courses.{IsEnd, IsInHand, IsOnItsWay, IsUnderWay, asked_for, delay_for, delivery_at, going_by, going_on, learned_by, session_at, stopped, wanted, wanted_by}
+use Rattle.firmware_update.specs.Courses.{IsEnd, IsInHand, IsUnderWay, asked_for, delay_for, delivery_at, going_by, going_on, learned_by, stopped, wanted, wanted_by}
 use Rattle.firmware_update.specs.Durations.{duration_for, durations_after, learned, none}
 use Rattle.firmware_update.specs.Exchanges as exchanges
 use Rattle.firmware_update.specs.Payloads.{message_of}
 use Rattle.firmware_update.specs.Progress.{IsAt, begun_update, exchange_of, next, taken}
-use Rattle.firmware_update.specs.Turned.{HasRested, HasRestedBy, HasTurned, begun_session, replied, replied_by}
+use Rattle.firmware_update.specs.Turned.{HasRestedBy, HasTurned, begun_session, replied_by}
 use Rattle.firmware_update.proofs.OnBus.{delivery_does, delivery_waits, none_does, none_waits}
 use Rattle.firmware_update.proofs.Told as tells
 use Rattle.firmware_laws.specs.AtTheBus.{ComesOnBus, StandsAfter}
-use Rattle.firmware_laws.specs.Modules.{Firmware}
 use Rattle.simulated_updates.specs.declared.chance.Chance.{Chance}
-use Rattle.simulated_updates.specs.Modules.{Module, befallen, fetching, has_page, is_deaf, read, status_shown, stepped, stored, stored_reply, storing}
+use Rattle.simulated_updates.specs.Modules.{Module, befallen, has_page, is_deaf, status_shown, stepped, stored, stored_reply, storing}
 use Rattle.simulated_updates.specs.OnTheBus.{Becomes, MayStep}
 use Rattle.simulated_updates.specs.Performed.{conduct}
 use Rattle.simulated_updates.proofs.Courses.{happens, unpaged, unpaused}
@@ -160,12 +157,15 @@ module _ (file : List ℕ) (start : Module) where
     hand : IsInHand file session.durations session.update own session.delivery
 
   begun_hand : (durations : Durations) (update : Update) (n : UpdateNext) → next update ≡ n → IsInHand file durations update [] (delivery_at file update durations n)
-  begun_hand durations update (updates.Send command) e = (command, record {
-    sends = e;
-    terms = refl;
-    told = begun_told (message_of file command) (timing_for (duration_for command durations) (delay_for update)) (patience_for (duration_for command durations));
-    under_way = begun_goes (message_of file command) (duration_for command durations) (delay_for update);
-  })
+  begun_hand durations update (updates.Send command) e = (
+    command,
+    record {
+      sends = e;
+      terms = refl;
+      told = begun_told (message_of file command) (timing_for (duration_for command durations) (delay_for update)) (patience_for (duration_for command durations));
+      under_way = begun_goes (message_of file command) (duration_for command durations) (delay_for update);
+    },
+  )
   begun_hand durations update (updates.Done end) e = (refl, subst IsEnd (sym e) tt)
 
   begins : (new : Module) → start ≡ new → Followed [] (begun_session file) new
@@ -215,7 +215,7 @@ module _ (file : List ℕ) (start : Module) where
       let is : known (attempt_in delivery.patient) ≡ outcome = ended_by outcome (known (attempt_in delivery.patient)) (patient_wants delivery.patient) e in
       let same = terms ∙ ap (λ (d : Durations). terms_for (message_of file command) (duration_for command d) (delay_for update)) learnt in
       let by : Ends own mid new (terms_for (message_of file command) (duration_for command (durations_after history)) (delay_for update)) outcome =
-          subst (λ (t : Terms). Ends own mid new t outcome) same (subst (λ (o : Outcome). Ends own mid new (terms_of delivery.patient) o) is (ends delivery.patient own mid new told since)) in
+      subst (λ (t : Terms). Ends own mid new t outcome) same (subst (λ (o : Outcome). Ends own mid new (terms_of delivery.patient) o) is (ends delivery.patient own mid new told since)) in
       record {
         history = exchange_of command outcome ∷ history;
         own = [];

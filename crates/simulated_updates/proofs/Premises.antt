@@ -1,5 +1,5 @@
 -- The conduct of the simulated module meets what is presumed of modules with two banks and of what they store.
-use Rattle.std.proofs.Common.{◌≡◌, ◌⊎◌, ℕ, zero, suc, ◌+◌, ◌-◌, ◌<◌, nat_lt, ◌++◌, Bool, true, false, cond, List, [], ◌∷◌, length, take, Option, Some, None, refl, sym, subst, ap, inl, inr, ◌∙◌, arith}
+use Rattle.std.proofs.Common.{◌≡◌, ◌⊎◌, ℕ, zero, suc, ◌+◌, ◌-◌, nat_lt, ◌++◌, Bool, true, false, cond, List, [], ◌∷◌, length, Option, Some, None, refl, sym, subst, ap, inl, inr}
 use Rattle.std.proofs.lemmas.Bool.{cond_both}
 use Rattle.arrayvec.specs.ArrayVec.{ArrayVec}
 use Rattle.command_block.specs.declared.message.Message.{Message}
@@ -10,9 +10,9 @@ use Rattle.firmware_update.specs.declared.bank.Bank.TheVariants.{A, B}
 use Rattle.firmware_laws.specs.Contents.{HasSucceeded, IsOpen, KeepsBelow, MakesImage, PutsAt, StoresContents}
 use Rattle.firmware_laws.specs.Modules.{Answer, Commits, Download, Fills, FillsOther, Firmware, HasTwoBanks, Held, IsQuestion, IsTrueOf, Switches}
 use Rattle.firmware_update.specs.Payloads.{be32, block_message, complete_message, info_message, start_message}
-use Rattle.firmware_laws.specs.SampleModules.{begun, can_other, closed, committed, filled, info, read32, switched_later, with_download}
+use Rattle.firmware_laws.specs.SampleModules.{can_other, committed, filled, info, read32, switched_later}
 use Rattle.firmware_laws.proofs.Samples.{begun_fills, closed_fills, fills_same, keeps, keeps_same, later_keeps, makes, puts, read_be, says_bank}
-use Rattle.simulated_updates.specs.Performed.{aborting, completing, conduct, failing, memory, not_now, out_of_range, performed, running, starting, storing, succeeding}
+use Rattle.simulated_updates.specs.Performed.{aborting, completing, conduct, failing, memory, not_now, out_of_range, performed, running, storing, succeeding}
 
 -- ---- whatever chance does
 

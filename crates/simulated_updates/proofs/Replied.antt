@@ -1,5 +1,5 @@
 -- A delivery that takes a reply to what it wanted was told one event more.
-use Rattle.std.proofs.Common.{◌≡◌, ◌⊎◌, ℕ, ◌+◌, ◌<◌, ◌≤◌, nat_lt, ◌==◌, ◌&&◌, ◌/◌, ◌%◌, Bool, true, false, cond, List, [], ◌∷◌, length, Option, Some, None, refl, sym, subst, ap, inl, inr, ◌∙◌, arith}
+use Rattle.std.proofs.Common.{◌≡◌, ℕ, ◌+◌, ◌≤◌, nat_lt, ◌==◌, ◌&&◌, ◌/◌, ◌%◌, Bool, true, false, [], ◌∷◌, length, Option, Some, None, refl, sym, subst, ap, ◌∙◌, arith}
 use Rattle.std.specs.Prelude.{max, min}
 use Rattle.std.proofs.lemmas.Bool.{cond_both, le-ltb}
 use Rattle.arrayvec.specs.ArrayVec.{ArrayVec}
@@ -7,7 +7,6 @@ use Rattle.bus_model.specs.declared.device.Dev.TheVariants.{A0}
 use Rattle.bus_model.specs.declared.operation.Op.{Op}
 use Rattle.bus_model.specs.declared.operation.Op.TheVariants.{Fetch, Store}
 use Rattle.bus_model.specs.declared.operation.Reply.{Reply}
-use Rattle.bus_model.specs.declared.operation.Step.{Step}
 use Rattle.bus_model.specs.Operations.{Answers}
 use Rattle.command_block.specs.declared.attempt.Attempt.{Attempt}
 use Rattle.command_block.specs.declared.attempt.Phase.{Phase}
@@ -16,23 +15,22 @@ use Rattle.command_block.specs.declared.attempt.Timing.{Timing}
 use Rattle.command_block.specs.declared.delivery.Delivery.{Delivery}
 use Rattle.command_block.specs.declared.message.Message.{Message}
 use Rattle.command_block.specs.declared.outcome.Outcome.{Outcome}
-use Rattle.command_block.specs.AttemptEvents.{IsTold, attempt_after}
+use Rattle.command_block.specs.AttemptEvents.{IsTold}
 use Rattle.command_block.specs.Deliveries.{Paged, Patient, ToldPaged, ToldPatient, attempt_in, delivery_after, delivery_wants, needed_after, paged_after, paged_wants, patient_after, patient_wants, terms_of}
 use Rattle.command_block.specs.Operations.{head, piece}
 use Rattle.command_block.specs.Phases.{filling, known, lacking, next_at, page_of, taken, wants, wants_by}
 use Rattle.command_block.proofs.Delivered.{do_within}
 use Rattle.conversations.specs.declared.event.Event.TheVariants.{Lacked}
 use Rattle.conversations.specs.declared.next.Next.{Next}
-use Rattle.conversations.specs.declared.next.Next.TheVariants.{Do, Wait, End}
-use Rattle.conversations.specs.declared.on_page.OnPage.{OnPage}
+use Rattle.conversations.specs.declared.next.Next.TheVariants.{Do}
 use Rattle.conversations.specs.Events.{Events, made, steps_of}
 use Rattle.conversations.specs.Pauses.{AddsPauses, idle_after, is_fruitless, is_fruitless_in, is_refused, is_selecting, is_selecting_in, next_pausing}
-use Rattle.conversations.specs.Selecting.{Knows, WithSelections, after_missing, after_trusting, lacked, taken_after, taken_by, told_lacked, trusted}
+use Rattle.conversations.specs.Selecting.{Knows, WithSelections, after_missing, after_trusting, lacked, taken_after, told_lacked, trusted}
 use Rattle.conversations.specs.Wanted.{op_of}
 use Rattle.conversations.proofs.OnPageLaws.{after_doubt, asks, lacks_more, own_more, reads_back, selecting_more, selects_page, works_inner}
 use Rattle.conversations.proofs.PausingLaws.{pausing_do}
 use Rattle.conversations.proofs.RunTold.{do_fewer}
-use Rattle.paged_memory.specs.declared.page_addressing.KnownPage.TheVariants.{Open, Unknown}
+use Rattle.paged_memory.specs.declared.page_addressing.KnownPage.TheVariants.{Unknown}
 use Rattle.paged_memory.specs.declared.page_addressing.PageAddressing.{PageAddressing}
 use Rattle.paged_memory.specs.declared.page_addressing.PageAddressing.TheVariants.{BankAndPage, PageAlone}
 use Rattle.paged_memory.specs.KnownPages.{IsApart, is_awaited, missing_page, selection_told, wanted}
@@ -117,15 +115,19 @@ module _ (on : Paged) (events : Events) (op : Op) (reply : Reply) (answers : Ans
         (reads.knows, selecting_more on.doubts true (λ own. Some BankAndPage) needs (λ own. IsTold own attempt) op reply events page (Some BankAndPage) by_it needed reads.addressing reads.is reads.selecting (reads.none e) answers told.1)
     back_by awaited (Some number) e =
         let reads = reads_back true on.selection on.taken page inner op (trusted on.doubts (steps_of events)) reply apart (Some BankAndPage) is told.0 awaited in
-        let lacks = reads.lacks number e in
-        (reads.knows, lacks_more on.doubts true (λ own. Some BankAndPage) needs (λ own. IsTold own attempt) op reply events page (Some BankAndPage) by_it needed (λ own. IsTold own (lacking attempt)) reads.addressing reads.is number lacks.0 lacks.1 lacks.2 answers
-        (lacks_it number lacks.1) (λ own at a f. f) told.1)
+        let lacks = reads.lacks number e in (
+          reads.knows,
+          lacks_more on.doubts true (λ own. Some BankAndPage) needs (λ own. IsTold own attempt) op reply events page (Some BankAndPage) by_it needed (λ own. IsTold own (lacking attempt)) reads.addressing reads.is number lacks.0 lacks.1 lacks.2 answers
+              (lacks_it number lacks.1) (λ own at a f. f) told.1,
+        )
 
     first_by : is_awaited on.selection ≡ false → (missing : Option ℕ) → missing_page on.selection page ≡ missing → Kept (after_missing (λ a r. taken a r) true missing on reply)
     first_by closed None e =
-        let works = works_inner true on.selection on.taken page inner op (trusted on.doubts (steps_of events)) reply apart (Some BankAndPage) is told.0 closed e in
-        (works.knows, own_more on.doubts true (λ own. Some BankAndPage) needs (λ own. IsTold own attempt) op reply events page (Some BankAndPage) by_it needed (λ own. IsTold own (taken attempt reply)) works.stands
-        (takes_it (does ∙ ap (λ (o : Op). Do o) (sym works.same))) (λ own at a f. f) told.1)
+        let works = works_inner true on.selection on.taken page inner op (trusted on.doubts (steps_of events)) reply apart (Some BankAndPage) is told.0 closed e in (
+          works.knows,
+          own_more on.doubts true (λ own. Some BankAndPage) needs (λ own. IsTold own attempt) op reply events page (Some BankAndPage) by_it needed (λ own. IsTold own (taken attempt reply)) works.stands
+              (takes_it (does ∙ ap (λ (o : Op). Do o) (sym works.same))) (λ own at a f. f) told.1,
+        )
     first_by closed (Some number) e =
         let selects = selects_page true on.selection on.taken page inner op (trusted on.doubts (steps_of events)) reply apart (Some BankAndPage) is told.0 (λ none. absurd cc) closed number e in
         (selects.knows, selecting_more on.doubts true (λ own. Some BankAndPage) needs (λ own. IsTold own attempt) op reply events page (Some BankAndPage) by_it needed selects.addressing selects.is selects.selecting selects.none answers told.1)
@@ -184,13 +186,13 @@ told_patient patient events op reply answers ((own, adds, told), counted, few) a
     let (none_due, wants_op) = pausing_do patient.conversation.due patient.conversation.idle patient.conversation.patience (paged_wants on) op does in
     let op_is : op_of (paged_wants on) ≡ Some op = ap (λ (n : Next Outcome). op_of n) wants_op in
     let before : AddsPauses patient.conversation.patience own events (Some op) false patient.conversation.idle =
-        subst (λ (due : Bool). AddsPauses patient.conversation.patience own events (Some op) due patient.conversation.idle) none_due
-        (subst (λ (w : Option Op). AddsPauses patient.conversation.patience own events w patient.conversation.due patient.conversation.idle) op_is adds) in
+    subst (λ (due : Bool). AddsPauses patient.conversation.patience own events (Some op) due patient.conversation.idle) none_due
+    (subst (λ (w : Option Op). AddsPauses patient.conversation.patience own events w patient.conversation.due patient.conversation.idle) op_is adds) in
     let next = op_of (paged_wants (paged_after on reply)) in
     let due : is_fruitless_in (op_of (paged_wants on)) reply next ≡ is_fruitless op reply next = ap (λ (o : Option Op). is_fruitless_in o reply next) op_is in
     let idle : idle_after (is_fruitless_in (op_of (paged_wants on)) reply next) (is_selecting_in (op_of (paged_wants on))) patient.conversation.idle
-        ≡ idle_after (is_fruitless_in (op_of (paged_wants on)) reply next) (is_selecting op) patient.conversation.idle =
-        ap (λ (o : Option Op). idle_after (is_fruitless_in (op_of (paged_wants on)) reply next) (is_selecting_in o) patient.conversation.idle) op_is in
+    ≡ idle_after (is_fruitless_in (op_of (paged_wants on)) reply next) (is_selecting op) patient.conversation.idle =
+    ap (λ (o : Option Op). idle_after (is_fruitless_in (op_of (paged_wants on)) reply next) (is_selecting_in o) patient.conversation.idle) op_is in
     ((made op reply ∷ own, (own, patient.conversation.idle, refl, before, due, idle), told_paged on own op reply answers told wants_op), omega (arith, counted), omega (arith, fewer))
 
 pub told_delivery : (delivery : Delivery) (events : Events) (op : Op) (reply : Reply) → Answers op reply → ToldPatient events delivery.patient → delivery_wants delivery ≡ Do op

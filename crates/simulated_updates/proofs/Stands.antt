@@ -1,11 +1,9 @@
 -- An attempt on the simulated module: how that stands after each of its own events.
-use Rattle.std.proofs.Common.{◌≡◌, ◌≢◌, ◌⊎◌, ℕ, zero, suc, ◌+◌, ◌-◌, ◌*◌, ◌/◌, ◌%◌, ◌<◌, ◌≤◌, nat_lt, nat_le, ◌==◌, ◌&&◌, ◌++◌, not, Bool, true, false, cond, List, [], ◌∷◌, length, take, Option, Some, None, refl, sym, subst, ap, inl, inr, ◌∙◌, arith}
+use Rattle.std.proofs.Common.{◌≡◌, ◌≢◌, ◌⊎◌, ℕ, ◌+◌, ◌-◌, ◌*◌, ◌/◌, ◌%◌, ◌<◌, ◌≤◌, nat_lt, nat_le, ◌==◌, ◌&&◌, ◌++◌, Bool, true, false, cond, List, [], ◌∷◌, length, take, Option, Some, None, refl, sym, subst, ap, inl, inr, ◌∙◌, arith}
 use Rattle.std.specs.Prelude.{max, min, sum, drop, slice_range}
 use Rattle.std.proofs.lemmas.Bool.{cond_both, le-ltb, lt-ltb, ltb-true, ltb-false}
 use Rattle.std.proofs.lemmas.List.{take_all, take_at, take_min, take-take, take-append-drop, length-take, length-take-le}
 use Rattle.std.proofs.Math.Seq.{take-append-add}
-use Rattle.arrayvec.specs.ArrayVec.{ArrayVec}
-use Rattle.bus_model.specs.declared.device.Dev.TheVariants.{A0}
 use Rattle.bus_model.specs.declared.operation.Op.{Op}
 use Rattle.bus_model.specs.declared.operation.Op.TheVariants.{Fetch, Store}
 use Rattle.bus_model.specs.declared.operation.Reply.{Reply}
@@ -19,26 +17,26 @@ use Rattle.command_block.specs.declared.judgement.Judgement.{Judgement}
 use Rattle.command_block.specs.declared.judgement.Judgement.TheVariants.{On, Again, Ends}
 use Rattle.command_block.specs.declared.message.Message.{Message}
 use Rattle.command_block.specs.declared.outcome.Outcome.{Outcome}
-use Rattle.command_block.specs.declared.outcome.Outcome.TheVariants.{Succeeded, Failed, Unsent, Unknown}
+use Rattle.command_block.specs.declared.outcome.Outcome.TheVariants.{Succeeded, Failed}
 use Rattle.command_block.specs.AttemptEvents.{EachIsWanted, attempt_after}
 use Rattle.command_block.specs.Attempts.{History}
-use Rattle.command_block.specs.Messages.{check_code, complement}
+use Rattle.command_block.specs.Messages.{complement}
 use Rattle.command_block.specs.Operations.{head, piece, read_count, read_reply, read_status, trigger}
-use Rattle.command_block.specs.Phases.{after_bytes, after_count, after_idle, after_piece, after_status, by_status, filling, judged, next_at, outcome_after, phase_after, phase_rested, wants, wants_by}
+use Rattle.command_block.specs.Phases.{after_bytes, after_count, after_idle, after_piece, after_status, filling, judged, next_at, outcome_after, phase_after, phase_rested, wants_by}
 use Rattle.conversations.specs.declared.event.Event.TheVariants.{Made, Waited, Lacked, Asked}
-use Rattle.conversations.specs.declared.next.Next.TheVariants.{Do, Wait, End}
+use Rattle.conversations.specs.declared.next.Next.TheVariants.{Do}
 use Rattle.conversations.specs.Events.{Events, steps_of}
 use Rattle.firmware_laws.specs.AtTheBus.{HasTaken, Leaves, ShowsItsOwn, StandsAfter, TookNone}
 use Rattle.firmware_laws.specs.Modules.{Answer, Endures, Firmware}
 use Rattle.firmware_laws.proofs.Endures.{endures_on, lost_first}
 use Rattle.simulated_updates.specs.declared.chance.Chance.{Chance}
-use Rattle.simulated_updates.specs.Modules.{Module, stepped, taken}
+use Rattle.simulated_updates.specs.Modules.{Module, taken}
 use Rattle.simulated_updates.specs.OnTheBus.{MayStep}
 use Rattle.simulated_updates.specs.Performed.{conduct}
 use Rattle.simulated_updates.proofs.Courses.{Course}
-use Rattle.simulated_updates.proofs.Drifts.{Drifts, IsFresh, Keeps, drifts_on, by_step}
+use Rattle.simulated_updates.proofs.Drifts.{Drifts, IsFresh, Keeps, by_step}
 use Rattle.simulated_updates.proofs.Steps.{AddsPiece, ByStore, PutsHead, Read, Takes, head_step, id_step, piece_step, read_step}
-use Rattle.simulated_updates.proofs.Taken.{Answered, IsReady, IsShown, IsTaken, Rests, count_shown_own, head_of, reply_shown_own, shown_on, status_shown_own, taken_is}
+use Rattle.simulated_updates.proofs.Taken.{IsReady, IsShown, IsTaken, Rests, count_shown_own, head_of, reply_shown_own, shown_on, status_shown_own, taken_is}
 
 -- ---- a body that is stored
 

@@ -1,17 +1,15 @@
 -- What a store on page 9Fh makes of the simulated module, and what its fetches show.
-use Rattle.std.proofs.Common.{◌≡◌, ◌≢◌, ◌⊎◌, ℕ, zero, suc, ◌+◌, ◌-◌, ◌*◌, ◌/◌, ◌%◌, ◌<◌, ◌≤◌, nat_lt, nat_le, ◌==◌, ◌&&◌, ◌++◌, not, Bool, true, false, cond, List, [], ◌∷◌, length, take, Option, Some, None, refl, sym, subst, ap, inl, inr, ◌∙◌, arith}
-use Rattle.std.specs.Prelude.{max, min, sum}
-use Rattle.std.proofs.lemmas.Bool.{and_parts, cond_both, eqb-true, leb-true}
-use Rattle.std.proofs.lemmas.List.{take_all}
+use Rattle.std.proofs.Common.{◌≡◌, ◌≢◌, ◌⊎◌, ℕ, ◌+◌, ◌-◌, ◌*◌, ◌<◌, ◌≤◌, nat_le, ◌==◌, ◌&&◌, ◌++◌, Bool, true, false, cond, List, [], ◌∷◌, length, take, Option, Some, None, refl, sym, subst, ap, inl, inr, arith}
+use Rattle.std.specs.Prelude.{sum}
+use Rattle.std.proofs.lemmas.Bool.{cond_both, eqb-true, leb-true}
 use Rattle.arrayvec.specs.ArrayVec.{ArrayVec}
 use Rattle.bus_model.specs.declared.device.Dev.TheVariants.{A0}
-use Rattle.bus_model.specs.declared.operation.Op.{Op}
 use Rattle.bus_model.specs.declared.operation.Op.TheVariants.{Fetch, Store}
 use Rattle.bus_model.specs.declared.operation.Reply.{Reply}
 use Rattle.bus_model.specs.declared.operation.Reply.TheVariants.{Bytes, Done, Refused}
 use Rattle.command_block.specs.Messages.{complement}
 use Rattle.simulated_updates.specs.declared.chance.Chance.{Chance}
-use Rattle.simulated_updates.specs.Modules.{Module, Stored, befallen, fetching, has_page, is_busy, is_deaf, read, read_reply, status_shown, stepped, store_body, store_head, store_id, store_page, stored, stored_reply, storing, taken}
+use Rattle.simulated_updates.specs.Modules.{Module, Stored, befallen, fetching, has_page, is_deaf, read, read_reply, status_shown, stepped, store_body, store_id, store_page, stored, stored_reply, storing, taken}
 use Rattle.simulated_updates.proofs.Drifts.{Drifts, befallen_drifts}
 
 abbrev Turn : Type 0

@@ -1,6 +1,5 @@
 -- An update of the simulated module can come to its end: the new image runs and is committed, and it is the file.
 use Rattle.std.proofs.Common.{◌≡◌, ℕ, zero, suc, ◌+◌, ◌-◌, ◌<◌, ◌≤◌, ◌++◌, Bool, true, false, cond, nat_lt, List, [], ◌∷◌, length, take, drop, Option, Some, None, Ok, refl, sym, subst, ap, inl, inr, ◌∙◌, arith}
-use Rattle.std.specs.Prelude.{min}
 use Rattle.std.proofs.Math.Logic.{⊎_elim}
 use Rattle.std.proofs.Math.Seq.{take-add}
 use Rattle.std.proofs.lemmas.Bool.{cases_lt, le-ltb, lt-ltb}
@@ -194,9 +193,15 @@ module _ (old : Bank) (image file : List ℕ) (more : 8 < length file) (few : le
   verifying : (h : History) × IsVerifying (length file) old h × Comes h last_at
   verifying =
       let (h, running, comes) = completed in
-      let ran : Comes (exchange_of Run (says []) ∷ h) running_at =
-          (done_at, 0, comes, inl (ap (λ (b : Bool). (cond b (succeeding [] (switched_later true done_at)) (failing not_now done_at)).outcome) (can old (holds true true image) file),
-          subst (λ (b : Bool). Endures (cond b (succeeding [] (switched_later true done_at)) (failing not_now done_at)).after running_at) (sym (can old (holds true true image) file)) (inr (inr resets_then)))) in
+      let ran : Comes (exchange_of Run (says []) ∷ h) running_at = (
+        done_at,
+        0,
+        comes,
+        inl (
+          ap (λ (b : Bool). (cond b (succeeding [] (switched_later true done_at)) (failing not_now done_at)).outcome) (can old (holds true true image) file),
+          subst (λ (b : Bool). Endures (cond b (succeeding [] (switched_later true done_at)) (failing not_now done_at)).after running_at) (sym (can old (holds true true image) file)) (inr (inr resets_then)),
+        ),
+      ) in
       let seen : Comes (exchange_of Info (says (info running_at)) ∷ exchange_of Run (says []) ∷ h) running_at =
       on Info (says (info running_at)) (exchange_of Run (says []) ∷ h) running_at running_at ran refl refl in (
         exchange_of Commit (says []) ∷ exchange_of Info (says (info running_at)) ∷ exchange_of Run (says []) ∷ h,

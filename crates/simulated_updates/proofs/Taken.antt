@@ -1,15 +1,13 @@
 -- What the simulated module shows of a message that it took.
-use Rattle.std.proofs.Common.{◌≡◌, ◌≢◌, ◌⊎◌, ℕ, zero, suc, ◌+◌, ◌-◌, ◌*◌, ◌/◌, ◌%◌, ◌<◌, ◌≤◌, nat_lt, nat_le, ◌==◌, ◌&&◌, ◌++◌, not, Bool, true, false, cond, List, [], ◌∷◌, length, take, Option, Some, None, refl, sym, subst, ap, inl, inr, ◌∙◌, arith}
+use Rattle.std.proofs.Common.{◌≡◌, ◌≢◌, ◌⊎◌, ℕ, zero, suc, ◌+◌, ◌-◌, ◌<◌, ◌≤◌, nat_lt, nat_le, ◌==◌, Bool, true, false, cond, List, [], ◌∷◌, length, take, Option, Some, None, refl, sym, subst, ap, inl, inr, ◌∙◌, arith}
 use Rattle.std.specs.Prelude.{max, min, sum}
-use Rattle.std.proofs.lemmas.Bool.{and_parts, cond_both, eqb-true, leb-true}
-use Rattle.std.proofs.lemmas.List.{take_all, length-take}
+use Rattle.std.proofs.lemmas.Bool.{and_parts, cond_both, leb-true}
+use Rattle.std.proofs.lemmas.List.{take_all}
 use Rattle.arrayvec.specs.ArrayVec.{ArrayVec}
-use Rattle.bus_model.specs.declared.device.Dev.TheVariants.{A0}
 use Rattle.bus_model.specs.declared.operation.Op.{Op}
 use Rattle.bus_model.specs.declared.operation.Op.TheVariants.{Fetch, Store}
 use Rattle.bus_model.specs.declared.operation.Reply.{Reply}
 use Rattle.bus_model.specs.declared.operation.Reply.TheVariants.{Bytes, Done, Refused}
-use Rattle.bus_model.specs.declared.operation.Step.{Step}
 use Rattle.command_block.specs.declared.message.Message.{Message}
 use Rattle.command_block.specs.declared.outcome.Outcome.{Outcome}
 use Rattle.command_block.specs.declared.outcome.Outcome.TheVariants.{Succeeded, Failed, Unsent, Unknown}
@@ -18,14 +16,14 @@ use Rattle.command_block.specs.Messages.{check_code, complement}
 use Rattle.command_block.specs.Operations as operations
 use Rattle.firmware_laws.specs.AtTheBus.{IsFinal, ShowsItsOwn, ShowsStatus}
 use Rattle.firmware_laws.specs.Modules.{Answer, Download, Endures, Firmware, Loses}
-use Rattle.firmware_laws.specs.SampleModules.{can_other, filled, info, read32, switched_later}
+use Rattle.firmware_laws.specs.SampleModules.{can_other, filled, read32, switched_later}
 use Rattle.simulated_updates.specs.declared.chance.Chance.{Chance}
 use Rattle.simulated_updates.specs.declared.chance.Fate.{Fate}
 use Rattle.simulated_updates.specs.declared.chance.Fate.TheVariants.{Carried, Fails, CutShort}
-use Rattle.simulated_updates.specs.Modules.{Module, answers, comes_to, count_in, fated, is_busy, is_whole, message_in, read, shows, status_shown, taken}
+use Rattle.simulated_updates.specs.Modules.{Module, answers, comes_to, count_in, fated, is_busy, is_whole, message_in, read, status_shown, taken}
 use Rattle.simulated_updates.specs.Performed.{aborting, completing, conduct, failing, memory, not_now, out_of_range, performed, running, storing, succeeding, wrong_check_code}
 use Rattle.simulated_updates.proofs.Drifts.{Drifts, IsFresh, Keeps, loses}
-use Rattle.simulated_updates.proofs.Steps.{Read, reads_count, reads_reply, reads_status}
+use Rattle.simulated_updates.proofs.Steps.{Read, reads_count, reads_reply}
 
 -- ---- answers that can be shown
 

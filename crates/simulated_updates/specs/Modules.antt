@@ -1,7 +1,6 @@
 -- The simulated module that has a command data block, and what one transaction makes of it. (OIF-CMIS-05.0, "CDB Messaging", page 9Fh;
 -- CdbStatus1, byte 37 of the lower memory; BankSelect and PageSelect, bytes 126 and 127)
 use Rattle.std.specs.Prelude.{ℕ, ◌+◌, ◌-◌, ◌*◌, ◌==◌, ◌&&◌, nat_le, nat_lt, not, Bool, true, false, List, [], ◌∷◌, ◌++◌, length, take, sum, Option, Some, None, if◌then◌else◌}
-use Rattle.arrayvec.specs.ArrayVec.{ArrayVec}
 use Rattle.bus_model.specs.declared.device.Dev.TheVariants.{A0, A2}
 use Rattle.bus_model.specs.declared.operation.Op.{Op}
 use Rattle.bus_model.specs.declared.operation.Op.TheVariants.{Fetch, Store}
@@ -18,7 +17,7 @@ use Rattle.simulated_updates.specs.declared.chance.Before.TheVariants.{Nothing, 
 use Rattle.simulated_updates.specs.declared.chance.Chance.{Chance}
 use Rattle.simulated_updates.specs.declared.chance.Fate.{Fate}
 use Rattle.simulated_updates.specs.declared.chance.Fate.TheVariants.{Carried, Fails, CutShort}
-use Rattle.simulated_updates.specs.Performed.{conduct, cut_short, failed, failing, performed, wrong_check_code}
+use Rattle.simulated_updates.specs.Performed.{cut_short, failed, failing, performed, wrong_check_code}
 use Rattle.simulated_updates.specs.Resets.{lost, reset_to}
 
 -- ---- how it stands

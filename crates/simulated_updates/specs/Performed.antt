@@ -1,7 +1,6 @@
 -- What the simulated module does with each message about its firmware, and what it answers. (OIF-CMIS-05.0, CMD 0001h, 0041h, 0100h to
 -- 0103h, 0107h, 0109h and 010Ah; CdbStatus1, byte 37 of the lower memory: the codes of failure)
-use Rattle.std.specs.Prelude.{ℕ, zero, suc, ◌+◌, ◌-◌, ◌==◌, nat_lt, Bool, true, false, List, [], ◌∷◌, length, drop, Option, Some, None, if◌then◌else◌}
-use Rattle.command_block.specs.declared.message.Message.{Message}
+use Rattle.std.specs.Prelude.{ℕ, zero, suc, ◌+◌, ◌-◌, ◌==◌, nat_lt, Bool, true, false, List, [], ◌∷◌, length, Option, Some, None, if◌then◌else◌}
 use Rattle.command_block.specs.declared.outcome.Outcome.TheVariants.{Succeeded, Failed}
 use Rattle.firmware_laws.specs.Modules.{Answer, Conduct, Download, Firmware}
 use Rattle.firmware_laws.specs.SampleModules.{begun, can_other, closed, committed, filled, info, read32, switched_later, with_download}

@@ -1,6 +1,6 @@
 -- Which image of the simulated module runs after a loss of power, and after the reset of a Run. (OIF-CMIS-05.0, CMD 0109h "Run Firmware
 -- Image", CMD 010Ah "Commit Image"; this project's own)
-use Rattle.std.specs.Prelude.{Bool, true, false, ◌&&◌, Option, Some, None, if◌then◌else◌}
+use Rattle.std.specs.Prelude.{Bool, ◌&&◌, None, if◌then◌else◌}
 use Rattle.firmware_update.specs.declared.bank.Bank.{Bank}
 use Rattle.firmware_update.specs.declared.bank.Bank.TheVariants.{A, B}
 use Rattle.firmware_laws.specs.Modules.{Firmware, held}

@@ -1,5 +1,5 @@
 -- The executable module, as the definitions of it see it. (this project's own)
-use Rattle.std.specs.Prelude.{◌≡◌, ℕ, take, true, false, Option, Some, None, option_map}
+use Rattle.std.specs.Prelude.{◌≡◌, ℕ, true, false, Option, Some, None, option_map}
 use Rattle.command_block.specs.declared.message.Message.{Message}
 use Rattle.simulated_updates.specs.declared.banks.Banks.{Banks}
 use Rattle.simulated_updates.specs.declared.banks.Receiving.{Receiving}

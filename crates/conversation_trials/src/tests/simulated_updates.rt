@@ -1,7 +1,9 @@
 // Firmware updates on the simulated module, with each transaction refused, and with power lost at each.
 use arrayvec::ArrayVec;
 use firmware_update::{Bank, UpdateRun, run_update};
-use simulated_updates::{Banks, Before, Chance, Fate, MAX_CHANCES, SimulatedBus, SimulatedModule, Slot};
+use simulated_updates::{
+    Banks, Before, Chance, Fate, MAX_CHANCES, SimulatedBus, SimulatedModule, Slot,
+};
 use std::test::Fail;
 
 const OLD: [u8; 3] = [1, 2, 3];
