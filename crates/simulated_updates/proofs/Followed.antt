@@ -18,7 +18,8 @@ use Rattle.command_block.specs.declared.outcome.Outcome.{Outcome}
 use Rattle.command_block.specs.Deliveries.{IsDelivered, Patient, Terms, ToldPatient, attempt_in, begun_delivery, delivery_after, delivery_wants, ending_as, needed_after, paged_wants, patience_for, patient_of, patient_wants, terms_for, terms_of, timing_for}
 use Rattle.command_block.specs.Messages.{complement}
 use Rattle.command_block.specs.Phases.{known}
-use Rattle.command_block.proofs.Delivered.{begun_told}
+use Rattle.command_block.specs.Turns as turns
+use Rattle.command_block.proofs.Delivered.{begun_turned}
 use Rattle.command_block.proofs.Known.{known_shown, rests}
 use Rattle.conversations.specs.declared.event.Event.{Event}
 use Rattle.conversations.specs.declared.event.Event.TheVariants.{Made, Waited, Lacked, Asked}
@@ -162,7 +163,7 @@ module _ (file : List ℕ) (start : Module) where
     record {
       sends = e;
       terms = refl;
-      told = begun_told (message_of file command) (timing_for (duration_for command durations) (delay_for update)) (patience_for (duration_for command durations));
+      told = begun_turned (message_of file command) (duration_for command durations) (delay_for update);
       under_way = begun_goes (message_of file command) (duration_for command durations) (delay_for update);
     },
   )
@@ -185,7 +186,7 @@ module _ (file : List ℕ) (start : Module) where
   -- what is on its way goes on, or has ended
   goes_by : (update : Update) (durations : Durations) (delivery : Delivery) (history : exchanges.History) (own earlier : Events) (mid new : Module) (command : Command) (n : Next Outcome) → delivery_wants delivery ≡ n
       → ComesOnBus conduct file start.firmware history earlier mid.firmware → Becomes mid own new → IsAt (length file) history update → durations ≡ durations_after history → next update ≡ updates.Send command
-      → terms_of delivery.patient ≡ terms_for (message_of file command) (duration_for command durations) (delay_for update) → ToldPatient own delivery.patient
+      → terms_of delivery.patient ≡ terms_for (message_of file command) (duration_for command durations) (delay_for update) → turns.ToldDelivery own delivery
       → Followed (own ++ earlier) (going_by file update durations delivery n) new
   goes_by update durations delivery history own earlier mid new command (Do op) e comes since at learnt sends terms told = record {
     history = history;
@@ -215,7 +216,7 @@ module _ (file : List ℕ) (start : Module) where
       let is : known (attempt_in delivery.patient) ≡ outcome = ended_by outcome (known (attempt_in delivery.patient)) (patient_wants delivery.patient) e in
       let same = terms ∙ ap (λ (d : Durations). terms_for (message_of file command) (duration_for command d) (delay_for update)) learnt in
       let by : Ends own mid new (terms_for (message_of file command) (duration_for command (durations_after history)) (delay_for update)) outcome =
-      subst (λ (t : Terms). Ends own mid new t outcome) same (subst (λ (o : Outcome). Ends own mid new (terms_of delivery.patient) o) is (ends delivery.patient own mid new told since)) in
+      subst (λ (t : Terms). Ends own mid new t outcome) same (subst (λ (o : Outcome). Ends own mid new (terms_of delivery.patient) o) is (ends delivery.patient own mid new told.0 since)) in
       record {
         history = exchange_of command outcome ∷ history;
         own = [];
@@ -232,7 +233,7 @@ module _ (file : List ℕ) (start : Module) where
   -- by an event
   goes : (event : Event) (events : Events) (session later : Session) (old new : Delivery) (before now : Module) → session.delivery ≡ Some old → later ≡ going_on file session.update session.durations new
       → Followed events session before → ((mid : Module) (own : Events) → Becomes mid own before → Becomes mid (event ∷ own) now)
-      → ((own : Events) → ToldPatient own old.patient → ToldPatient (event ∷ own) new.patient) → terms_of new.patient ≡ terms_of old.patient → Followed (event ∷ events) later now
+      → ((own : Events) → turns.ToldDelivery own old → turns.ToldDelivery (event ∷ own) new) → terms_of new.patient ≡ terms_of old.patient → Followed (event ∷ events) later now
   goes event events session later old new before now is exact at becomes more same =
       let (command, way) = subst (λ (o : Option Delivery). IsInHand file session.durations session.update at.own o) is at.hand in
       subst (λ (s : Session). Followed (event ∷ events) s now) (sym exact)
@@ -244,13 +245,19 @@ module _ (file : List ℕ) (start : Module) where
   made_by events session later step before now None is asks exact at makes = absurd (none_does file session step.op is asks)
   made_by events session later step before now (Some delivery) is asks exact at makes =
       goes (Made step) events session later delivery (delivery_after delivery step.reply) before now is exact at (λ mid own since. (before, since, makes))
-      (λ own told. told_delivery delivery own step.op step.reply (answered before now step makes) told (delivery_does file session delivery step.op is asks)) (same_terms delivery step.reply)
+      (λ own told. let does = delivery_does file session delivery step.op is asks in (
+        told_delivery delivery own step.op step.reply (answered before now step makes) told.0 does,
+        subst (λ (t : Terms). turns.HasTurned t (Made step ∷ own) (delivery_after delivery step.reply)) (sym (same_terms delivery step.reply)) (delivery, told.1, does, refl),
+      )) (same_terms delivery step.reply)
 
   waited_by : (events : Events) (session later : Session) (time : ℕ) (before now : Module) (o : Option Delivery) → session.delivery ≡ o → wanted session ≡ Wait time → HasRestedBy file session o later
       → Followed events session before → ((mid : Module) (own : Events) → Becomes mid own before → Becomes mid (Waited time ∷ own) now) → Followed (Waited time ∷ events) later now
   waited_by events session later time before now None is asks rested at becomes = absurd (none_waits file session time is asks)
   waited_by events session later time before now (Some delivery) is asks (rested, has, exact) at becomes =
-      goes (Waited time) events session later delivery rested before now is exact at becomes (λ own told. has.told own time (delivery_waits file session delivery time is asks) told) has.terms
+      goes (Waited time) events session later delivery rested before now is exact at becomes (λ own told. let waits = delivery_waits file session delivery time is asks in (
+        has.told own time waits told.0,
+        subst (λ (t : Terms). turns.HasTurned t (Waited time ∷ own) rested) (sym has.terms) (delivery, told.1, waits, has),
+      )) has.terms
 
   follows : (events : Events) (session : Session) (new : Module) → HasTurned file events session → Becomes start events new → Followed events session new
   follows [] session new is same = subst (λ (s : Session). Followed [] s new) (sym is) (begins new same)
