@@ -15,7 +15,7 @@ static struct dovecounter_module module;
 static struct dovecounter_port port;
 static struct dovecounter_port_next next;
 static struct dovecounter_port_outcome outcome;
-static struct dovecounter_wanted wanted = {.stay = 1, .paired = 0, .most_power = 255};
+static struct dovecounter_wanted wanted = {.stay = 1, .paired = 0, .most_power = 255, .may_take_down = 0xFF};
 static struct dovecounter_plan plan;
 static const struct dovecounter_path kept[1];
 static uint64_t now;
