@@ -191,8 +191,3 @@ def crate_names():
     lines = [it.partition("#")[0].partition(":") for it in read(f"{ROOT}/crates.txt").split("\n")]
     crates = {name.split()[0]: words.split() for name, _, words in lines if name.strip()}
     return {name: [it for it in words if it in crates] for name, words in crates.items()}
-
-
-def trials():
-    """The crates that have only tests, of what stands below them."""
-    return [it for it in crate_names() if it.endswith("trials")]
