@@ -1,0 +1,3 @@
+pub mod ControlsBack
+pub mod SelectionsBack
+pub mod TestsBack
