@@ -10,11 +10,12 @@
      A module's firmware          look at it, update it
      Single lanes                 switch outputs, polarity and squelch
      Signal integrity settings    look at them, change them while lanes are up
+     Tests of links               make and check patterns, loop lanes back
      A port's manager             keep the module in a port as wanted
      A simulated module           a module without hardware
 
-   Every function except dovecounter_run, _update_run, _lane_run and _settings_run is proved to return and to do what this
-   file says, except where it says "tested". Nothing is proved about real modules. No function allocates, prints, waits, keeps a pointer or has state
+   Every function except dovecounter_run, _update_run, _lane_run, _settings_run and _link_test_run is proved to return and to do what
+   this file says, except where it says "tested". Nothing is proved about real modules. No function allocates, prints, waits, keeps a pointer or has state
    of its own, so calls may run in parallel unless one writes what another uses.
 
    You have to ensure what no function can check:
@@ -45,8 +46,8 @@ extern "C" {
 
    Each function returns the first of its statuses that applies, and 0 if none does. With any status but 0 it has
    written nothing, with these exceptions: dovecounter_certificate writes the text's length if the buffer is too small,
-   and dovecounter_weights the number of the faulty line; dovecounter_run, _update_run, _lane_run and _settings_run have
-   gone on up to the reply that they return status 34 for.
+   and dovecounter_weights the number of the faulty line; dovecounter_run, _update_run, _lane_run,
+   _settings_run and _link_test_run have gone on up to the reply that they return status 34 for.
 
      status_text, fault_text, verdict_text   3 4
      code_name                               3 4
@@ -65,7 +66,8 @@ extern "C" {
      next                                    31 32
      reply                                   31 32 34
      end                                     31 33
-     run, update_run, lane_run, settings_run 31 34
+     run, update_run, lane_run               31 34
+     settings_run, link_test_run             31 34
      port_plug to port_next                  31
      port_take                               31 34
      update_next                             31 32
@@ -81,6 +83,11 @@ extern "C" {
      settings_next                           31 32
      settings_reply                          31 32 34
      settings_end                            31 33
+     link_test_begin, _stop, _changes        31
+     link_test_next                          31 32
+     link_test_reply                         31 32 34
+     link_test_end                           31 33
+     link_results                            31
      module_begin                            1 2 51, then as advertisement, then 53 54
      module_fetch, module_store              as advertisement, then 61 62 63
      module_tick, module_pin, module_active  61
@@ -1152,6 +1159,251 @@ static inline uint32_t dovecounter_lane_run(struct dovecounter_changing_lanes *c
         else
             outcome = transact(context, &operation, bytes);
         status = dovecounter_lane_reply(changing, outcome, bytes, operation.count);
+        if (status != DOVECOUNTER_DONE) return status;
+    }
+    return status == DOVECOUNTER_ENDED ? (uint32_t)DOVECOUNTER_DONE : status;
+}
+
+/* ---- Tests of links ----
+
+   A test of patterns and loopbacks (pages 13h and 14h), under way (docs/lanes.md). It touches no bus, as a change of lanes
+   doesn't: dovecounter_link_test_next names the operation to make, and dovecounter_link_test_reply takes its outcome, until
+   dovecounter_link_test_end says how it ended; dovecounter_link_test_run is that loop. Nobody else may use the module meanwhile.
+
+   It reads what the module can do and which data paths are up, and refuses a plan before it stores anything. Then it switches
+   on what the plan has, and no other bit of page 13h, reads results, and switches all of that off again, the newest first; each
+   store is read back. Whatever the bus refuses, and wherever it stops, each control that was stored is as before, or
+   dovecounter_link_test_changes names it. */
+
+enum dovecounter_link_side { DOVECOUNTER_HOST_SIDE = 0, DOVECOUNTER_MEDIA_SIDE = 1 };
+
+enum dovecounter_link_pattern {
+    DOVECOUNTER_PRBS31Q = 0,
+    DOVECOUNTER_PRBS31 = 1,
+    DOVECOUNTER_PRBS23Q = 2,
+    DOVECOUNTER_PRBS23 = 3,
+    DOVECOUNTER_PRBS15Q = 4,
+    DOVECOUNTER_PRBS15 = 5,
+    DOVECOUNTER_PRBS13Q = 6,
+    DOVECOUNTER_PRBS13 = 7,
+    DOVECOUNTER_PRBS9Q = 8,
+    DOVECOUNTER_PRBS9 = 9,
+    DOVECOUNTER_PRBS7Q = 10,
+    DOVECOUNTER_PRBS7 = 11,
+    DOVECOUNTER_SSPRQ = 12,
+    DOVECOUNTER_VENDOR_PATTERN = 14,
+    DOVECOUNTER_USER_PATTERN = 15,
+    DOVECOUNTER_NO_PATTERN = 255
+};
+
+enum dovecounter_link_loopback {
+    DOVECOUNTER_NO_LOOPBACK = 0,
+    DOVECOUNTER_MEDIA_SIDE_OUTPUT = 1,
+    DOVECOUNTER_MEDIA_SIDE_INPUT = 2,
+    DOVECOUNTER_HOST_SIDE_OUTPUT = 3,
+    DOVECOUNTER_HOST_SIDE_INPUT = 4
+};
+
+/* Which results page 14h shows: error ratios or signal to noise of all lanes, or counts of four lanes of a side. 0x10 more selects
+   those of the last gate time, but for signal to noise. */
+enum dovecounter_link_shown {
+    DOVECOUNTER_ERROR_RATIOS = 1,
+    DOVECOUNTER_COUNTS_OF_HOST_1_TO_4 = 2,
+    DOVECOUNTER_COUNTS_OF_HOST_5_TO_8 = 3,
+    DOVECOUNTER_COUNTS_OF_MEDIA_1_TO_4 = 4,
+    DOVECOUNTER_COUNTS_OF_MEDIA_5_TO_8 = 5,
+    DOVECOUNTER_SIGNAL_TO_NOISE = 6
+};
+
+/* What to test. */
+struct dovecounter_link_plan {
+    uint32_t
+        period;     /* milliseconds before each reading of results; 100 at least, or they may be of another selection */
+    uint8_t rounds; /* how often results are read; 0 counts as 1 */
+    uint8_t shown;  /* enum dovecounter_link_shown */
+    uint8_t gate;   /* 0 if results aren't gated, else the code of the gate time, to 7 */
+    uint8_t side;   /* enum dovecounter_link_side, of the pattern */
+    uint8_t lanes;  /* of that side */
+    uint8_t generator;      /* enum dovecounter_link_pattern: what the module makes on these lanes */
+    uint8_t checker;        /* what it checks there */
+    uint8_t loopback;       /* enum dovecounter_link_loopback */
+    uint8_t looped;         /* lanes of the loopback's side; 0xFF if the module has no single ones */
+    uint8_t permitted;      /* host lanes that may be disturbed though their data path is up */
+    uint8_t tries;          /* how often each control may be stored again */
+    uint8_t media_paths[8]; /* the host lanes of the data path of each media lane; 0xFF where you don't know them */
+};
+
+/* Bits of a control of page 13h. */
+struct dovecounter_link_switch {
+    uint8_t control; /* its byte on page 13h; 0 for none */
+    uint8_t mask;    /* which bits */
+    uint8_t bits;    /* to what they are switched */
+};
+
+/* A control that was switched. */
+struct dovecounter_link_change {
+    struct dovecounter_link_switch what;
+    uint8_t original; /* the control before the test: its bits in the mask are to be restored */
+};
+
+/* What a test under way is to do. */
+struct dovecounter_link_work {
+    uint32_t period;
+    uint8_t count;
+    uint8_t permitted;
+    uint8_t tries;
+    uint8_t shown;
+    uint8_t rounds;
+    uint8_t media_paths[8];
+    struct dovecounter_link_switch switches[16];
+};
+
+/* A test under way. Copy it and save it; change nothing. Changed numbers are refused, or taken for another test. */
+struct dovecounter_link_test {
+    uint32_t magic;
+    uint32_t idle;
+    uint32_t pause;
+    uint32_t limit;
+    struct dovecounter_link_work plan;
+    uint64_t next_switch;
+    uint16_t steps;
+    uint16_t most_steps;
+    uint8_t stage;
+    uint8_t byte;
+    struct dovecounter_link_change hand;
+    uint8_t tries;
+    uint8_t rounds; /* once results are read: how often they still are to be */
+    uint8_t fault;
+    uint8_t fault_control;
+    uint8_t on_count;
+    uint8_t still_on_count;
+    uint8_t shown_count;
+    uint8_t due;
+    uint8_t doubts;
+    uint8_t selection;
+    uint8_t page;
+    uint8_t taken;
+    uint8_t taken_page;
+    uint8_t flags[8];
+    struct dovecounter_link_change on[16];
+    struct dovecounter_link_change still_on[16];
+    uint8_t shown[128];
+};
+
+/* Begins a test, of 4096 operations at most. Status 31 means that there is no such side, pattern, loopback, gate or selection of results.
+   What a module can't do, or which lanes are up, the test finds out before it stores anything. */
+uint32_t dovecounter_link_test_begin(const struct dovecounter_link_plan *plan,
+                                     const struct dovecounter_patience *patience, struct dovecounter_link_test *test);
+
+/* Writes what to do now. */
+uint32_t dovecounter_link_test_next(const struct dovecounter_link_test *test, struct dovecounter_operation *operation);
+
+/* Takes the outcome of that operation, as dovecounter_reply does. */
+uint32_t dovecounter_link_test_reply(struct dovecounter_link_test *test, uint8_t outcome, const uint8_t *bytes,
+                                     size_t byte_count);
+
+/* Has the test switch off what is on, and end: go on with it as before. A test that has done so already, or ended, stays as it is. */
+uint32_t dovecounter_link_test_stop(struct dovecounter_link_test *test);
+
+enum dovecounter_link_outcome {
+    DOVECOUNTER_LINK_TESTED = 0,         /* results were read as often as wanted, while all of the plan was on */
+    DOVECOUNTER_LINK_SWITCHED_TWICE = 1, /* the plan has a control twice; no plan of dovecounter_link_test_begin does */
+    /* from here up to 6 the plan was refused, and nothing was stored */
+    DOVECOUNTER_LINK_NO_PAGES = 2,      /* the module has no pages 13h and 14h */
+    DOVECOUNTER_LINK_UNSUPPORTED = 3,   /* it doesn't advertise this pattern, loopback or gate */
+    DOVECOUNTER_LINK_NO_RESULTS = 4,    /* it doesn't advertise such results */
+    DOVECOUNTER_LINK_BOTH_SIDES = 5,    /* it doesn't advertise loopbacks of both sides at once */
+    DOVECOUNTER_LINK_NOT_PERMITTED = 6, /* a lane that is up would be disturbed */
+    DOVECOUNTER_LINK_STOPPED = 7,       /* by dovecounter_link_test_stop */
+    DOVECOUNTER_LINK_NOT_SWITCHED = 8,  /* a control shows something else than was stored */
+    DOVECOUNTER_LINK_TOO_MANY = 9,      /* no more can be kept; no plan of dovecounter_link_test_begin has so many */
+    DOVECOUNTER_LINK_OVERDUE = 10,      /* out of patience */
+    DOVECOUNTER_LINK_GAVE_UP = 11       /* 4096 operations */
+};
+
+struct dovecounter_link_end {
+    uint8_t outcome; /* enum dovecounter_link_outcome */
+    uint8_t control; /* the byte on page 13h that it is about, or 0 */
+};
+
+/* Writes how it ended. */
+uint32_t dovecounter_link_test_end(const struct dovecounter_link_test *test, struct dovecounter_link_end *end);
+
+/* Controls that may be on. */
+struct dovecounter_link_changes {
+    struct dovecounter_link_change changes[33];
+    uint8_t count;
+};
+
+/* Writes the controls that were stored and may be on, as far as is known now: at the end those that couldn't be switched off, if it
+   didn't end before. All others have the bits that they had before. */
+uint32_t dovecounter_link_test_changes(const struct dovecounter_link_test *test,
+                                       struct dovecounter_link_changes *changes);
+
+/* What is known of a lane; zeros for all else. */
+struct dovecounter_link_lane {
+    uint64_t errors;
+    uint64_t bits;
+    uint16_t mantissa; /* the error ratio is exactly mantissa * 10^power */
+    uint16_t noise;    /* signal to noise in 1/256 dB */
+    int8_t power;
+    uint8_t known; /* 1: the ratio; 2: errors and bits; 4: signal to noise; 0: nothing */
+};
+
+/* What the module showed last, and which lanes lost lock in any round. */
+struct dovecounter_link_results {
+    struct dovecounter_link_lane host[8];
+    struct dovecounter_link_lane media[8];
+    uint8_t lost_clock; /* 1 if the reference clock was lost */
+    uint8_t host_generator;
+    uint8_t media_generator;
+    uint8_t host_checker;
+    uint8_t media_checker;
+};
+
+/* Writes what the test has shown so far, also while it goes on. Of counts and signal to noise the lowest byte comes first; the highest, unless
+   `big_endian` is 0. */
+uint32_t dovecounter_link_results(const struct dovecounter_link_test *test, uint8_t big_endian,
+                                  struct dovecounter_link_results *results);
+
+/* What a module can do. Numbers without a comment are 1 or 0. */
+struct dovecounter_link_capabilities {
+    uint16_t host_generator; /* bit n: pattern n */
+    uint16_t media_generator;
+    uint16_t host_checker;
+    uint16_t media_checker;
+    uint8_t diagnostics; /* 0 if it has no pages 13h and 14h; then all is 0 */
+    uint8_t loopbacks;   /* bit n - 1: loopback n */
+    uint8_t single_host_lanes;
+    uint8_t single_media_lanes;
+    uint8_t both_sides;
+    uint8_t ratios;
+    uint8_t counts;
+    uint8_t host_noise;
+    uint8_t media_noise;
+    uint8_t gates;
+};
+
+/* Writes what byte 142 of page 01h and bytes 128 to 139 of page 13h advertise. */
+void dovecounter_link_capabilities(uint8_t byte_142, const uint8_t bytes[12],
+                                   struct dovecounter_link_capabilities *capabilities);
+
+/* Carries a test out, as dovecounter_run does. */
+static inline uint32_t dovecounter_link_test_run(struct dovecounter_link_test *test,
+                                                 uint8_t (*transact)(void *context,
+                                                                     const struct dovecounter_operation *operation,
+                                                                     uint8_t bytes[128]),
+                                                 void (*pause)(void *context, uint32_t milliseconds), void *context) {
+    struct dovecounter_operation operation;
+    uint8_t bytes[128];
+    uint32_t status;
+    while ((status = dovecounter_link_test_next(test, &operation)) == DOVECOUNTER_DONE) {
+        uint8_t outcome = DOVECOUNTER_WAITED;
+        if (operation.kind == DOVECOUNTER_WAIT)
+            pause(context, operation.milliseconds);
+        else
+            outcome = transact(context, &operation, bytes);
+        status = dovecounter_link_test_reply(test, outcome, bytes, operation.count);
         if (status != DOVECOUNTER_DONE) return status;
     }
     return status == DOVECOUNTER_ENDED ? (uint32_t)DOVECOUNTER_DONE : status;

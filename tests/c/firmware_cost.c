@@ -240,6 +240,34 @@ static void *switches(void *x) {
     return x;
 }
 
+static const struct dovecounter_link_plan loops = {.shown = DOVECOUNTER_ERROR_RATIOS,
+                                                   .generator = DOVECOUNTER_PRBS31Q,
+                                                   .checker = DOVECOUNTER_PRBS31Q,
+                                                   .lanes = 0xFF,
+                                                   .permitted = 0xFF,
+                                                   .loopback = DOVECOUNTER_HOST_SIDE_OUTPUT,
+                                                   .looped = 0xFF};
+static struct dovecounter_link_test testing;
+static struct dovecounter_link_end link_end;
+static struct dovecounter_link_changes link_changes;
+static struct dovecounter_link_results link_results;
+
+/* All operations of a test of a link, each answered. */
+static void *tests_links(void *x) {
+    dovecounter_link_test_begin(&loops, &patience, &testing);
+    for (int made = 0; made < 100; made++) {
+        if (dovecounter_link_test_next(&testing, &operation) != DOVECOUNTER_DONE) break;
+        uint8_t reply = operation.kind == DOVECOUNTER_WAIT ? DOVECOUNTER_WAITED : transact(0, &operation, fetched);
+        size_t count = reply == DOVECOUNTER_FETCHED ? operation.count : 0;
+        if (made == 50) dovecounter_link_test_stop(&testing);
+        dovecounter_link_test_reply(&testing, reply, fetched, count);
+    }
+    dovecounter_link_test_end(&testing, &link_end);
+    dovecounter_link_test_changes(&testing, &link_changes);
+    dovecounter_link_results(&testing, 0, &link_results);
+    return x;
+}
+
 static const struct dovecounter_settings_limits limits = {.amplitudes = 15, .pre_cursor = 7};
 static const struct dovecounter_settings_change tunes = {
     .lanes = 0x0C, .permitted = 0xFF, .tries = 3, .targets.pre_cursor = {[2] = 7, [3] = 7}};
@@ -307,6 +335,7 @@ int main(void) {
     if (port.stage != DOVECOUNTER_PORT_PROVISIONING && port.stage != DOVECOUNTER_PORT_WAKING) return 1;
     print_used("the calls of an update", updates, alone);
     print_used("the calls of a change of lanes", switches, alone);
+    print_used("the calls of a test of a link", tests_links, alone);
     print_used("dovecounter_settings", has_settings, alone);
     print_used("the calls of a change of settings", tunes_lanes, alone);
     return 0;

@@ -461,6 +461,111 @@ AT(lane_end, byte, 1);
 AT(lane_end, lanes, 2);
 AT(lane_end, stores, 3);
 
+SIZE(link_plan, 24);
+AT(link_plan, period, 0);
+AT(link_plan, rounds, 4);
+AT(link_plan, shown, 5);
+AT(link_plan, gate, 6);
+AT(link_plan, side, 7);
+AT(link_plan, lanes, 8);
+AT(link_plan, generator, 9);
+AT(link_plan, checker, 10);
+AT(link_plan, loopback, 11);
+AT(link_plan, looped, 12);
+AT(link_plan, permitted, 13);
+AT(link_plan, tries, 14);
+AT(link_plan, media_paths, 15);
+
+SIZE(link_switch, 3);
+AT(link_switch, control, 0);
+AT(link_switch, mask, 1);
+AT(link_switch, bits, 2);
+
+SIZE(link_change, 4);
+AT(link_change, what, 0);
+AT(link_change, original, 3);
+
+SIZE(link_work, 68);
+AT(link_work, period, 0);
+AT(link_work, count, 4);
+AT(link_work, permitted, 5);
+AT(link_work, tries, 6);
+AT(link_work, shown, 7);
+AT(link_work, rounds, 8);
+AT(link_work, media_paths, 9);
+AT(link_work, switches, 17);
+
+SIZE(link_test, 384);
+AT(link_test, magic, 0);
+AT(link_test, idle, 4);
+AT(link_test, pause, 8);
+AT(link_test, limit, 12);
+AT(link_test, plan, 16);
+AT(link_test, next_switch, 88);
+AT(link_test, steps, 96);
+AT(link_test, most_steps, 98);
+AT(link_test, stage, 100);
+AT(link_test, byte, 101);
+AT(link_test, hand, 102);
+AT(link_test, tries, 106);
+AT(link_test, rounds, 107);
+AT(link_test, fault, 108);
+AT(link_test, fault_control, 109);
+AT(link_test, on_count, 110);
+AT(link_test, still_on_count, 111);
+AT(link_test, shown_count, 112);
+AT(link_test, due, 113);
+AT(link_test, doubts, 114);
+AT(link_test, selection, 115);
+AT(link_test, page, 116);
+AT(link_test, taken, 117);
+AT(link_test, taken_page, 118);
+AT(link_test, flags, 119);
+AT(link_test, on, 127);
+AT(link_test, still_on, 191);
+AT(link_test, shown, 255);
+
+SIZE(link_end, 2);
+AT(link_end, outcome, 0);
+AT(link_end, control, 1);
+
+SIZE(link_changes, 133);
+AT(link_changes, changes, 0);
+AT(link_changes, count, 132);
+
+SIZE(link_lane, 24);
+AT(link_lane, errors, 0);
+AT(link_lane, bits, 8);
+AT(link_lane, mantissa, 16);
+AT(link_lane, noise, 18);
+AT(link_lane, power, 20);
+AT(link_lane, known, 21);
+
+SIZE(link_results, 392);
+AT(link_results, host, 0);
+AT(link_results, media, 192);
+AT(link_results, lost_clock, 384);
+AT(link_results, host_generator, 385);
+AT(link_results, media_generator, 386);
+AT(link_results, host_checker, 387);
+AT(link_results, media_checker, 388);
+
+SIZE(link_capabilities, 18);
+AT(link_capabilities, host_generator, 0);
+AT(link_capabilities, media_generator, 2);
+AT(link_capabilities, host_checker, 4);
+AT(link_capabilities, media_checker, 6);
+AT(link_capabilities, diagnostics, 8);
+AT(link_capabilities, loopbacks, 9);
+AT(link_capabilities, single_host_lanes, 10);
+AT(link_capabilities, single_media_lanes, 11);
+AT(link_capabilities, both_sides, 12);
+AT(link_capabilities, ratios, 13);
+AT(link_capabilities, counts, 14);
+AT(link_capabilities, host_noise, 15);
+AT(link_capabilities, media_noise, 16);
+AT(link_capabilities, gates, 17);
+
 SIZE(signal_targets, 43);
 AT(signal_targets, adaptive, 0);
 AT(signal_targets, recall, 1);

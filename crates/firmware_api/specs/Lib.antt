@@ -25,5 +25,6 @@ pub mod Changes
 pub mod KeptPorts
 pub mod Updates
 pub mod LanesTold
+pub mod LinkTestsTold
 pub mod ObservableNumbers
 pub mod SettingsTold

@@ -1,6 +1,7 @@
 //! What C calls: what a module is, measures and warns of, its Applications, a plan of its lanes, the check of a
 //! certificate, the longest that its states last, conversations with it that are told what the caller's bus answered, the
-//! manager of a port, updates of a module's firmware, changes of single lanes and of their settings, and simulated modules.
+//! manager of a port, updates of a module's firmware, changes of single lanes and of their settings, tests of links, and simulated
+//! modules.
 #![tactic(auto)]
 
 mod advertisement;
@@ -16,6 +17,7 @@ mod judging;
 mod kept;
 mod lanes;
 pub mod laws;
+mod link_tests;
 mod measured_values;
 mod monitors;
 mod observable_numbers;
