@@ -69,6 +69,17 @@ static void read_rare_word(const char *word, unsigned value) {
     if (strcmp(word, "locked") == 0) shim.locked = true;
 }
 
+/* Words of pages 13h and 14h. */
+static void read_link_word(const char *word, unsigned value) {
+    struct diagnostics *diagnostics = &shim.diagnostics;
+    if (strcmp(word, "links") == 0) shim.links = true;
+    if (strncmp(word, "errors=", 7) == 0) diagnostics->rate = value;
+    if (strncmp(word, "held=", 5) == 0) diagnostics->held = (uint8_t)value;
+    if (strncmp(word, "loopbacks=", 10) == 0) diagnostics->controls[0] = (uint8_t)value;
+    if (strncmp(word, "results=", 8) == 0) diagnostics->controls[2] = (uint8_t)value;
+    if (strcmp(word, "tests-none") == 0) diagnostics->fixed = true;
+}
+
 /* Words of the firmware. */
 static void read_firmware_word(const char *word, unsigned value) {
     struct two_banks *firmware = &shim.firmware;
@@ -94,6 +105,7 @@ static void read_word(const char *word) {
     const char *after = strchr(word, '=');
     if (after != NULL) value = (unsigned)strtoul(after + 1, NULL, 0);
     read_rare_word(word, value);
+    read_link_word(word, value);
     read_firmware_word(word, value);
     sscanf(word, "image=%255s", shim.image);
     sscanf(word, "out=%255s", shim.out);
@@ -139,6 +151,13 @@ static void advertise_firmware(void) {
     write_sum(1);
 }
 
+/* A module with pages 13h and 14h advertises them in bit 5 of byte 142 of page 01h. */
+static void advertise_links(void) {
+    shim.module.present[0x13] = shim.module.present[0x14] = true;
+    shim.module.pages[1][142 - 128] |= 0x20;
+    write_sum(1);
+}
+
 /* A sum is right again after each byte but itself. */
 static void change_bytes(void) {
     for (const struct shim_byte *each = shim.bytes; each < shim.bytes + shim.byte_count; each++) {
@@ -162,6 +181,7 @@ static void begin(void) {
     char *copy = strdup(words != NULL ? words : ""), *rest = NULL;
     if (copy == NULL) abort();
     begin_emulator(&shim.module, 1);
+    begin_diagnostics(&shim.diagnostics);
     begin_two_banks(&shim.firmware, 1);
     load_bank(&shim.firmware, 0, (const uint8_t *)"\1\2\0\3", 4);
     for (char *word = strtok_r(copy, " ", &rest); word != NULL; word = strtok_r(NULL, " ", &rest)) read_word(word);
@@ -170,6 +190,7 @@ static void begin(void) {
     load_image(&shim.module, shim.image);
     if (shim.durations != 0) advertise_durations();
     if (shim.banks) advertise_firmware();
+    if (shim.links) advertise_links();
     change_bytes();
     power_up(&shim.module);
     shim.fresh = shim.module;
@@ -195,6 +216,7 @@ __attribute__((destructor)) static void tell(void) {
     if (out == NULL) return;
     fwrite(text, 1, describe(&shim.module, text, sizeof text), out);
     if (shim.banks) tell_firmware(out);
+    if (shim.links) fwrite(text, 1, describe_diagnostics(&shim.diagnostics, text, sizeof text), out);
     fclose(out);
 }
 
@@ -224,6 +246,7 @@ static bool reaches(void) {
     for (int64_t until = microseconds() / 1000; shim.lived < until; shim.lived++) {
         pass_millisecond(&shim.module);
         if (shim.banks) pass_time(&shim.firmware, 1);
+        if (shim.links) pass_diagnostics(&shim.diagnostics);
         if (shim.firmware.off_left > 0) store_byte(&shim.module, 127, 0); /* a reset selects page 00h */
     }
     errno = shim.error;
@@ -236,16 +259,23 @@ static bool reaches(void) {
     return false;
 }
 
+static bool is_of_links(uint8_t address) {
+    return shim.links && address >= 128 && (shim.module.page == 0x13 || shim.module.page == 0x14);
+}
+
 static bool is_of_block(uint8_t address) { return shim.banks && address >= 128 && shim.module.page == 0x9F; }
 
 static uint8_t fetch_one(uint8_t address) {
     if (shim.banks && address == 37) return fetch_status(&shim.firmware);
+    if (is_of_links(address)) return fetch_diagnostics(&shim.diagnostics, shim.module.page, address);
     return is_of_block(address) ? fetch_of_block(&shim.firmware, address) : fetch_byte(&shim.module, address);
 }
 
 static void store_one(uint8_t address, uint8_t byte) {
     if (is_of_block(address))
         store_to_block(&shim.firmware, address, byte);
+    else if (is_of_links(address))
+        store_diagnostics(&shim.diagnostics, shim.module.page, address, byte);
     else
         store_byte(&shim.module, address, byte);
 }

@@ -3,6 +3,7 @@
    what it is to be from the environment (PORT, words as in `image=FILE refuse=40`); linked in, from who calls. */
 #ifndef SHIM_H
 #define SHIM_H
+#include "diagnostics.h"
 #include "emulator.h"
 #include "two_banks.h"
 
@@ -43,6 +44,8 @@ struct shim {
     size_t byte_count;
 
     /* its firmware, if it has a command data block */
+    struct diagnostics diagnostics;
+    bool links; /* the module has them */
     struct two_banks firmware;
     bool banks;
     char keep[256]; /* a file for the image that runs at the end */

@@ -40,7 +40,7 @@ static const char *const outcome_sentences[7] = {"",
                                                  "4096 operations were not enough to change lanes"};
 
 /* Lanes as in `1,3,4`; 0 if they are none. */
-static uint8_t read_lanes(const char *word) {
+uint8_t lanes_of_word(const char *word) {
     unsigned lanes = 0;
     for (size_t at = 0;; at += 2) {
         if (word[at] < '1' || word[at] > '8') return 0;
@@ -53,7 +53,7 @@ static uint8_t read_lanes(const char *word) {
 bool read_change(struct port *port, const char *name, const char *word, const char *lanes) {
     for (const struct setting *each = settings; each < settings + sizeof settings / sizeof *settings; each++) {
         if (strcmp(name, each->name) != 0 || strcmp(word, each->word) != 0) continue;
-        port->change = (struct dovecounter_lane_change){each->control, read_lanes(lanes), each->on, STORES, 0, {0}};
+        port->change = (struct dovecounter_lane_change){each->control, lanes_of_word(lanes), each->on, STORES, 0, {0}};
         memset(port->change.media_paths, 0xFF, sizeof port->change.media_paths); /* a module doesn't show them */
         return port->change.lanes != 0;
     }

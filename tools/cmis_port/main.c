@@ -16,6 +16,8 @@ static const char usage[] =
     "       cmis-port BUS tx-polarity | rx-polarity normal | flipped LANES\n"
     "       cmis-port BUS tx-squelch | rx-squelch auto | disabled LANES\n"
     "       cmis-port BUS tx-squelch forced | released LANES\n"
+    "       cmis-port BUS loopback media | host output | input [LANES]\n"
+    "       cmis-port BUS prbs --side media | host --pattern PATTERN --for TIME\n"
     "       cmis-port BUS settings [set lane=LANES SETTING=VALUE ..]\n"
     "  BUS             /dev/i2c-N, the eeprom file of the driver optoe, or sim:IMAGE[,SCRIPT] to simulate a module\n"
     "  LANES           such as 3 or 1,3,4: media lanes of tx and tx-squelch, else host lanes\n"
@@ -32,6 +34,8 @@ static const char usage[] =
     "    update        write FILE to the bank that doesn't run, run it, and commit it\n"
     "  lanes           print which lanes have which control: outputs disabled, polarity flipped and so on\n"
     "  tx, rx          switch outputs of these lanes on or off; so their polarity, and their squelch\n"
+    "  loopback        loop lanes back, all if none are named, for a time or until a signal comes\n"
+    "  prbs            make and check a pattern, such as PRBS31Q, and print what each lane has shown\n"
     "  settings        print the signal integrity settings of each lane, and what the module can do\n"
     "    set           change some: adaptive, cdr-tx, cdr-rx (on, off), recall, input, pre, post, amplitude (a code)\n"
     "  --keep A,H,M    keep a data path that is active: its Application, first host lane, first media lane\n"
@@ -43,7 +47,11 @@ static const char usage[] =
     "  --wake          take the module out of low power first\n"
     "  --reset         let an update restart the module, which takes its lanes down\n"
     "  --no-commit     end an update once the new image runs\n"
-    "  --json          print of firmware, of the progress of an update, of lanes and settings a line of JSON each\n"
+    "  --for TIME      such as 60s, 5m or 2h: test a link for so long\n"
+    "  --lanes LANES   make and check the pattern on these lanes of the side alone\n"
+    "  --loopback X    loop them back meanwhile: media-output, media-input, host-output or host-input\n"
+    "  --show X        print error ratios, counts (of lanes 1 to 4 or 5 to 8), or noise\n"
+    "  --json          print of firmware, of progress, of lanes, links and settings a line of JSON each\n"
     "  --log FILE      write each transaction to FILE\n"
     "Examples:\n"
     "  cmis-port /dev/i2c-7 image | cmisctl inventory\n"
@@ -72,6 +80,12 @@ static bool take_flag(struct port *port, int flag) {
     case 'n': return port->no_commit = true;
     case 'j': return port->json = true;
     case 'h': return port->help = true;
+    case 's': return (port->words.side = optarg) != NULL;
+    case 'p': return (port->words.pattern = optarg) != NULL;
+    case 'L': return (port->words.lanes = optarg) != NULL;
+    case 't': return (port->words.time = optarg) != NULL;
+    case 'S': return (port->words.shown = optarg) != NULL;
+    case 'b': return (port->words.loopback = optarg) != NULL;
     default: return false;
     }
 }
@@ -89,6 +103,12 @@ static bool read_flags(int count, char **words, struct port *port) {
                                           {"reset", no_argument, NULL, 'r'},
                                           {"no-commit", no_argument, NULL, 'n'},
                                           {"json", no_argument, NULL, 'j'},
+                                          {"side", required_argument, NULL, 's'},
+                                          {"pattern", required_argument, NULL, 'p'},
+                                          {"lanes", required_argument, NULL, 'L'},
+                                          {"for", required_argument, NULL, 't'},
+                                          {"show", required_argument, NULL, 'S'},
+                                          {"loopback", required_argument, NULL, 'b'},
                                           {0}};
     int flag;
     optind = 0;
@@ -106,7 +126,8 @@ struct command {
     bool resets, shows;                                /* it takes --reset and --no-commit; it takes --json */
     bool borrows;                                      /* it may have the bus of a port that cmisd keeps */
     bool sets;                                         /* its words are followed by a setting and lanes */
-    bool tunes;                                        /* its words are followed by settings with their values */
+    bool loops, checks; /* by a side, a kind and perhaps lanes; by flags about a pattern */
+    bool tunes;         /* its words are followed by settings with their values */
 };
 
 static bool read_host(struct port *port, const char *name) { return read_weights(name, port->weights); }
@@ -114,6 +135,9 @@ static bool read_host(struct port *port, const char *name) { return read_weights
 static bool is_stray(const struct port *port, const struct command *command) {
     bool asks = port->kept_count > 0 || port->unpaired || port->counts_by_id;
     bool changes = port->activate || port->ensure || port->wake;
+    const struct link_words *words = &port->words;
+    bool of_pattern = words->side || words->pattern || words->lanes || words->shown || words->loopback;
+    if ((of_pattern && !command->checks) || (words->time && !command->checks && !command->loops)) return true;
     return (asks && !command->plans) || (changes && !command->stores) || (port->force && !command->forces) ||
            ((port->reset || port->no_commit) && !command->resets) || (port->json && !command->shows);
 }
@@ -145,14 +169,20 @@ static const struct command *read_words(int count, char **words, struct port *po
         {.name = "tx-polarity", .run = change_lanes, .sets = true, .forces = true, .shows = true},
         {.name = "rx-polarity", .run = change_lanes, .sets = true, .forces = true, .shows = true},
         {.name = "tx-squelch", .run = change_lanes, .sets = true, .forces = true, .shows = true},
-        {.name = "rx-squelch", .run = change_lanes, .sets = true, .forces = true, .shows = true}};
+        {.name = "rx-squelch", .run = change_lanes, .sets = true, .forces = true, .shows = true},
+        {.name = "loopback", .run = test_link, .loops = true, .forces = true, .shows = true},
+        {.name = "prbs", .run = test_link, .checks = true, .forces = true, .shows = true}};
     if (!read_flags(count, words, port) || port->help || optind + 1 >= count) return NULL;
     port->bus.name = words[optind];
     for (const struct command *each = commands; each < commands + sizeof commands / sizeof *commands; each++) {
-        int length = 2 + (each->second != NULL) + (each->read != NULL) + 2 * each->sets, more = count - optind - length;
-        if (more < 0 || (more > 0 && !each->tunes) || strcmp(words[optind + 1], each->name) != 0) continue;
+        int length = 2 + (each->second != NULL) + (each->read != NULL) + 2 * each->sets + 2 * each->loops;
+        int more = count - optind - length; /* the settings, or the lanes of a loopback */
+        if (more < 0 || (more > each->loops && !each->tunes) || strcmp(words[optind + 1], each->name) != 0) continue;
         if (each->second != NULL && strcmp(words[optind + 2], each->second) != 0) continue;
         if (each->sets && !read_change(port, each->name, words[optind + 2], words[optind + 3])) return NULL;
+        const char *lanes = more > 0 ? words[optind + 4] : NULL;
+        if (each->loops && !read_loopback(port, words[optind + 2], words[optind + 3], lanes)) return NULL;
+        if (each->checks && !read_prbs(port)) return NULL;
         if (each->tunes && !read_targets(port, words + optind + length, more)) return NULL;
         return is_stray(port, each) ? NULL : each;
     }

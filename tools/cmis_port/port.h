@@ -9,6 +9,11 @@ enum status { DONE = 0, REFUSED = 1, COMMAND_LINE = 2, NOT_PROVISIONED = 3, IN_U
 enum { SETTINGS = 8 }; /* of a lane's signal */
 enum work { PROVISION, ACTIVATE, WAKE, SLEEP };
 
+/* The words of flags about a link, or NULL. */
+struct link_words {
+    const char *side, *pattern, *lanes, *time, *shown, *loopback;
+};
+
 struct port {
     /* what is asked for */
     const char *log_name;
@@ -17,6 +22,8 @@ struct port {
     struct dovecounter_path kept[9];
     size_t kept_count;
     struct dovecounter_lane_change change;
+    struct dovecounter_link_plan link;
+    struct link_words words;
     uint8_t tuned_lanes;
     int16_t tuned[SETTINGS]; /* what these settings are to be, or -1 */
     uint8_t *file;           /* the firmware */
@@ -51,6 +58,7 @@ void print_now(struct port *port);
 void release_signals(struct port *port);
 bool open_port(struct port *port);
 uint8_t transact(struct port *port, const struct dovecounter_operation *operation, uint8_t bytes[128]);
+uint8_t transact_in_pieces(struct port *port, const struct dovecounter_operation *operation, uint8_t bytes[128]);
 
 /* manager.c */
 bool borrow_bus(struct port *port);
@@ -89,13 +97,19 @@ enum status firmware_abort(struct port *port);
 enum status firmware_update(struct port *port);
 
 /* controls.c */
+uint8_t lanes_of_word(const char *word);
+bool read_switchable(struct port *port);
 uint8_t make_on_lanes(void *context, const struct dovecounter_operation *operation, uint8_t bytes[128]);
 void wait_on_lanes(void *context, uint32_t ms);
-bool read_switchable(struct port *port);
 void print_list(const char *name, unsigned lanes);
 bool read_change(struct port *port, const char *name, const char *word, const char *lanes);
 enum status print_controls(struct port *port);
 enum status change_lanes(struct port *port);
+
+/* links.c */
+bool read_loopback(struct port *port, const char *side, const char *kind, const char *lanes);
+bool read_prbs(struct port *port);
+enum status test_link(struct port *port);
 
 /* settings.c */
 bool read_targets(struct port *port, char **words, int count);

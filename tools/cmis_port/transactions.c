@@ -130,3 +130,17 @@ uint8_t transact(struct port *port, const struct dovecounter_operation *operatio
         take_refusal(port, operation, began, error);
     return !answered ? DOVECOUNTER_REFUSED : stores ? DOVECOUNTER_STORED : DOVECOUNTER_FETCHED;
 }
+
+/* A fetch goes in pieces if the adapter fetches no more at once. */
+uint8_t transact_in_pieces(struct port *port, const struct dovecounter_operation *operation, uint8_t bytes[128]) {
+    struct dovecounter_operation piece = *operation;
+    uint8_t outcome = DOVECOUNTER_REFUSED, most = port->most;
+    for (uint8_t at = 0; at < operation->count; at = (uint8_t)(at + piece.count)) {
+        piece.offset = (uint8_t)(operation->offset + at);
+        piece.count = (uint8_t)(operation->count - at);
+        if (operation->kind == DOVECOUNTER_FETCH && piece.count > most) piece.count = most;
+        outcome = transact(port, &piece, bytes + at);
+        if (outcome == DOVECOUNTER_REFUSED) break;
+    }
+    return outcome;
+}
