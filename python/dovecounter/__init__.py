@@ -20,6 +20,17 @@ from .firmware import (
 )
 from .image import LOWER, Image, Key, page
 from .lanes import LaneChange, LaneControl, LaneEnd, LaneFault, LaneOutcome
+from .link_capabilities import LinkCapabilities, Loopback, Pattern
+from .links import (
+    LinkChange,
+    LinkEnd,
+    LinkFault,
+    LinkLane,
+    LinkOutcome,
+    LinkResults,
+    LinkTest,
+    Shown,
+)
 from .names import Table, code_name, media_name
 from .observables import Amount, AmountLimits, Observable, PassedLimits, Side
 from .planning import (
@@ -130,6 +141,15 @@ __all__ = [
     "LeftModuleReady",
     "Levels",
     "Limits",
+    "LinkCapabilities",
+    "LinkChange",
+    "LinkEnd",
+    "LinkFault",
+    "LinkLane",
+    "LinkOutcome",
+    "LinkResults",
+    "LinkTest",
+    "Loopback",
     "ModuleSignals",
     "ModuleState",
     "Monitors",
@@ -138,6 +158,7 @@ __all__ = [
     "PassedLimits",
     "PathState",
     "Patience",
+    "Pattern",
     "Plan",
     "Port",
     "PortFlag",
@@ -155,6 +176,7 @@ __all__ = [
     "SettingsFault",
     "SettingsOutcome",
     "SettingsReach",
+    "Shown",
     "Side",
     "SignalLimits",
     "SignalSettings",

@@ -20,6 +20,7 @@ from .faults import (
     look_at_type,
 )
 from .details import Details, details_of
+from .link_capabilities import LinkCapabilities, link_capabilities_of
 from .observables import Observable, observable_of
 from .reports import (
     Advertisement,
@@ -105,6 +106,7 @@ _OF_INVENTORY: _Needed = {"RP6": (LOWER, page(0x00)), "SF3": (page(0x00),)}
 _OF_FLAGS: _Needed = {"RP6": (LOWER, page(0x11)), "SF3": (LOWER_A2,)}
 _OF_MONITORS: _Needed = {"RP6": (LOWER, page(0x01), page(0x02), page(0x11)), "SF3": (LOWER_A2,)}
 _OF_OBSERVABLES: _Needed = {"RP6": (LOWER,)}
+_DIAGNOSTICS = 0x20  # of byte 142 of page 01h: it has pages 13h and 14h
 _OF_QSFP_MONITORS: _Needed = {"SF3": (page(0x03),)}
 
 
@@ -301,6 +303,19 @@ class Image:
             if place.value == 0:
                 return tuple(observed)
             observed.append(observable_of(found))
+
+    def link_capabilities(self) -> LinkCapabilities:
+        """What the module can do in tests of a link. Needs page 01h, and page 13h of a module that has
+        it. Raises ValueError if one is missing."""
+        advertised = self._page(0x01)[142 - 128]
+        abilities = self._page(0x13)[:12] if advertised & _DIAGNOSTICS else bytes(12)
+        return link_capabilities_of(advertised, abilities)
+
+    def _page(self, number: int) -> bytes:
+        key = page(number)
+        if key not in self._halves:
+            raise ValueError(f"the image lacks {key}")
+        return self._halves[key]
 
     def signal_settings(self) -> ModuleSignals:
         """The signal integrity settings of each lane. Needs the lower half of 0xA0 and its pages 00h,

@@ -282,6 +282,85 @@ class LaneEnd(Structure):
     _fields_ = _members(c_uint8, "outcome byte lanes stores")
 
 
+Advertised = c_uint8 * 12
+
+
+class LinkPlan(Structure):
+    _fields_ = [
+        ("period", c_uint32),
+        *_members(c_uint8, "rounds shown gate side lanes generator checker loopback looped"),
+        *_members(c_uint8, "permitted tries"),
+        ("media_paths", Lanes),
+    ]
+
+
+class LinkSwitch(Structure):
+    _fields_ = _members(c_uint8, "control mask bits")
+
+
+class LinkChange(Structure):
+    _fields_ = [("what", LinkSwitch), ("original", c_uint8)]
+
+
+class LinkWork(Structure):
+    _fields_ = [
+        ("period", c_uint32),
+        *_members(c_uint8, "count permitted tries shown rounds"),
+        ("media_paths", Lanes),
+        ("switches", LinkSwitch * 16),
+    ]
+
+
+class LinkTest(Structure):
+    _fields_ = [
+        *_members(c_uint32, "magic idle pause limit"),
+        ("plan", LinkWork),
+        ("next_switch", c_uint64),
+        *_members(c_uint16, "steps most_steps"),
+        *_members(c_uint8, "stage byte"),
+        ("hand", LinkChange),
+        *_members(c_uint8, "tries rounds fault fault_control on_count still_on_count shown_count"),
+        *_members(c_uint8, "due doubts selection page taken taken_page"),
+        ("flags", Lanes),
+        ("on", LinkChange * 16),
+        ("still_on", LinkChange * 16),
+        ("shown", c_uint8 * 128),
+    ]
+
+
+class LinkEnd(Structure):
+    _fields_ = _members(c_uint8, "outcome control")
+
+
+class LinkChanges(Structure):
+    _fields_ = [("changes", LinkChange * 33), ("count", c_uint8)]
+
+
+class LinkLane(Structure):
+    _fields_ = [
+        *_members(c_uint64, "errors bits"),
+        *_members(c_uint16, "mantissa noise"),
+        ("power", c_int8),
+        ("known", c_uint8),
+    ]
+
+
+class LinkResults(Structure):
+    _fields_ = [
+        ("host", LinkLane * 8),
+        ("media", LinkLane * 8),
+        *_members(c_uint8, "lost_clock host_generator media_generator host_checker media_checker"),
+    ]
+
+
+class LinkCapabilities(Structure):
+    _fields_ = [
+        *_members(c_uint16, "host_generator media_generator host_checker media_checker"),
+        *_members(c_uint8, "diagnostics loopbacks single_host_lanes single_media_lanes both_sides"),
+        *_members(c_uint8, "ratios counts host_noise media_noise gates"),
+    ]
+
+
 class SignalTargets(Structure):
     _fields_ = [
         ("adaptive", c_uint8),
@@ -481,6 +560,14 @@ FUNCTIONS: Dict[str, Tuple[Any, Tuple[Any, ...]]] = {
     "lane_next": (c_uint32, (POINTER(ChangingLanes), POINTER(Operation))),
     "lane_reply": (c_uint32, (POINTER(ChangingLanes), c_uint8, *_BYTES)),
     "lane_end": (c_uint32, (POINTER(ChangingLanes), POINTER(LaneEnd))),
+    "link_test_begin": (c_uint32, (POINTER(LinkPlan), POINTER(Patience), POINTER(LinkTest))),
+    "link_test_next": (c_uint32, (POINTER(LinkTest), POINTER(Operation))),
+    "link_test_reply": (c_uint32, (POINTER(LinkTest), c_uint8, *_BYTES)),
+    "link_test_stop": (c_uint32, (POINTER(LinkTest),)),
+    "link_test_end": (c_uint32, (POINTER(LinkTest), POINTER(LinkEnd))),
+    "link_test_changes": (c_uint32, (POINTER(LinkTest), POINTER(LinkChanges))),
+    "link_results": (c_uint32, (POINTER(LinkTest), c_uint8, POINTER(LinkResults))),
+    "link_capabilities": (None, (c_uint8, POINTER(c_uint8), POINTER(LinkCapabilities))),
     "settings": (c_uint32, (*_HALVES, POINTER(Settings))),
     "settings_limits": (c_uint32, (*_HALVES, POINTER(SettingsLimits))),
     "settings_begin": (
