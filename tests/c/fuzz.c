@@ -31,46 +31,22 @@ static void make_halves(void) {
 int LLVMFuzzerTestOneInput(const uint8_t *bytes, size_t size);
 
 int LLVMFuzzerTestOneInput(const uint8_t *bytes, size_t size) {
-    static void (*const calls[])(void) = {set_options,
-                                          call_text,
-                                          call_advertisement,
-                                          call_identity,
-                                          call_flags,
-                                          call_monitors,
-                                          call_weights,
-                                          call_durations,
-                                          call_patience,
-                                          call_plan,
-                                          call_certificate,
-                                          call_check,
-                                          call_module,
-                                          call_module_begin,
-                                          begin_conversation,
-                                          call_conversation,
-                                          go_on,
-                                          begin_port,
-                                          call_port,
-                                          go_on_with_port,
-                                          call_observables,
-                                          begin_update,
-                                          go_on_with_update,
-                                          call_update,
-                                          begin_change,
-                                          go_on_with_change,
-                                          call_change,
-                                          call_judge,
-                                          call_settings,
-                                          call_settings_limits,
-                                          begin_settings,
-                                          go_on_with_settings,
-                                          call_tuning};
+    static void (*const calls[])(void) = {
+        set_options,       call_text,     call_advertisement,   call_identity,     call_flags,
+        call_monitors,     call_weights,  call_durations,       call_patience,     call_plan,
+        call_certificate,  call_check,    call_module,          call_module_begin, begin_conversation,
+        call_conversation, go_on,         begin_port,           call_port,         go_on_with_port,
+        call_observables,  begin_update,  go_on_with_update,    call_update,       begin_change,
+        go_on_with_change, call_change,   begin_test,           go_on_with_test,   call_test,
+        call_judge,        call_settings, call_settings_limits, begin_settings,    go_on_with_settings,
+        call_tuning};
     if (!weights) make_memory();
     input = bytes, input_left = size;
     memset(weights, 0, 256 * sizeof *weights);
     memset(read_halves, 0, DOVECOUNTER_MOST_READ * sizeof *read_halves);
     memset(&module, 0, sizeof module), memset(&conversation, 0, sizeof conversation), memset(&port, 0, sizeof port);
     memset(&wanted, 0, sizeof wanted), memset(&update, 0, sizeof update);
-    memset(&changing, 0, sizeof changing), memset(&tuning, 0, sizeof tuning);
+    memset(&changing, 0, sizeof changing), memset(&testing, 0, sizeof testing), memset(&tuning, 0, sizeof tuning);
     file_size = 0, file = room(TEXT, 0), memset(selected, 0, sizeof selected);
     patience = (struct dovecounter_patience){20, 2000, 0};
     kept_count = 0, kept = room(KEPT, 0), stay = 0, paired = counts_by_id = 0, now = 0;

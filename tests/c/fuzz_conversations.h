@@ -1,4 +1,4 @@
-/* Calls that go on with something: a simulated module, a conversation, an update, a change of lanes, a port. */
+/* Calls that go on with something: a simulated module, a conversation, an update, a change of lanes, a test of a link, a port. */
 #ifndef FUZZ_CONVERSATIONS_H
 #define FUZZ_CONVERSATIONS_H
 
@@ -291,6 +291,77 @@ static void call_change(void) {
     size_t size = byte();
     if (what & 4) reply_to_change(what >> 4, filled(OUT, size), size);
     end_change();
+}
+
+/* ---- links ---- */
+
+static struct dovecounter_link_test testing;
+
+static void begin_test(void) {
+    const struct dovecounter_link_plan *wants = filled(SMALL, sizeof *wants);
+#define LINK_BEGIN(it) dovecounter_link_test_begin(wants, &patience, it)
+    ASK(struct dovecounter_link_test, found, LIST(31), LINK_BEGIN);
+    stop_if(!status && (wants->side > 1 || wants->loopback > 4 || wants->gate > 7), "a plan");
+    if (!status) testing = *found;
+}
+
+static uint32_t reply_to_test(uint8_t outcome, const uint8_t *bytes, size_t count) {
+    struct dovecounter_link_test *it = copied(BYTES, &testing, sizeof testing);
+    uint32_t status = dovecounter_link_test_reply(it, outcome, bytes, count);
+    judge(status, "link_test_reply", LIST(31, 32, 34), it, 0);
+    stop_if(status && memcmp(it, &testing, sizeof *it), "a refused reply changes the test");
+    testing = *it;
+    return status;
+}
+
+static void end_test(void) {
+#define LINK_END(it) dovecounter_link_test_end(&testing, it)
+#define LINK_CHANGES(it) dovecounter_link_test_changes(&testing, it)
+#define LINK_RESULTS(it) dovecounter_link_results(&testing, 0, it)
+    {
+        ASK(struct dovecounter_link_changes, found, LIST(31), LINK_CHANGES);
+        stop_if(!status && found->count > 33, "more changes than may be");
+    }
+    {
+        ASK(struct dovecounter_link_results, found, LIST(31), LINK_RESULTS);
+        stop_if(!status && found->lost_clock > 1, "a clock that is lost twice");
+    }
+    ASK(struct dovecounter_link_end, found, LIST(31, 33), LINK_END);
+    stop_if(!status && found->outcome > DOVECOUNTER_LINK_GAVE_UP, "the end of a test");
+}
+
+static void go_on_with_test(void) {
+    for (int steps = byte(); steps > 0; steps--) {
+#define LINK_NEXT(it) dovecounter_link_test_next(&testing, it)
+        ASK(struct dovecounter_operation, next, LIST(31, 32), LINK_NEXT);
+        if (status) break;
+        stop_if_no_operation(next);
+        struct dovecounter_operation operation = *next;
+        uint8_t how = byte(), outcome = DOVECOUNTER_WAITED, *bytes = room(OUT, 0);
+        if (operation.kind != DOVECOUNTER_WAIT && how % 8 == 7)
+            outcome = DOVECOUNTER_REFUSED;
+        else if (operation.kind == DOVECOUNTER_STORE)
+            outcome = DOVECOUNTER_STORED;
+        else if (operation.kind == DOVECOUNTER_FETCH)
+            outcome = DOVECOUNTER_FETCHED, bytes = fetched_from(&operation, how);
+        if (outcome == DOVECOUNTER_STORED && operation.offset == SELECTION) memcpy(selected, operation.bytes, 2);
+        stop_if(reply_to_test(outcome, bytes, outcome == DOVECOUNTER_FETCHED ? operation.count : 0) != 0, "a reply");
+    }
+    end_test();
+}
+
+/* A reply of any kind, a stop, or a changed number. */
+static void call_test(void) {
+    uint8_t what = byte();
+    if (what & 1) change(&testing, sizeof testing);
+    if (what & 2) {
+        struct dovecounter_link_test *it = copied(BYTES, &testing, sizeof testing);
+        judge(dovecounter_link_test_stop(it), "link_test_stop", LIST(31), it, 0);
+        testing = *it;
+    }
+    size_t size = byte();
+    if (what & 4) reply_to_test(what >> 4, filled(OUT, size), size);
+    end_test();
 }
 
 /* ---- ports ---- */
