@@ -1,5 +1,5 @@
 -- The byte of a control stands for it.
-use Rattle.std.proofs.Common.{◌≡◌, ◌∙◌, ℕ, ◌==◌, ◌||◌, Bool, true, ap, refl}
+use Rattle.std.proofs.Common.{◌≡◌, true, refl}
 use Rattle.lane_controls.specs.declared.control.Control.{Control}
 use Rattle.lane_controls.specs.declared.control.Control.TheVariants.{Enable, Invert, ByteSwap, SideOfFec, Pattern, Measurement}
 use Rattle.lane_controls.specs.declared.control.Control.TheVariants as control

@@ -1,3 +1,4 @@
 pub mod ControlsBack
+pub mod ProcedureBack
 pub mod SelectionsBack
 pub mod TestsBack

@@ -1,5 +1,5 @@
 -- A link test as plain numbers: which numbers are whose. (docs/lanes.md, "From C and Python"; this project's own)
-use Rattle.std.specs.Prelude.{ℕ, ◌==◌, ◌&&◌, ◌||◌, nat_le, Bool, List, length, map, take, Option, Some, None, if◌then◌else◌}
+use Rattle.std.specs.Prelude.{ℕ, ◌==◌, ◌&&◌, ◌||◌, nat_le, Bool, List, map, take, Option, Some, None, if◌then◌else◌}
 use Rattle.std.specs.List.{list_all}
 use Rattle.conversations.specs.declared.on_page.OnPage.{OnPage}
 use Rattle.conversations.specs.Patiently.{Patient}
@@ -48,10 +48,6 @@ numbers_of_switch switch = record { control = address_of switch.control; mask = 
 
 abbrev pub numbers_of_change : Change → SavedChange
 numbers_of_change change = record { switch = numbers_of_switch change.switch; original = change.original }
-
--- of a control that is unread
-abbrev pub numbers_of_unread : Switch → SavedChange
-numbers_of_unread switch = record { switch = numbers_of_switch switch; original = 0 }
 
 -- the first of them, so many
 abbrev pub are_switches : ℕ → List SavedSwitch → Bool

@@ -1,5 +1,5 @@
 // Switches and changes of a test, and their numbers.
-ghost use Rattle.std.specs.Prelude.{◌≡◌, ◌≤◌, length, map, take};
+ghost use Rattle.std.specs.Prelude.{◌≡◌, ◌≤◌, length, map, take, true};
 ghost use Rattle.std.specs.List.{list_all};
 ghost use Rattle.saved_tests.specs.SavedTests as spec;
 
@@ -52,7 +52,15 @@ pub fn change_in(saved: SavedChange) -> Change
     }
 }
 
-pub fn switches_in(saved: &[SavedSwitch]) -> ArrayVec<Switch, MAX_SWITCHES>
+/// The first of them, so many.
+pub fn switches_in(count: u8, saved: &[SavedSwitch; MAX_SWITCHES]) -> ArrayVec<Switch, MAX_SWITCHES>
+    requires { count ≤ 16 }
+    ensures { result.items ≡ map spec.switch_in (take count saved.now) }
+{
+    each_switch_in(&saved[..usize::from(count)])
+}
+
+fn each_switch_in(saved: &[SavedSwitch]) -> ArrayVec<Switch, MAX_SWITCHES>
     requires { length saved.now ≤ 16 }
     ensures { result.items ≡ map spec.switch_in saved.now }
 {
@@ -63,7 +71,15 @@ pub fn switches_in(saved: &[SavedSwitch]) -> ArrayVec<Switch, MAX_SWITCHES>
     switches
 }
 
-pub fn changes_in(saved: &[SavedChange]) -> ArrayVec<Change, MAX_SWITCHES>
+/// The first of them, so many.
+pub fn changes_in(count: u8, saved: &[SavedChange; MAX_SWITCHES]) -> ArrayVec<Change, MAX_SWITCHES>
+    requires { count ≤ 16 }
+    ensures { result.items ≡ spec.changes_in count saved.now }
+{
+    each_change_in(&saved[..usize::from(count)])
+}
+
+fn each_change_in(saved: &[SavedChange]) -> ArrayVec<Change, MAX_SWITCHES>
     requires { length saved.now ≤ 16 }
     ensures { result.items ≡ map spec.change_in saved.now }
 {
@@ -72,6 +88,14 @@ pub fn changes_in(saved: &[SavedChange]) -> ArrayVec<Change, MAX_SWITCHES>
         changes.push(change_in(*change));
     }
     changes
+}
+
+/// The first of them, so many.
+pub fn bytes_in(count: u8, saved: &[u8; 128]) -> ArrayVec<u8, 128>
+    requires { count ≤ 128 }
+    ensures { result.items ≡ take count saved.now }
+{
+    ArrayVec::try_from(&saved[..usize::from(count)]).unwrap()
 }
 
 // ---- to numbers
@@ -95,10 +119,20 @@ pub fn numbers_of_change(change: Change) -> SavedChange
     }
 }
 
-/// With zeros after them.
-pub fn numbers_of_switches(switches: &[Switch]) -> [SavedSwitch; MAX_SWITCHES]
-    requires { length switches.now ≤ 16 }
-    ensures { take (length switches.now) result ≡ map spec.numbers_of_switch switches.now }
+/// How many there are, and their numbers with zeros after them.
+pub fn numbers_of_switches(
+    switches: &ArrayVec<Switch, MAX_SWITCHES>,
+) -> (u8, [SavedSwitch; MAX_SWITCHES])
+    ensures same { map spec.switch_in (take result.0 result.1) ≡ switches.now.items }
+    ensures known { spec.are_switches result.0 result.1 ≡ true }
+{
+    let count = switches.len();
+    let all = first_switches(switches);
+    (count as u8, all)
+}
+
+fn first_switches(switches: &ArrayVec<Switch, MAX_SWITCHES>) -> [SavedSwitch; MAX_SWITCHES]
+    ensures { take (length switches.now.items) result ≡ map spec.numbers_of_switch switches.now.items }
 {
     let numbers = each_switch(switches);
     let mut all = [NO_SWITCH; MAX_SWITCHES];
@@ -118,10 +152,20 @@ fn each_switch(switches: &[Switch]) -> ArrayVec<SavedSwitch, MAX_SWITCHES>
     numbers
 }
 
-/// With zeros after them.
-pub fn numbers_of_changes(changes: &[Change]) -> [SavedChange; MAX_SWITCHES]
-    requires { length changes.now ≤ 16 }
-    ensures { take (length changes.now) result ≡ map spec.numbers_of_change changes.now }
+/// How many there are, and their numbers with zeros after them.
+pub fn numbers_of_changes(
+    changes: &ArrayVec<Change, MAX_SWITCHES>,
+) -> (u8, [SavedChange; MAX_SWITCHES])
+    ensures same { spec.changes_in result.0 result.1 ≡ changes.now.items }
+    ensures known { spec.are_changes result.0 result.1 ≡ true }
+{
+    let count = changes.len();
+    let all = first_changes(changes);
+    (count as u8, all)
+}
+
+fn first_changes(changes: &ArrayVec<Change, MAX_SWITCHES>) -> [SavedChange; MAX_SWITCHES]
+    ensures { take (length changes.now.items) result ≡ map spec.numbers_of_change changes.now.items }
 {
     let numbers = each_change(changes);
     let mut all = [NO_CHANGE; MAX_SWITCHES];
@@ -141,10 +185,18 @@ pub fn each_change(changes: &[Change]) -> ArrayVec<SavedChange, MAX_CHANGES>
     numbers
 }
 
-/// With zeros after them.
-pub fn numbers_of_results(bytes: &[u8]) -> [u8; 128]
-    requires { length bytes.now ≤ 128 }
-    ensures { take (length bytes.now) result ≡ bytes.now }
+/// How many there are, and themselves with zeros after them.
+pub fn numbers_of_bytes(bytes: &ArrayVec<u8, 128>) -> (u8, [u8; 128])
+    ensures same { take result.0 result.1 ≡ bytes.now.items }
+    ensures few { result.0 ≤ 128 }
+{
+    let count = bytes.len();
+    let all = first_bytes(bytes);
+    (count as u8, all)
+}
+
+fn first_bytes(bytes: &ArrayVec<u8, 128>) -> [u8; 128]
+    ensures { take (length bytes.now.items) result ≡ bytes.now.items }
 {
     let mut all = [0; 128];
     all[..bytes.len()].copy_from_slice(bytes);

@@ -1,13 +1,14 @@
 // From numbers to a link test.
-ghost use Rattle.std.specs.Prelude.{◌≡◌, IsTrue};
+ghost use Rattle.std.specs.Prelude.{◌≡◌, ◌≤◌, true};
 ghost use Rattle.saved_tests.specs.SavedTests.{test_in};
 ghost use Rattle.saved_tests.specs.SavedTests as spec;
 
 use crate::controls::{control_in, is_control};
-use crate::lists::{are_changes, are_switches, change_in, changes_in, switch_in, switches_in};
+use crate::lists::{
+    are_changes, are_switches, bytes_in, change_in, changes_in, switch_in, switches_in,
+};
 use crate::numbers::{SavedChange, SavedSwitch, SavedTest, SavedTestPlan};
 use crate::selections::{is_selection, results_in};
-use arrayvec::ArrayVec;
 use conversations::{OnPage, Patience, Pausing, Within};
 use lane_controls::{LinkTest, MAX_SWITCHES, PatientTestProcedure, TestFault, TestPlan, TestStage};
 use paged_memory::KnownPage;
@@ -86,7 +87,7 @@ fn are_first_changes(count: u8, saved: &[SavedChange; MAX_SWITCHES]) -> bool
 // ---- which test it is
 
 fn procedure_in(saved: &SavedTest) -> PatientTestProcedure
-    requires { IsTrue (spec.is_sound saved.now) }
+    requires { spec.is_sound saved.now ≡ true }
     ensures { result ≡ spec.procedure_in saved.now }
 {
     let conversation = OnPage {
@@ -112,29 +113,29 @@ fn procedure_in(saved: &SavedTest) -> PatientTestProcedure
 }
 
 fn test_at(saved: &SavedTest) -> LinkTest
-    requires { IsTrue (spec.is_sound saved.now) }
+    requires { spec.is_sound saved.now ≡ true }
     ensures { result ≡ spec.test_at saved.now }
 {
     LinkTest {
         plan: plan_in(&saved.plan),
         stage: stage_in(saved.stage, saved.hand, saved.byte),
         next_switch: saved.next_switch,
-        on: changes_in(&saved.on[..usize::from(saved.on_count)]),
-        still_on: changes_in(&saved.still_on[..usize::from(saved.still_on_count)]),
+        on: changes_in(saved.on_count, &saved.on),
+        still_on: changes_in(saved.still_on_count, &saved.still_on),
         tries: saved.tries,
         rounds: saved.rounds,
         fault: fault_in(saved.fault, saved.fault_control),
-        results: ArrayVec::try_from(&saved.results[..usize::from(saved.result_count)]).unwrap(),
+        results: bytes_in(saved.result_count, &saved.results),
         flags: saved.flags,
     }
 }
 
 fn plan_in(saved: &SavedTestPlan) -> TestPlan
-    requires { IsTrue (spec.is_plan saved.now) }
+    requires { saved.now.count ≤ 16 }
     ensures { result ≡ spec.plan_in saved.now }
 {
     TestPlan {
-        switches: switches_in(&saved.switches[..usize::from(saved.count)]),
+        switches: switches_in(saved.count, &saved.switches),
         permitted: saved.permitted,
         media_paths: saved.media_paths,
         tries: saved.tries,

@@ -1,10 +1,12 @@
 // The numbers of a link test.
 ghost use Rattle.std.specs.Prelude.{◌≡◌, Some, true};
+ghost use Rattle.lane_controls.specs.Controls.{address_of};
+ghost use Rattle.saved_tests.specs.SavedControls.{control_in};
 ghost use Rattle.saved_tests.specs.SavedTests.{test_in};
 ghost use Rattle.saved_tests.specs.SavedTests as spec;
 
 use crate::lists::{
-    NO_CHANGE, numbers_of_change, numbers_of_changes, numbers_of_results, numbers_of_switch,
+    NO_CHANGE, numbers_of_bytes, numbers_of_change, numbers_of_changes, numbers_of_switch,
     numbers_of_switches,
 };
 use crate::numbers::{SavedChange, SavedTest, SavedTestPlan};
@@ -20,17 +22,25 @@ pub fn save(procedure: &PatientTestProcedure) -> SavedTest
 {
     let pausing = &procedure.conversation;
     let on_page = &pausing.conversation;
-    let mut saved = numbers_of_test(&on_page.conversation);
-    saved.idle = pausing.idle;
-    saved.pause = pausing.patience.pause;
-    saved.limit = pausing.patience.limit;
-    saved.steps = procedure.steps;
-    saved.max_steps = procedure.limit;
-    saved.due = u8::from(pausing.due);
-    saved.doubts = u8::from(on_page.doubts);
-    (saved.selection, saved.page) = numbers_of_page(on_page.selection);
-    (saved.taken, saved.taken_page) = numbers_of_taken(on_page.taken);
-    saved
+    let test = numbers_of_test(&on_page.conversation);
+    let due = number_of(pausing.due);
+    let doubts = number_of(on_page.doubts);
+    let page = numbers_of_page(on_page.selection);
+    let taken = numbers_of_taken(on_page.taken);
+    SavedTest {
+        idle: pausing.idle,
+        pause: pausing.patience.pause,
+        limit: pausing.patience.limit,
+        steps: procedure.steps,
+        max_steps: procedure.limit,
+        due,
+        doubts,
+        selection: page.0,
+        page: page.1,
+        taken: taken.0,
+        taken_page: taken.1,
+        ..test
+    }
 }
 
 // Of the test itself: no operation was made, and nothing is known of the page selection.
@@ -39,11 +49,14 @@ fn numbers_of_test(test: &LinkTest) -> SavedTest
     ensures sound { spec.is_sound result ≡ true }
 {
     let plan = numbers_of_plan(&test.plan);
-    let (stage, hand, byte) = numbers_of_stage(test.stage);
-    let (fault, fault_control) = numbers_of_fault(test.fault);
+    let stage = numbers_of_stage(test.stage);
+    let fault = numbers_of_fault(test.fault);
     let on = numbers_of_changes(&test.on);
     let still_on = numbers_of_changes(&test.still_on);
-    let results = numbers_of_results(&test.results);
+    let results = numbers_of_bytes(&test.results);
+    let each_on = on.1;
+    let each_still_on = still_on.1;
+    let each_result = results.1;
     SavedTest {
         magic: TEST,
         idle: 0,
@@ -53,16 +66,16 @@ fn numbers_of_test(test: &LinkTest) -> SavedTest
         next_switch: test.next_switch,
         steps: 0,
         max_steps: 0,
-        stage,
-        byte,
-        hand,
+        stage: stage.0,
+        byte: stage.2,
+        hand: stage.1,
         tries: test.tries,
         rounds: test.rounds,
-        fault,
-        fault_control,
-        on_count: test.on.len() as u8,
-        still_on_count: test.still_on.len() as u8,
-        result_count: test.results.len() as u8,
+        fault: fault.0,
+        fault_control: fault.1,
+        on_count: on.0,
+        still_on_count: still_on.0,
+        result_count: results.0,
         due: 0,
         doubts: 0,
         selection: 0,
@@ -70,9 +83,9 @@ fn numbers_of_test(test: &LinkTest) -> SavedTest
         taken: 0,
         taken_page: 0,
         flags: test.flags,
-        on,
-        still_on,
-        results,
+        on: each_on,
+        still_on: each_still_on,
+        results: each_result,
     }
 }
 
@@ -82,20 +95,20 @@ fn numbers_of_plan(plan: &TestPlan) -> SavedTestPlan
 {
     let results = plan.results.code();
     let switches = numbers_of_switches(&plan.switches);
+    let each_switch = switches.1;
     SavedTestPlan {
         period: plan.period,
-        count: plan.switches.len() as u8,
+        count: switches.0,
         permitted: plan.permitted,
         tries: plan.tries,
         results,
         rounds: plan.rounds,
         media_paths: plan.media_paths,
-        switches,
+        switches: each_switch,
     }
 }
 
 // How far a test has come: a number, what is in hand, and the byte that it showed.
-#[tactic(auto, using(crate::proofs::TestsBack::switch_back, crate::proofs::TestsBack::change_back, crate::proofs::TestsBack::hand_known))]
 fn numbers_of_stage(stage: TestStage) -> (u8, SavedChange, u8)
     ensures same { spec.stage_in result.0 result.1 result.2 ≡ stage }
     ensures known { spec.is_stage result.0 result.1 ≡ true }
@@ -104,24 +117,32 @@ fn numbers_of_stage(stage: TestStage) -> (u8, SavedChange, u8)
         TestStage::Advertised => (0, NO_CHANGE, 0),
         TestStage::Capabilities => (1, NO_CHANGE, 0),
         TestStage::Paths => (2, NO_CHANGE, 0),
-        TestStage::Unread(switch) => (3, change_of(switch), 0),
-        TestStage::Found(change) => (4, numbers_of_change(change), 0),
-        TestStage::Switched(change) => (5, numbers_of_change(change), 0),
-        TestStage::Again(change, byte) => (6, numbers_of_change(change), byte),
+        TestStage::Unread(switch) => (3, unread(switch), 0),
+        TestStage::Found(change) => (4, in_hand(change), 0),
+        TestStage::Switched(change) => (5, in_hand(change), 0),
+        TestStage::Again(change, byte) => (6, in_hand(change), byte),
         TestStage::Selecting => (7, NO_CHANGE, 0),
         TestStage::Clearing => (8, NO_CHANGE, 0),
         TestStage::Resting => (9, NO_CHANGE, 0),
         TestStage::Reading => (10, NO_CHANGE, 0),
         TestStage::Collecting => (11, NO_CHANGE, 0),
-        TestStage::Down(change) => (12, numbers_of_change(change), 0),
-        TestStage::Restore(change, byte) => (13, numbers_of_change(change), byte),
+        TestStage::Down(change) => (12, in_hand(change), 0),
+        TestStage::Restore(change, byte) => (13, in_hand(change), byte),
         TestStage::Over => (14, NO_CHANGE, 0),
     }
 }
 
+fn in_hand(change: Change) -> SavedChange
+    ensures same { spec.change_in result ≡ change }
+    ensures known { spec.is_hand result.switch.control ≡ true }
+{
+    numbers_of_change(change)
+}
+
 // Of a switch whose control is unread.
-fn change_of(switch: Switch) -> SavedChange
-    ensures { result ≡ spec.numbers_of_unread switch }
+fn unread(switch: Switch) -> SavedChange
+    ensures same { spec.switch_in result.switch ≡ switch }
+    ensures known { spec.is_hand result.switch.control ≡ true }
 {
     SavedChange {
         switch: numbers_of_switch(switch),
@@ -130,7 +151,6 @@ fn change_of(switch: Switch) -> SavedChange
 }
 
 /// The number of a fault, and its control's byte on page 13h, or 0.
-#[tactic(auto, using(crate::proofs::ControlsBack::control_back, crate::proofs::TestsBack::hand_known))]
 pub fn numbers_of_fault(fault: Option<TestFault>) -> (u8, u8)
     ensures value { result ≡ spec.numbers_of_fault fault }
     ensures same { spec.fault_in result.0 result.1 ≡ fault }
@@ -138,16 +158,30 @@ pub fn numbers_of_fault(fault: Option<TestFault>) -> (u8, u8)
 {
     match fault {
         None => (0, 0),
-        Some(TestFault::Twice(control)) => (1, control.address()),
+        Some(TestFault::Twice(control)) => (1, byte_of(control)),
         Some(TestFault::NoDiagnostics) => (2, 0),
-        Some(TestFault::Unsupported(control)) => (3, control.address()),
+        Some(TestFault::Unsupported(control)) => (3, byte_of(control)),
         Some(TestFault::UnsupportedResults) => (4, 0),
         Some(TestFault::LoopbacksOnBothSides) => (5, 0),
-        Some(TestFault::NotPermitted(control)) => (6, control.address()),
+        Some(TestFault::NotPermitted(control)) => (6, byte_of(control)),
         Some(TestFault::Stopped) => (7, 0),
-        Some(TestFault::NotSwitched(control)) => (8, control.address()),
-        Some(TestFault::TooMany(control)) => (9, control.address()),
+        Some(TestFault::NotSwitched(control)) => (8, byte_of(control)),
+        Some(TestFault::TooMany(control)) => (9, byte_of(control)),
     }
+}
+
+fn byte_of(control: Control) -> u8
+    ensures value { result ≡ address_of control }
+    ensures same { control_in result ≡ control }
+    ensures known { spec.is_hand result ≡ true }
+{
+    control.address()
+}
+
+fn number_of(yes: bool) -> u8
+    ensures { spec.is_one result ≡ yes }
+{
+    if yes { 1 } else { 0 }
 }
 
 fn numbers_of_page(selected: KnownPage) -> (u8, u8)

@@ -1,6 +1,6 @@
 use Rattle.std.proofs.Common.{◌≡◌, length, map, take}
 use Rattle.saved_tests.specs.SavedTests.{change_in}
-use Rattle.saved_tests.proofs.lists.changes_in.Given as goal
+use Rattle.saved_tests.proofs.lists.each_change_in.Given as goal
 
 -- those so far
 abbrev pub invariant-loop-change : goal.invariant-loop-change

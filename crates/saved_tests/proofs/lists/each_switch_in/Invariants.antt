@@ -1,6 +1,6 @@
 use Rattle.std.proofs.Common.{◌≡◌, length, map, take}
 use Rattle.saved_tests.specs.SavedTests.{switch_in}
-use Rattle.saved_tests.proofs.lists.switches_in.Given as goal
+use Rattle.saved_tests.proofs.lists.each_switch_in.Given as goal
 
 -- those so far
 abbrev pub invariant-loop-switch : goal.invariant-loop-switch
