@@ -1,5 +1,7 @@
 /* Firmware that keeps the module in one cage as wanted (docs/manager.md): call begin_port once, then poll_port whenever the main loop
-   comes by. It makes at most one transaction, and waits for that: 3 ms at 400 kHz. Nobody else uses the module. */
+   comes by. It makes at most one transaction, and waits for that: 3 ms at 400 kHz. On a Cortex-M4 the calls then take some 420,000
+   instructions besides, 1.6 million when the port plans: dovecounter_port_next alone 154,000, even if nothing is to be done, so it isn't
+   called before next.moment, except after an event. Nobody else uses the module. */
 #include "dovecounter.h"
 
 #include <stdbool.h>
@@ -11,26 +13,34 @@ bool i2c_fetch(uint8_t address, uint8_t offset, uint8_t *bytes, uint8_t count);
 bool i2c_store(uint8_t address, uint8_t offset, const uint8_t *bytes, uint8_t count);
 void print_line(const char *what, uint8_t code, uint8_t fault, uint8_t first);
 
-/* Four paths of 100GAUI-2 outweigh one of 400GAUI-8, unless that is active, up or not. No lane that is up goes down. For a module whose
-   plug you saw, which carries nothing: after dovecounter_port_plug call dovecounter_port_request with DOVECOUNTER_REQUEST_PROVISION and
-   0xFF, and pass stay 0 until it came up or is left alone. */
-static const struct dovecounter_wanted wanted = {
-    .weights = {[0x0D] = 101, [0x11] = 400}, .stay = 50, .paired = 1, .most_power = 12 * 4 /* 12 W */};
+/* Four paths of 100GAUI-2 outweigh one of 400GAUI-8. No lane that is up goes down, unless the port is requested to provision. */
+static struct dovecounter_wanted wanted = {
+    .weights = {[0x0D] = 101, [0x11] = 400}, .paired = 1, .most_power = 12 * 4 /* 12 W */};
+enum { STAY = 50 }; /* what a path that is active, up or not, weighs more where the module may carry traffic */
 
 static struct dovecounter_port port; /* port.flags counts the flags that were raised */
+static bool carries_nothing;         /* a module that is plugged now */
+static uint64_t rests_until;         /* nothing is to be done before, unless there is an event: then set it to 0 */
 
-void begin_port(void) {
+/* `was_powered`: the board itself was just powered, so no module carries anything. After a restart of the firmware alone one may. */
+void begin_port(bool was_powered) {
     static const struct dovecounter_times times = {.settle = 2000, .period = 10000, .first = 1000, .most = 300000};
     dovecounter_port_new(&times, &port);
+    carries_nothing = was_powered;
+    rests_until = 0;
 }
 
 static void watch_pin(void) {
-    bool was_present = port.stage != DOVECOUNTER_PORT_ABSENT;
-    if (module_is_present() == was_present) return;
-    if (was_present)
+    bool is_present = module_is_present(), was_present = port.stage != DOVECOUNTER_PORT_ABSENT;
+    if (!is_present) carries_nothing = true; /* the next one */
+    if (is_present == was_present) return;
+    if (was_present) {
         dovecounter_port_pull(&port);
-    else
+    } else {
         dovecounter_port_plug(&port, milliseconds());
+        if (carries_nothing) dovecounter_port_request(&port, DOVECOUNTER_REQUEST_PROVISION, 0xFF);
+    }
+    rests_until = 0;
     print_line(was_present ? "pulled" : "plugged", 0, 0, 0);
 }
 
@@ -49,14 +59,23 @@ static void print_outcome(const struct dovecounter_port_outcome *outcome) {
         print_line("went on", outcome->note, 0, 0);
 }
 
+static void rest(const struct dovecounter_port_next *next) {
+    rests_until = next->kind == DOVECOUNTER_PORT_UNTIL ? next->moment : UINT64_MAX;
+}
+
 void poll_port(void) {
     struct dovecounter_port_next next;
     struct dovecounter_port_outcome outcome;
     uint8_t bytes[128];
     watch_pin();
+    if (milliseconds() < rests_until) return;
     dovecounter_port_next(&port, milliseconds(), &next);
-    if (next.kind != DOVECOUNTER_PORT_DO) return; /* it waits, until next.moment or for an event */
+    if (next.kind != DOVECOUNTER_PORT_DO) {
+        rest(&next);
+        return;
+    }
     uint8_t reply = transact(&next.operation, bytes);
+    wanted.stay = port.request == DOVECOUNTER_REQUEST_PROVISION ? 0 : STAY; /* 0 until it is up or left alone */
     dovecounter_port_take(&port, reply, bytes, next.operation.count, &wanted, milliseconds(), &outcome);
     print_outcome(&outcome);
 }

@@ -1668,13 +1668,18 @@ void dovecounter_port_new(const struct dovecounter_times *times, struct dovecoun
 
 /* A module was plugged, or the program has started and one may be there, or you have reset it by its pin (as after a
    failure with fault DOVECOUNTER_NOT_READY and DOVECOUNTER_MODULE_FAULT). It is read after times.settle; what was
-   requested is forgotten. Pass an outstanding reply all the same. */
+   requested is forgotten. Pass an outstanding reply all the same.
+
+   A module carries nothing after a plug that you saw, after you reset it, and when the board itself was just powered:
+   then request DOVECOUNTER_REQUEST_PROVISION of 0xFF, and want `stay` 0 while port.request is that, which ends once it
+   is up or left alone. After a restart of your program alone, don't. */
 uint32_t dovecounter_port_plug(struct dovecounter_port *port, uint64_t now);
 
 /* The module was pulled: only its flags are left. Pass an outstanding reply all the same. */
 uint32_t dovecounter_port_pull(struct dovecounter_port *port);
 
-/* The weights changed, or somebody asks: the module is read and judged anew. Its lanes stay up meanwhile. */
+/* The weights changed, or somebody asks: the module is read and judged anew, but not before `due`, so the settle time
+   is kept, and a module that is watched waits for its next look. Its lanes stay up meanwhile. */
 uint32_t dovecounter_port_reconsider(struct dovecounter_port *port);
 
 /* Holds the port still if held is other than 0: it names no operation. With 0 it goes on, as after reconsider. */
@@ -1683,12 +1688,13 @@ uint32_t dovecounter_port_hold(struct dovecounter_port *port, uint8_t held);
 enum dovecounter_request {
     DOVECOUNTER_REQUEST_WAKE = 0,      /* the default: the module is to be awake, and as wanted */
     DOVECOUNTER_REQUEST_SLEEP = 1,     /* it is to be in low power; these lanes may go down for that */
-    DOVECOUNTER_REQUEST_PROVISION = 2, /* these lanes may go down, until it is up or left alone; after a plug that you saw
-                                          pass 0xFF, and want `stay` 0 meanwhile */
+    DOVECOUNTER_REQUEST_PROVISION = 2, /* these lanes may go down, until it is up or left alone; see
+                                          dovecounter_port_plug */
     DOVECOUNTER_REQUEST_DEACTIVATE = 3 /* no data path may have one of these lanes, and they may go down */
 };
 
-/* Replaces what was requested before, until a pull. The module is read and judged anew. Other numbers count as WAKE. */
+/* Replaces what was requested before, until a pull. The module is read and judged anew, but not before `due`. Other
+   numbers count as WAKE. */
 uint32_t dovecounter_port_request(struct dovecounter_port *port, uint8_t request, uint8_t lanes);
 
 enum dovecounter_presence {
@@ -1768,7 +1774,9 @@ enum dovecounter_port_failure {
 
 /* What a reply led to. A port doesn't watch for resets, so it has no fault DOVECOUNTER_RESET or _FAULTY: a reset ends in
    another one, such as DOVECOUNTER_NOT_STAGED, _NOT_ACTIVE or _OVERDUE, or in DOVECOUNTER_PORT_CHANGED. Then the module
-   is read, and brought up again. */
+   is read and judged anew. If its default Application is up by then, the plan may keep that where `stay` is above 0;
+   with 0 the module is left alone, as DOVECOUNTER_LEFT_NEEDS_PERMISSION. To have the plan back, request and want what
+   dovecounter_port_plug says. */
 struct dovecounter_port_outcome {
     uint64_t moment;                /* PAUSED, FAILED; else 0 */
     uint8_t kind;                   /* enum dovecounter_port_led_to */

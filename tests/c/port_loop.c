@@ -1,6 +1,6 @@
 /* Runs the loop of examples/port_loop.c on a simulated module, from some seconds before the clock passes 2^32 on: a module is plugged,
-   comes up and is watched, the program restarts, the module is pulled, others are in low power, and a bus refuses all. Reads the text of
-   the module's image on standard input. */
+   comes up and is watched, the program restarts, the module is pulled, others bring up a default or are in low power, and a bus refuses
+   all. Reads the text of the module's image on standard input. */
 #include "../../examples/port_loop.c"
 
 #include "expect.h"
@@ -84,7 +84,7 @@ static void try_life(void) {
                                            {"went on", DOVECOUNTER_PORT_CAME_UP, 0},
                                            {"", 0, 0}};
     static const struct line is_up[] = {{"plugged", 0, 0}, {"went on", DOVECOUNTER_PORT_CAME_UP, 0}, {"", 0, 0}};
-    begin_port();
+    begin_port(false);
     run("an empty cage", 100, 0, nothing);
     expect("has no transaction", 0, transactions);
     plug();
@@ -95,11 +95,43 @@ static void try_life(void) {
     run("it is watched", 25000, 0, nothing);
     expect("by two looks", 1, transactions >= 8);
     expect("that store nothing", 0, stores);
-    begin_port();
+    begin_port(false);
     run("a restart finds it up", 5000, 2, is_up);
     expect("and stores nothing", 0, stores);
     expect_up();
     pull();
+}
+
+static void expect_active(uint8_t first, uint8_t last) {
+    expect("the first active byte", first, module.lanes[0].active);
+    expect("the last active byte", last, module.lanes[7].active);
+    expect_up();
+}
+
+/* A module brings 400G up by itself, which a restart of the firmware leaves, and a plug or a start of the board doesn't. */
+static void try_default(void) {
+    static const struct line stays[] = {{"plugged", 0, 0}, {"went on", DOVECOUNTER_PORT_CAME_UP, 0}, {"", 0, 0}};
+    static const struct line goes[] = {{"plugged", 0, 0},
+                                       {"went on", DOVECOUNTER_PORT_IDENTIFIED, 0},
+                                       {"went on", DOVECOUNTER_PORT_PROVISIONED, 0},
+                                       {"went on", DOVECOUNTER_PORT_CAME_UP, 0},
+                                       {"", 0, 0}};
+    struct dovecounter_half *page = &halves[0];
+    while (!page->upper || page->page != 0x11) page++;
+    uint8_t before[8];
+    memcpy(before, page->bytes + 206 - 128, 8);
+    memset(page->bytes + 206 - 128, 0x10, 8);
+    for (int start = 0; start < 3; start++) {
+        if (start != 1) begin_port(start == 2); /* in the second round the cage was seen empty */
+        plug();
+        if (start == 0)
+            run("a default is left after a restart", 15000, 2, stays);
+        else
+            run("a default is replaced", 15000, 4, goes);
+        expect_active(start == 0 ? 0x10 : 0x20, start == 0 ? 0x10 : 0x2C);
+        pull();
+    }
+    memcpy(page->bytes + 206 - 128, before, 8);
 }
 
 static void try_low_power(void) {
@@ -135,6 +167,7 @@ static void try_silence(void) {
 int main(void) {
     read_halves();
     try_life();
+    try_default();
     try_low_power();
     try_silence();
     return judged("port_loop");
