@@ -104,7 +104,8 @@ static void end(void) {
 static bool is_over(void) {
     if (operation.kind != DOVECOUNTER_WAIT) return over;
     outcome = DOVECOUNTER_WAITED;
-    return milliseconds() - since > operation.milliseconds; /* the first of them may be nearly over */
+    /* not >=: the current millisecond may be nearly over when the wait begins */
+    return milliseconds() - since > operation.milliseconds;
 }
 
 /* Starts what comes next, if anything does. */

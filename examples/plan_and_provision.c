@@ -46,7 +46,7 @@ static bool carry_out(struct outcome *outcome) {
     return outcome->status == DOVECOUNTER_DONE && ending.fault.code == DOVECOUNTER_NO_FAULT;
 }
 
-/* Reads the module, plans and judges. Four paths of 100GAUI-2 outweigh one of 400GAUI-8, unless that is active and stay above 4. */
+/* Reads, plans and judges. Four paths of 100GAUI-2 outweigh one of 400GAUI-8, unless that is active and `stay` is above 4. */
 static bool judge_plan(uint32_t stay, uint8_t may_take_down, struct dovecounter_plan *plan, struct outcome *outcome) {
     static const uint32_t weights[256] = {[0x0D] = 101, [0x11] = 400};
     static const struct dovecounter_path kept[1]; /* none: `stay` is enough */
