@@ -119,8 +119,9 @@ static void try_names(void) {
 }
 
 int main(void) {
-    static const uint32_t statuses[] = {0,  1,  2,  3,  4,  11, 12, 13, 14, 15, 16, 21, 22, 23, 24, 31, 32, 33, 34,
-                                        36, 42, 43, 51, 53, 54, 61, 62, 63, 71, 74, 76, 83, 84, 85, 86, 91, 92, 94};
+    static const uint32_t statuses[] = {0,  1,  2,  3,  4,  11, 12, 13, 14,  15,  16,  21,  22,  23, 24,
+                                        31, 32, 33, 34, 36, 42, 43, 51, 53,  54,  61,  62,  63,  71, 74,
+                                        76, 83, 84, 85, 86, 91, 92, 94, 101, 102, 103, 104, 105, 106};
     static const uint32_t small[] = {1, 2, 3, 4, 5, 6, 7, 8, 9, 10};
     try_numbers(dovecounter_status_text, statuses, sizeof statuses / sizeof statuses[0]);
     try_numbers(dovecounter_fault_text, small, 10);
