@@ -4,6 +4,7 @@ those of CMIS, and simulates them; by Dovecounter's library for C.
 docs/python.md has a first page. The package touches no bus by itself; only `Image.from_port` and
 `Image.from_file` open files."""
 from .faults import Fault, LeftModuleReady
+from .capabilities import LinkCapabilities, Loopback, Pattern
 from .details import Details
 from .firmware import (
     Bank,
@@ -20,7 +21,6 @@ from .firmware import (
 )
 from .image import LOWER, Image, Key, page
 from .lanes import LaneChange, LaneControl, LaneEnd, LaneFault, LaneOutcome
-from .link_capabilities import LinkCapabilities, Loopback, Pattern
 from .links import (
     LinkChange,
     LinkEnd,

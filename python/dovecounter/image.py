@@ -8,6 +8,7 @@ from ctypes import Array, byref, c_uint8, c_uint16
 from dataclasses import dataclass
 from typing import Callable, Dict, Iterable, List, Mapping, Tuple, Union
 
+from .capabilities import LinkCapabilities, link_capabilities_of
 from . import dumps, library
 from .faults import (
     CODES,
@@ -20,7 +21,6 @@ from .faults import (
     look_at_type,
 )
 from .details import Details, details_of
-from .link_capabilities import LinkCapabilities, link_capabilities_of
 from .observables import Observable, observable_of
 from .reports import (
     Advertisement,

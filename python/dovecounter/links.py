@@ -7,8 +7,8 @@ from enum import Enum
 from typing import Any, Optional, Sequence, Tuple
 
 from . import library
+from .capabilities import Loopback, Pattern
 from .faults import look_at, look_at_choice, look_at_type
-from .link_capabilities import Loopback, Pattern
 from .observables import Amount, Side
 from .procedures import Procedure
 from .reports import Patience

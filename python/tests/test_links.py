@@ -23,7 +23,7 @@ from dovecounter import (
     Side,
     page,
 )
-from dovecounter.link_capabilities import link_capabilities_of
+from dovecounter.capabilities import link_capabilities_of
 
 ABILITIES = bytes([0x7F, 0xC0, 0x33, 0xFF, *[0xFF] * 8])
 
