@@ -79,7 +79,7 @@ static uint8_t *byte_of(struct dovecounter_signal_targets *targets, unsigned set
 
 static unsigned value_of(struct dovecounter_signal_targets *targets, unsigned setting, unsigned lane) {
     uint8_t byte = *byte_of(targets, setting, lane);
-    return settings[setting].values == SWITCH ? byte >> lane & 1U : byte;
+    return settings[setting].values == SWITCH ? (unsigned)byte >> lane & 1U : byte;
 }
 
 static void put_value(struct dovecounter_signal_targets *targets, unsigned setting, unsigned lane, unsigned value) {
