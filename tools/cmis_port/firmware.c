@@ -1,6 +1,7 @@
 /* The commands about a module's firmware. */
 #include "port.h"
 
+#include <ctype.h>
 #include <err.h>
 #include <stdlib.h>
 #include <string.h>
@@ -49,6 +50,21 @@ bool read_file(struct port *port, const char *name) {
     fclose(in);
     if (!whole || !fits) warnx("%s: %s", name, whole ? "this is no firmware, of 1 byte to 4 GiB" : "it can't be read");
     return whole && fits;
+}
+
+/* Reads the password, eight hexadecimal digits in a line. */
+bool read_password(struct port *port, const char *name) {
+    enum { DIGITS = 8 };
+    char text[DIGITS + 3] = ""; /* with an LF, and one byte that would be too many */
+    FILE *in = fopen(name, "r");
+    if (in == NULL) return warn("%s", name), false;
+    size_t count = fread(text, 1, DIGITS + 2, in), digits = 0;
+    fclose(in);
+    while (digits < DIGITS && isxdigit((unsigned char)text[digits])) digits++;
+    bool is_password = digits == DIGITS && (count == DIGITS || strcmp(text + DIGITS, "\n") == 0);
+    if (!is_password) warnx("%s: this is no password, of eight hexadecimal digits in one line", name);
+    port->password = (uint32_t)strtoul(text, NULL, 16);
+    return is_password;
 }
 
 /* ---- one of them on the bus ---- */
@@ -115,19 +131,30 @@ static void say_end(const struct port *port, const struct dovecounter_update_end
         warnx("%s: %s", port->bus.name, fault_sentences[ending->fault]);
 }
 
-/* A single command: whether it succeeded. Says why not. */
+/* Carries out the single command that has begun: whether it succeeded. Says why not. */
+static bool carry_out_command(struct sending *sending, struct dovecounter_update_ending *ending) {
+    if (!send(sending, ending)) return false;
+    if (ending->fault != DOVECOUNTER_UPDATE_DONE) say_end(sending->port, ending);
+    return ending->fault == DOVECOUNTER_UPDATE_DONE;
+}
+
 static bool ask(struct port *port, void (*begin)(struct dovecounter_update *update),
                 struct dovecounter_update_ending *ending) {
     struct sending sending = {.port = port, .file = port->halves[0].bytes};
     begin(&sending.update);
-    if (!send(&sending, ending)) return false;
-    if (ending->fault != DOVECOUNTER_UPDATE_DONE) say_end(port, ending);
-    return ending->fault == DOVECOUNTER_UPDATE_DONE;
+    return carry_out_command(&sending, ending);
+}
+
+static bool give_password(struct port *port) {
+    struct sending sending = {.port = port, .file = port->halves[0].bytes};
+    struct dovecounter_update_ending ending;
+    dovecounter_password_begin(port->password, &sending.update);
+    return carry_out_command(&sending, &ending);
 }
 
 /* ---- the module ---- */
 
-/* Reads the module. Says why it has no firmware that can be managed. */
+/* Reads the module, and gives it the password if there is one. Says why it has no firmware that can be managed. */
 static bool read_manageable(struct port *port) {
     struct dovecounter_command_block block = {0};
     if (!read_module(port, false)) return false;
@@ -136,7 +163,7 @@ static bool read_manageable(struct port *port) {
         if (port->halves[i].upper == 1 && port->halves[i].page == 1)
             dovecounter_command_block(port->halves[i].bytes + ADVERTISED, &block);
     if (block.instances == 0) warnx("%s: the module has no command data block", port->bus.name);
-    return block.instances > 0;
+    return block.instances > 0 && (port->password_name == NULL || give_password(port));
 }
 
 static bool read_banks(struct port *port, struct dovecounter_banks *banks) {

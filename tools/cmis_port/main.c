@@ -47,6 +47,7 @@ static const char usage[] =
     "  --wake          take the module out of low power first\n"
     "  --reset         let an update restart the module, which takes its lanes down\n"
     "  --no-commit     end an update once the new image runs\n"
+    "  --password FILE first give the module the password in FILE, eight hexadecimal digits\n"
     "  --for TIME      such as 60s, 5m or 2h: test a link for so long\n"
     "  --lanes LANES   make and check the pattern on these lanes of the side alone\n"
     "  --loopback X    loop them back meanwhile: media-output, media-input, host-output or host-input\n"
@@ -70,6 +71,7 @@ static bool take_flag(struct port *port, int flag) {
     switch (flag) {
     case 'k': return port->kept_count < 9 && read_path(optarg, &port->kept[port->kept_count++]);
     case 'l': return (port->log_name = optarg) != NULL;
+    case 'P': return (port->password_name = optarg) != NULL;
     case 'a': return port->activate = true;
     case 'u': return port->unpaired = true;
     case 'c': return port->counts_by_id = true;
@@ -91,25 +93,17 @@ static bool take_flag(struct port *port, int flag) {
 }
 
 static bool read_flags(int count, char **words, struct port *port) {
-    static const struct option flags[] = {{"keep", required_argument, NULL, 'k'},
-                                          {"log", required_argument, NULL, 'l'},
-                                          {"activate", no_argument, NULL, 'a'},
-                                          {"force", no_argument, NULL, 'f'},
-                                          {"ensure", no_argument, NULL, 'e'},
-                                          {"wake", no_argument, NULL, 'w'},
-                                          {"help", no_argument, NULL, 'h'},
-                                          {"unpaired", no_argument, NULL, 'u'},
-                                          {"counts-by-id", no_argument, NULL, 'c'},
-                                          {"reset", no_argument, NULL, 'r'},
-                                          {"no-commit", no_argument, NULL, 'n'},
-                                          {"json", no_argument, NULL, 'j'},
-                                          {"side", required_argument, NULL, 's'},
-                                          {"pattern", required_argument, NULL, 'p'},
-                                          {"lanes", required_argument, NULL, 'L'},
-                                          {"for", required_argument, NULL, 't'},
-                                          {"show", required_argument, NULL, 'S'},
-                                          {"loopback", required_argument, NULL, 'b'},
-                                          {0}};
+    static const struct option flags[] = {
+        {"keep", required_argument, NULL, 'k'},     {"log", required_argument, NULL, 'l'},
+        {"activate", no_argument, NULL, 'a'},       {"force", no_argument, NULL, 'f'},
+        {"ensure", no_argument, NULL, 'e'},         {"wake", no_argument, NULL, 'w'},
+        {"help", no_argument, NULL, 'h'},           {"unpaired", no_argument, NULL, 'u'},
+        {"counts-by-id", no_argument, NULL, 'c'},   {"reset", no_argument, NULL, 'r'},
+        {"no-commit", no_argument, NULL, 'n'},      {"password", required_argument, NULL, 'P'},
+        {"json", no_argument, NULL, 'j'},           {"side", required_argument, NULL, 's'},
+        {"pattern", required_argument, NULL, 'p'},  {"lanes", required_argument, NULL, 'L'},
+        {"for", required_argument, NULL, 't'},      {"show", required_argument, NULL, 'S'},
+        {"loopback", required_argument, NULL, 'b'}, {0}};
     int flag;
     optind = 0;
     while ((flag = getopt_long(count, words, "h", flags, NULL)) != -1)
@@ -125,6 +119,7 @@ struct command {
     bool stores, forces;                               /* it takes --activate, --ensure and --wake; it takes --force */
     bool resets, shows;                                /* it takes --reset and --no-commit; it takes --json */
     bool borrows;                                      /* it may have the bus of a port that cmisd keeps */
+    bool unlocks;                                      /* it takes --password */
     bool sets;                                         /* its words are followed by a setting and lanes */
     bool loops, checks; /* by a side, a kind and perhaps lanes; by flags about a pattern */
     bool tunes;         /* its words are followed by settings with their values */
@@ -138,6 +133,7 @@ static bool is_stray(const struct port *port, const struct command *command) {
     const struct link_words *words = &port->words;
     bool of_pattern = words->side || words->pattern || words->lanes || words->shown || words->loopback;
     if ((of_pattern && !command->checks) || (words->time && !command->checks && !command->loops)) return true;
+    if (port->password_name && !command->unlocks) return true;
     return (asks && !command->plans) || (changes && !command->stores) || (port->force && !command->forces) ||
            ((port->reset || port->no_commit) && !command->resets) || (port->json && !command->shows);
 }
@@ -151,16 +147,22 @@ static const struct command *read_words(int count, char **words, struct port *po
         {.name = "provision", .run = provision, .read = read_host, .plans = true, .stores = true, .forces = true},
         {.name = "wake", .run = wake},
         {.name = "sleep", .run = put_to_sleep, .forces = true},
-        {.name = "firmware", .run = firmware, .shows = true, .borrows = true},
-        {.name = "firmware", .second = "commit", .run = firmware_commit, .shows = true, .borrows = true},
-        {.name = "firmware", .second = "abort", .run = firmware_abort, .borrows = true},
+        {.name = "firmware", .run = firmware, .shows = true, .borrows = true, .unlocks = true},
+        {.name = "firmware",
+         .second = "commit",
+         .run = firmware_commit,
+         .shows = true,
+         .borrows = true,
+         .unlocks = true},
+        {.name = "firmware", .second = "abort", .run = firmware_abort, .borrows = true, .unlocks = true},
         {.name = "firmware",
          .second = "update",
          .run = firmware_update,
          .read = read_file,
          .resets = true,
          .shows = true,
-         .borrows = true},
+         .borrows = true,
+         .unlocks = true},
         {.name = "lanes", .run = print_controls, .shows = true},
         {.name = "settings", .run = print_settings, .shows = true},
         {.name = "settings", .second = "set", .run = change_settings, .tunes = true, .forces = true, .shows = true},
@@ -196,7 +198,8 @@ static void close_log(struct port *port) {
 
 /* Whatever may keep the program waiting is read before signals are held back, and before the module is touched. */
 static enum status run(const struct command *command, struct port *port, const char *name) {
-    bool ready = command->read == NULL || command->read(port, name);
+    bool ready = port->password_name == NULL || read_password(port, port->password_name);
+    ready = ready && (command->read == NULL || command->read(port, name));
     ready = ready && (!command->borrows || borrow_bus(port)) && open_port(port);
     hold_signals(&port->signals);
     enum status status = ready ? command->run(port) : REFUSED;

@@ -16,7 +16,7 @@ struct link_words {
 
 struct port {
     /* what is asked for */
-    const char *log_name;
+    const char *log_name, *password_name;
     bool activate, ensure, force, wake, help, unpaired, counts_by_id, reset, no_commit, json;
     uint32_t weights[256];
     struct dovecounter_path kept[9];
@@ -28,6 +28,7 @@ struct port {
     int16_t tuned[SETTINGS]; /* what these settings are to be, or -1 */
     uint8_t *file;           /* the firmware */
     size_t file_size;
+    uint32_t password; /* of the firmware, if there is a name of its file */
 
     /* the bus */
     struct bus bus;
@@ -91,6 +92,7 @@ enum status put_to_sleep(struct port *port);
 
 /* firmware.c */
 bool read_file(struct port *port, const char *name);
+bool read_password(struct port *port, const char *name);
 enum status firmware(struct port *port);
 enum status firmware_commit(struct port *port);
 enum status firmware_abort(struct port *port);
