@@ -98,28 +98,35 @@ def measure(transact, pause, pattern):
     return [float(lane.ratio) for lane in test.results().media]
 
 
+HIGH, WIDE, LOWEST = 180, 26, 9  # of the drawing: its bars begin at 1e-9
+
+
+def rise(ratio):
+    """How high a bar is: 20 for each tenfold."""
+    return 20 * max(0.0, math.log10(ratio) + LOWEST) if ratio > 0 else 0.0
+
+
 def drawing(measured):
-    """A bar for each lane of each pattern, from 1e-9 on, each tenfold 20 high, and the limit."""
-    high, wide, lowest = 180, 26, 9
-    rise = lambda ratio: 20 * max(0.0, math.log10(ratio) + lowest) if ratio > 0 else 0.0
+    """A bar for each lane of each pattern, and a line at the limit, as SVG."""
+    right = 30 + len(measured) * 240
     parts = [
-        f'<svg xmlns="http://www.w3.org/2000/svg" width="{40 + len(measured) * 240}" height="230"'
+        f'<svg xmlns="http://www.w3.org/2000/svg" width="{right + 10}" height="230"'
         ' font-family="sans-serif" font-size="11">'
     ]
     for place, (pattern, ratios) in enumerate(measured.items()):
         left = 40 + place * 240
         parts.append(f'<text x="{left}" y="222">{pattern.name}: lanes 1 to {len(ratios)}</text>')
         for lane, ratio in enumerate(ratios):
+            x, y = left + lane * WIDE, HIGH + 10 - rise(ratio)
             colour = "#c33" if ratio > LIMIT else "#379"
-            x, y = left + lane * wide, high + 10 - rise(ratio)
             parts.append(
-                f'<rect x="{x}" y="{y:.1f}" width="{wide - 4}" height="{rise(ratio):.1f}"'
+                f'<rect x="{x}" y="{y:.1f}" width="{WIDE - 4}" height="{rise(ratio):.1f}"'
                 f' fill="{colour}"><title>lane {lane + 1}: {ratio:.2e}</title></rect>'
             )
             parts.append(f'<text x="{x + 7}" y="204">{lane + 1}</text>')
-    y, right = high + 10 - rise(LIMIT), 30 + len(measured) * 240
+    y = HIGH + 10 - rise(LIMIT)
     parts.append(f'<line x1="36" y1="{y:.1f}" x2="{right}" y2="{y:.1f}" stroke="#c33"/>')
-    for power in range(0, lowest + 1, 3):
+    for power in range(0, LOWEST + 1, 3):
         parts.append(f'<text x="4" y="{14 + 20 * power}">1e-{power}</text>')
     return "\n".join([*parts, "</svg>", ""])
 
