@@ -847,7 +847,9 @@ struct dovecounter_ending {
 /* Writes how the conversation ended. If provisioning succeeded, its last operation read the control bytes from the
    Active Control Set. If a reading succeeded, pass halves and conversation->halves to the functions above. After
    DOVECOUNTER_GAVE_UP_WAITING and _OVERDUE you may begin again; after _NOT_ACTIVE of provisioning too, with the same
-   lanes, half a second later. After _NOT_ACTIVE of activation read, plan and judge again. */
+   lanes, half a second later. After _NOT_ACTIVE of activation read, plan and judge again. Activation is also overdue while
+   transmitters are disabled, which keeps their lanes in DPInitialized (7): clear DOVECOUNTER_OUTPUT_DISABLE_TX ("Single
+   lanes"), and activate again. */
 uint32_t dovecounter_end(const struct dovecounter_conversation *conversation,
                          const struct dovecounter_half halves[DOVECOUNTER_MOST_READ],
                          struct dovecounter_ending *ending);
@@ -1062,7 +1064,7 @@ static inline uint32_t dovecounter_update_run(struct dovecounter_update *update,
 
    It reads the control, and ends if the lanes are as wanted. Else it reads which data paths are up, and stores the control with the
    bits of these lanes changed, and no other, if no lane of a path that is up is disturbed but the permitted ones; then it reads the
-   control back. */
+   control back. Here a path is up in any state but DPDeactivated: to switch on transmitters of lanes in DPInitialized, permit these. */
 
 enum dovecounter_lane_control {
     DOVECOUNTER_INPUT_POLARITY_FLIP_TX = 0,
