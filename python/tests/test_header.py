@@ -4,17 +4,29 @@ use of the headers isn't declared."""
 from __future__ import annotations
 
 import ctypes
+import enum
 import os
 import pathlib
 import re
 import shutil
 import subprocess
-from typing import Any, Dict, List
+from typing import Any, Dict, List, Tuple, Type
 
 import pytest
 
 from shared import ROOT
 from dovecounter import Family, Request, Side, Table, library, procedures, simulated
+from dovecounter import (
+    capabilities,
+    firmware,
+    lanes,
+    links,
+    planning,
+    port,
+    reports,
+    settings,
+    states,
+)
 from dovecounter.faults import CODES
 
 HEADERS = [ROOT / "include/dovecounter.h", ROOT / "include/dovecounter_reports.h"]
@@ -163,6 +175,49 @@ def test_numbers_are_those_of_the_header() -> None:
         simulated._NO_RANGE,
         simulated._NOT_TAKEN,
     )
+
+
+# Each enumeration, that of the header, and what the names of its members have before them there.
+ENUMERATIONS: List[Tuple[Type[enum.Enum], str, str]] = [
+    (capabilities.Loopback, "link_loopback", ""),
+    (capabilities.Pattern, "link_pattern", ""),
+    (firmware.FirmwareFailure, "update_fault", "UPDATE_"),
+    (firmware.FirmwareKnown, "update_known", "FIRMWARE_"),
+    (lanes.LaneControl, "lane_control", ""),
+    (lanes.LaneOutcome, "lane_outcome", "LANES_"),
+    (links.LinkOutcome, "link_outcome", "LINK_"),
+    (links.Shown, "link_shown", ""),
+    (planning.Hindrance, "hindrance", ""),
+    (port.Failure, "port_failure", "PORT_"),
+    (port.Kind, "port_led_to", "PORT_"),
+    (port.Note, "port_note", "PORT_"),
+    (port.PortRequest, "request", "REQUEST_"),
+    (port.Presence, "presence", ""),
+    (port.Stage, "port_stage", "PORT_"),
+    (reports.Support, "support", ""),
+    (settings.SettingsOutcome, "settings_outcome", "SETTINGS_"),
+    (states.ConfigStatus, "config_status", ""),
+    (states.ModuleState, "module_state", ""),
+    (states.PathState, "path_state", ""),
+]
+# What stands for nothing, which the package has as None, or not as a failure.
+NOTHING = {"NO_LOOPBACK", "NO_PATTERN", "UPDATE_DONE"}
+
+
+@pytest.mark.parametrize(
+    "members, name, before", ENUMERATIONS, ids=lambda it: getattr(it, "__name__", "")
+)
+def test_members_have_the_numbers_of_the_header(members: Any, name: str, before: str) -> None:
+    body = re.search(rf"enum dovecounter_{name} \{{(.*?)\}}", HEADER, re.DOTALL)
+    assert body is not None
+    numbers = re.findall(r"DOVECOUNTER_(\w+)\s*=\s*(\d+)", body[1])
+    wanted = {
+        it.replace("_PATTERN", "").replace("_", "").lower(): int(number)
+        for it, number in numbers
+        if it not in NOTHING
+    }
+    found = {(before + it.name).replace("_", "").lower(): it.value for it in members}
+    assert found == wanted
 
 
 def test_the_version_is_that_of_all_parts() -> None:
