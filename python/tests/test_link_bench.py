@@ -78,7 +78,7 @@ class Adapter:
                 ctypes.memmove(data or 0, self.answer, length)
             part = (ctypes.c_char * length).from_address(data or 0) if length else b""
             self.seen.append((address, flags, bytes(part)))
-        return messages.count
+        return int(messages.count)
 
 
 def bus(monkeypatch: pytest.MonkeyPatch, answer: Optional[bytes]) -> Tuple[Any, Adapter]:
