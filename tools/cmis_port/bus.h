@@ -60,6 +60,7 @@ bool read_weights(const char *name, uint32_t weights[256]);
 /* words.c */
 extern const char *const module_states[8], *const path_states[16], *const config_statuses[16];
 void print_half(FILE *out, const struct dovecounter_half *half);
+uint8_t lanes_of_word(const char *word);
 unsigned code_of(const uint8_t codes[4], unsigned lane);
 const char *sentence(uint32_t status);
 #endif

@@ -39,17 +39,6 @@ static const char *const outcome_sentences[7] = {"",
                                                  "the module answers too seldom",
                                                  "4096 operations were not enough to change lanes"};
 
-/* Lanes as in `1,3,4`; 0 if they are none. */
-uint8_t lanes_of_word(const char *word) {
-    unsigned lanes = 0;
-    for (size_t at = 0;; at += 2) {
-        if (word[at] < '1' || word[at] > '8') return 0;
-        lanes |= 1U << (word[at] - '1');
-        if (word[at + 1] == '\0') return (uint8_t)lanes;
-        if (word[at + 1] != ',') return 0;
-    }
-}
-
 bool read_change(struct port *port, const char *name, const char *word, const char *lanes) {
     for (const struct setting *each = settings; each < settings + sizeof settings / sizeof *settings; each++) {
         if (strcmp(name, each->name) != 0 || strcmp(word, each->word) != 0) continue;

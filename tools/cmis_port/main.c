@@ -20,7 +20,7 @@ static const char usage[] =
     "       cmis-port BUS prbs --side media | host --pattern PATTERN --for TIME\n"
     "       cmis-port BUS settings [set lane=LANES SETTING=VALUE ..]\n"
     "  BUS             /dev/i2c-N, the eeprom file of the driver optoe, or sim:IMAGE[,SCRIPT] to simulate a module\n"
-    "  LANES           such as 3 or 1,3,4: media lanes of tx and tx-squelch, else host lanes\n"
+    "  LANES           such as 3 or 1-4,7: media lanes of tx and tx-squelch, else host lanes\n"
     "  WEIGHTS         a file with a line [host] and lines such as 0Dh = 101\n"
     "  image           print the module's memory, for cmisctl\n"
     "  state           print the states of the module and its lanes, its flags, and the active control bytes\n"

@@ -99,7 +99,6 @@ enum status firmware_abort(struct port *port);
 enum status firmware_update(struct port *port);
 
 /* controls.c */
-uint8_t lanes_of_word(const char *word);
 bool read_switchable(struct port *port);
 uint8_t make_on_lanes(void *context, const struct dovecounter_operation *operation, uint8_t bytes[128]);
 void wait_on_lanes(void *context, uint32_t ms);

@@ -28,20 +28,6 @@ static const char *const outcome_sentences[8] = {
     "the module answers too seldom",
     "4096 operations were not enough to change settings"};
 
-/* Lanes as in `1-4,7`; 0 if they are none. */
-static uint8_t read_ranges(const char *word) {
-    unsigned lanes = 0;
-    for (;; word++) {
-        char first = *word, last = first;
-        if (first < '1' || first > '8') return 0;
-        if (*++word == '-') last = word[1], word += word[1] == '\0' ? 1 : 2;
-        if (last < first || last > '8') return 0;
-        for (; first <= last; first++) lanes |= 1U << (first - '1');
-        if (*word == '\0') return (uint8_t)lanes;
-        if (*word != ',') return 0;
-    }
-}
-
 /* What a setting is to be, or -1. */
 static int read_value(const struct setting *setting, const char *word) {
     if (setting->values == SWITCH) return strcmp(word, "on") == 0 ? 1 : strcmp(word, "off") == 0 ? 0 : -1;
@@ -54,7 +40,7 @@ static bool read_pair(struct port *port, const char *word) {
     const char *value = strchr(word, '=');
     if (value++ == NULL) return false;
     size_t length = (size_t)(value - word) - 1;
-    if (length == 4 && strncmp(word, "lane", length) == 0) return (port->tuned_lanes = read_ranges(value)) != 0;
+    if (length == 4 && strncmp(word, "lane", length) == 0) return (port->tuned_lanes = lanes_of_word(value)) != 0;
     for (unsigned i = 0; i < SETTINGS; i++)
         if (strlen(settings[i].name) == length && strncmp(word, settings[i].name, length) == 0)
             return (port->tuned[i] = (int16_t)read_value(&settings[i], value)) >= 0;

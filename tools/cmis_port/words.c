@@ -27,6 +27,20 @@ const char *const config_statuses[16] = {"ConfigUndefined",
                                          "custom-14",
                                          "custom-15"};
 
+/* Lanes as in `1,3` or `1-4,7`; 0 if they are none. */
+uint8_t lanes_of_word(const char *word) {
+    unsigned lanes = 0;
+    for (;; word++) {
+        char first = *word, last = first;
+        if (first < '1' || first > '8') return 0;
+        if (*++word == '-') last = word[1], word += word[1] == '\0' ? 1 : 2;
+        if (last < first || last > '8') return 0;
+        for (; first <= last; first++) lanes |= 1U << (first - '1');
+        if (*word == '\0') return (uint8_t)lanes;
+        if (*word != ',') return 0;
+    }
+}
+
 /* Of four bits for each lane, counted from 0. */
 unsigned code_of(const uint8_t codes[4], unsigned lane) { return codes[lane / 2] >> lane % 2 * 4 & 15; }
 

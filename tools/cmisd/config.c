@@ -75,22 +75,8 @@ static bool take_watts(const char *text, uint8_t *quarters) {
 
 /* Such as 1-4,7; none; or all. */
 bool read_lanes(const char *text, uint8_t *lanes) {
-    unsigned first, last, taken = 0;
-    int length;
-    *lanes = strcmp(text, "all") == 0 ? 0xFF : 0;
-    if (strcmp(text, "all") == 0 || strcmp(text, "none") == 0) return true;
-    for (;; text++) {
-        if (sscanf(text, "%1u-%1u%n", &first, &last, &length) == 2)
-            text += length;
-        else if (sscanf(text, "%1u%n", &first, &length) == 1)
-            last = first, text += length;
-        else
-            return false;
-        if (first < 1 || last > 8 || first > last) return false;
-        taken |= ((1U << (last - first + 1)) - 1) << (first - 1);
-        if (*text == 0) return *lanes = (uint8_t)taken, true;
-        if (*text != ',') return false;
-    }
+    *lanes = strcmp(text, "all") == 0 ? 0xFF : lanes_of_word(text);
+    return *lanes != 0 || strcmp(text, "none") == 0;
 }
 
 static const char *const demands[] = {
