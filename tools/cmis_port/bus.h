@@ -51,6 +51,7 @@ bool lock_bus(struct bus *bus);
 void unlock_bus(struct bus *bus);
 
 /* simulated.c */
+size_t read_halves(FILE *file, struct dovecounter_half *halves, size_t most);
 bool open_simulated(struct simulated *simulated, const char *names);
 bool transact_simulated(struct bus *bus, const struct dovecounter_operation *operation, uint8_t *bytes);
 
@@ -59,7 +60,7 @@ bool read_weights(const char *name, uint32_t weights[256]);
 
 /* words.c */
 extern const char *const module_states[8], *const path_states[16], *const config_statuses[16];
-void print_half(FILE *out, const struct dovecounter_half *half);
+void print_image(FILE *out, const struct dovecounter_half *first, size_t count, int step, const char *end);
 uint8_t lanes_of_word(const char *word);
 unsigned code_of(const uint8_t codes[4], unsigned lane);
 const char *sentence(uint32_t status);

@@ -16,23 +16,33 @@ enum status refuse_by(const struct port *port, uint32_t status) {
 
 enum status image(struct port *port) {
     bool whole = read_module(port, true);
-    if (port->half_count > 0) puts("module-image 1");
-    for (size_t i = port->half_count; i-- > 0;) print_half(stdout, &port->halves[i]); /* the newest is the first */
-    if (port->half_count > 0) puts("end");
+    const struct dovecounter_half *first = port->halves + port->half_count - 1; /* the newest comes first */
+    if (port->json) fputs("{\"image\": \"", stdout);
+    print_image(stdout, first, port->half_count, -1, port->json ? "\\n" : "\n");
+    if (port->json) puts("\"}");
     return whole ? DONE : REFUSED;
 }
 
-enum status state(struct port *port) {
-    bool whole = read_module(port, false);
-    if (!whole || is_other_family(port)) print_flags(port);
-    if (!whole) return REFUSED;
-    if (is_other_family(port)) return refuse_by(port, DOVECOUNTER_NOT_CMIS);
+static void print_lane(const struct port *port, unsigned lane, const char *before) {
     const uint8_t *states = bytes_at(port, PATH_STATES), *statuses = bytes_at(port, CONFIG_STATUSES);
-    printf("state %s\n", module_states[state_of(port)]);
-    for (unsigned lane = 0; lane < 8 && states != NULL; lane++)
-        printf("lane %u %s %s\n", lane + 1, path_states[code_of(states, lane)],
-               config_statuses[code_of(statuses, lane)]);
+    const char *state = path_states[code_of(states, lane)], *status = config_statuses[code_of(statuses, lane)];
+    if (port->json)
+        printf("%s{\"lane\": %u, \"state\": \"%s\", \"status\": \"%s\", \"active\": %u}", before, lane + 1, state,
+               status, bytes_at(port, ACTIVE)[lane]);
+    else
+        printf("lane %u %s %s\n", lane + 1, state, status);
+}
+
+enum status state(struct port *port) {
+    bool whole = read_module(port, false), is_shown = whole && !is_other_family(port);
+    const uint8_t *active = is_shown ? bytes_at(port, ACTIVE) : NULL;
+    if (port->json) fputs("{", stdout);
+    if (is_shown) printf(port->json ? "\"state\": \"%s\", \"lanes\": [" : "state %s\n", module_states[state_of(port)]);
+    for (unsigned lane = 0; lane < 8 && active != NULL; lane++) print_lane(port, lane, lane > 0 ? ", " : "");
+    if (port->json && is_shown) fputs("], ", stdout);
     print_flags(port);
-    if (states != NULL) print_line("active", bytes_at(port, ACTIVE), "\n");
-    return DONE;
+    if (port->json) puts("}");
+    if (active != NULL && !port->json) print_line("active", active, "\n");
+    if (!whole) return REFUSED;
+    return is_shown ? DONE : refuse_by(port, DOVECOUNTER_NOT_CMIS);
 }

@@ -3,45 +3,79 @@
 
 enum { MODULE_FLAGS = 8 }; /* four bytes of the lower half; the second one is that of temperature and voltage */
 
-static void print_raised(const char *name, const char *limit, unsigned lanes) {
-    for (unsigned lane = 0; lane < 8; lane++)
-        if (lanes >> lane & 1) printf("flag %s%s %u\n", name, limit, lane + 1);
+/* A line, or a member of the list in JSON, in which `before` is a comma after the first one. */
+struct printer {
+    bool json;
+    const char *before;
+};
+
+static void print_flag(struct printer *printer, const char *name, const char *limit) {
+    printf(printer->json ? "%s{\"flag\": \"%s%s\"" : "%sflag %s%s", printer->before, name, limit);
+    printer->before = printer->json ? ", " : "";
 }
 
-static void print_levels(const char *name, const struct dovecounter_levels *levels, bool of_lanes) {
+static void print_raised(struct printer *printer, const char *name, const char *limit, unsigned lanes) {
+    for (unsigned lane = 0; lane < 8; lane++) {
+        if (!(lanes >> lane & 1)) continue;
+        print_flag(printer, name, limit);
+        printf(printer->json ? ", \"lane\": %u}" : " %u\n", lane + 1);
+    }
+}
+
+static void print_levels(struct printer *printer, const char *name, const struct dovecounter_levels *levels,
+                         bool of_lanes) {
     static const char *const limits[4] = {"-high-alarm", "-low-alarm", "-high-warning", "-low-warning"};
     const uint8_t raised[4] = {levels->high_alarm, levels->low_alarm, levels->high_warning, levels->low_warning};
     for (unsigned i = 0; i < 4; i++) {
-        if (of_lanes)
-            print_raised(name, limits[i], raised[i]);
-        else if (raised[i] != 0)
-            printf("flag %s%s\n", name, limits[i]);
+        if (of_lanes) {
+            print_raised(printer, name, limits[i], raised[i]);
+        } else if (raised[i] != 0) {
+            print_flag(printer, name, limits[i]);
+            fputs(printer->json ? "}" : "\n", stdout);
+        }
     }
 }
 
 /* The bytes of flags of the module, if there are others than those of temperature and voltage, which have lines of their own. */
-static void print_module_flags(const uint8_t *bytes) {
+static void print_module_flags(struct printer *printer, const uint8_t *bytes) {
     if ((bytes[0] | bytes[2] | bytes[3]) == 0) return;
-    fputs("module-flags", stdout);
-    print_bytes(stdout, bytes, 4);
-    putchar('\n');
+    if (!printer->json) {
+        fputs("module-flags", stdout);
+        print_bytes(stdout, bytes, 4);
+        putchar('\n');
+        return;
+    }
+    for (unsigned bit = 0; bit < 32; bit++) {
+        char name[8];
+        snprintf(name, sizeof name, "%u.%u", MODULE_FLAGS + bit / 8, bit % 8);
+        if (bit / 8 == 1 || !(bytes[bit / 8] >> bit % 8 & 1)) continue;
+        print_flag(printer, "module-flag-", name);
+        putchar('}');
+    }
 }
 
-/* In the lines and in the order of cmisctl's report `flags`, but no line if none is raised. */
+static void print_all(const struct port *port, struct printer *printer, const struct dovecounter_flags *flags) {
+    print_levels(printer, "temperature", &flags->temperature, false);
+    print_levels(printer, "vcc", &flags->vcc, false);
+    print_raised(printer, "path-state-changed", "", flags->path_state_changed);
+    print_raised(printer, "tx-failure", "", flags->tx_fault);
+    print_raised(printer, "tx-los", "", flags->tx_los);
+    print_raised(printer, "tx-lol", "", flags->tx_lol);
+    print_raised(printer, "tx-eq-fail", "", flags->tx_eq_fail);
+    print_levels(printer, "tx-power", &flags->tx_power, true);
+    print_levels(printer, "tx-bias", &flags->tx_bias, true);
+    print_raised(printer, "rx-los", "", flags->rx_los);
+    print_raised(printer, "rx-lol", "", flags->rx_lol);
+    print_levels(printer, "rx-power", &flags->rx_power, true);
+    if (flags->family == DOVECOUNTER_CMIS) print_module_flags(printer, bytes_at(port, MODULE_FLAGS));
+}
+
+/* In the lines and in the order of cmisctl's report `flags`, but no line if none is raised; in JSON the member `flags`. */
 void print_flags(const struct port *port) {
+    struct printer printer = {port->json, ""};
     struct dovecounter_flags flags;
-    if (dovecounter_flags(port->halves, port->half_count, &flags) != DOVECOUNTER_DONE) return;
-    print_levels("temperature", &flags.temperature, false);
-    print_levels("vcc", &flags.vcc, false);
-    print_raised("path-state-changed", "", flags.path_state_changed);
-    print_raised("tx-failure", "", flags.tx_fault);
-    print_raised("tx-los", "", flags.tx_los);
-    print_raised("tx-lol", "", flags.tx_lol);
-    print_raised("tx-eq-fail", "", flags.tx_eq_fail);
-    print_levels("tx-power", &flags.tx_power, true);
-    print_levels("tx-bias", &flags.tx_bias, true);
-    print_raised("rx-los", "", flags.rx_los);
-    print_raised("rx-lol", "", flags.rx_lol);
-    print_levels("rx-power", &flags.rx_power, true);
-    if (flags.family == DOVECOUNTER_CMIS) print_module_flags(bytes_at(port, MODULE_FLAGS));
+    bool known = dovecounter_flags(port->halves, port->half_count, &flags) == DOVECOUNTER_DONE;
+    if (port->json) fputs("\"flags\": [", stdout);
+    if (known) print_all(port, &printer, &flags);
+    if (port->json) putchar(']');
 }

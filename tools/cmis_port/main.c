@@ -9,7 +9,7 @@
 #include <unistd.h>
 
 static const char usage[] =
-    "usage: cmis-port BUS image | state | plan WEIGHTS | provision WEIGHTS | wake | sleep\n"
+    "usage: cmis-port BUS image | state | history | plan [WEIGHTS] | provision WEIGHTS | wake | sleep\n"
     "       cmis-port BUS firmware [commit | abort | update FILE]\n"
     "       cmis-port BUS lanes\n"
     "       cmis-port BUS tx | rx on | off LANES\n"
@@ -19,12 +19,14 @@ static const char usage[] =
     "       cmis-port BUS loopback media | host output | input [LANES]\n"
     "       cmis-port BUS prbs --side media | host --pattern PATTERN --for TIME\n"
     "       cmis-port BUS settings [set lane=LANES SETTING=VALUE ..]\n"
-    "  BUS             /dev/i2c-N, the eeprom file of the driver optoe, or sim:IMAGE[,SCRIPT] to simulate a module\n"
+    "  BUS             /dev/i2c-N, the eeprom file of the driver optoe, or sim:IMAGE[,SCRIPT] to simulate a module;\n"
+    "                  or a port of cmisd, as swp1, which answers image, state, history and plan without the bus\n"
     "  LANES           such as 3 or 1-4,7: media lanes of tx and tx-squelch, else host lanes\n"
     "  WEIGHTS         a file with a line [host] and lines such as 0Dh = 101\n"
     "  image           print the module's memory, for cmisctl\n"
     "  state           print the states of the module and its lanes, its flags, and the active control bytes\n"
-    "  plan            print the best plan, and whether provision would accept it\n"
+    "  history         print how often flags were raised and lanes have changed, and when last, as cmisd has it\n"
+    "  plan            print the best plan, and whether provision would accept it; without WEIGHTS by cmisd's\n"
     "  provision       write the best plan to the module\n"
     "  wake            take the module out of low power\n"
     "  sleep           put it into low power\n"
@@ -52,7 +54,7 @@ static const char usage[] =
     "  --lanes LANES   make and check the pattern on these lanes of the side alone\n"
     "  --loopback X    loop them back meanwhile: media-output, media-input, host-output or host-input\n"
     "  --show X        print error ratios, counts (of lanes 1 to 4 or 5 to 8), or noise\n"
-    "  --json          print of firmware, of progress, of lanes, links and settings a line of JSON each\n"
+    "  --json          print a line of JSON each\n"
     "  --log FILE      write each transaction to FILE\n"
     "Examples:\n"
     "  cmis-port /dev/i2c-7 image | cmisctl inventory\n"
@@ -118,6 +120,7 @@ struct command {
     bool plans;                                        /* it takes --keep, --unpaired and --counts-by-id */
     bool stores, forces;                               /* it takes --activate, --ensure and --wake; it takes --force */
     bool resets, shows;                                /* it takes --reset and --no-commit; it takes --json */
+    bool asks;                                         /* it takes the memory as cmisd has it */
     bool borrows;                                      /* it may have the bus of a port that cmisd keeps */
     bool unlocks;                                      /* it takes --password */
     bool sets;                                         /* its words are followed by a setting and lanes */
@@ -125,7 +128,9 @@ struct command {
     bool tunes;         /* its words are followed by settings with their values */
 };
 
-static bool read_host(struct port *port, const char *name) { return read_weights(name, port->weights); }
+static bool read_host(struct port *port, const char *name) {
+    return port->is_weighed = read_weights(name, port->weights);
+}
 
 static bool is_stray(const struct port *port, const struct command *command) {
     bool asks = port->kept_count > 0 || port->unpaired || port->counts_by_id;
@@ -141,9 +146,11 @@ static bool is_stray(const struct port *port, const struct command *command) {
 /* The command that the words name, if all flags are its own; else NULL. The last word is that of the file that it takes. */
 static const struct command *read_words(int count, char **words, struct port *port) {
     static const struct command commands[] = {
-        {.name = "image", .run = image},
-        {.name = "state", .run = state},
-        {.name = "plan", .run = plan, .read = read_host, .plans = true},
+        {.name = "image", .run = image, .asks = true, .shows = true},
+        {.name = "state", .run = state, .asks = true, .shows = true},
+        {.name = "history", .run = history, .asks = true, .shows = true},
+        {.name = "plan", .run = plan, .asks = true, .plans = true, .shows = true},
+        {.name = "plan", .run = plan, .read = read_host, .asks = true, .plans = true, .shows = true},
         {.name = "provision", .run = provision, .read = read_host, .plans = true, .stores = true, .forces = true},
         {.name = "wake", .run = wake},
         {.name = "sleep", .run = put_to_sleep, .forces = true},
@@ -163,17 +170,23 @@ static const struct command *read_words(int count, char **words, struct port *po
          .shows = true,
          .borrows = true,
          .unlocks = true},
-        {.name = "lanes", .run = print_controls, .shows = true},
-        {.name = "settings", .run = print_settings, .shows = true},
-        {.name = "settings", .second = "set", .run = change_settings, .tunes = true, .forces = true, .shows = true},
-        {.name = "tx", .run = change_lanes, .sets = true, .forces = true, .shows = true},
-        {.name = "rx", .run = change_lanes, .sets = true, .forces = true, .shows = true},
-        {.name = "tx-polarity", .run = change_lanes, .sets = true, .forces = true, .shows = true},
-        {.name = "rx-polarity", .run = change_lanes, .sets = true, .forces = true, .shows = true},
-        {.name = "tx-squelch", .run = change_lanes, .sets = true, .forces = true, .shows = true},
-        {.name = "rx-squelch", .run = change_lanes, .sets = true, .forces = true, .shows = true},
-        {.name = "loopback", .run = test_link, .loops = true, .forces = true, .shows = true},
-        {.name = "prbs", .run = test_link, .checks = true, .forces = true, .shows = true}};
+        {.name = "lanes", .run = print_controls, .shows = true, .borrows = true},
+        {.name = "settings", .run = print_settings, .shows = true, .borrows = true},
+        {.name = "settings",
+         .second = "set",
+         .run = change_settings,
+         .tunes = true,
+         .forces = true,
+         .shows = true,
+         .borrows = true},
+        {.name = "tx", .run = change_lanes, .sets = true, .forces = true, .shows = true, .borrows = true},
+        {.name = "rx", .run = change_lanes, .sets = true, .forces = true, .shows = true, .borrows = true},
+        {.name = "tx-polarity", .run = change_lanes, .sets = true, .forces = true, .shows = true, .borrows = true},
+        {.name = "rx-polarity", .run = change_lanes, .sets = true, .forces = true, .shows = true, .borrows = true},
+        {.name = "tx-squelch", .run = change_lanes, .sets = true, .forces = true, .shows = true, .borrows = true},
+        {.name = "rx-squelch", .run = change_lanes, .sets = true, .forces = true, .shows = true, .borrows = true},
+        {.name = "loopback", .run = test_link, .loops = true, .forces = true, .shows = true, .borrows = true},
+        {.name = "prbs", .run = test_link, .checks = true, .forces = true, .shows = true, .borrows = true}};
     if (!read_flags(count, words, port) || port->help || optind + 1 >= count) return NULL;
     port->bus.name = words[optind];
     for (const struct command *each = commands; each < commands + sizeof commands / sizeof *commands; each++) {
@@ -196,13 +209,23 @@ static void close_log(struct port *port) {
     if (fclose(port->log) != 0 || !is_whole) warnx("%s: not each operation could be written there", port->log_name);
 }
 
+/* What it takes to begin: a file, cmisd's answer, the bus. */
+static enum status prepare(const struct command *command, struct port *port, const char *name) {
+    if (port->password_name != NULL && !read_password(port, port->password_name)) return REFUSED;
+    if (command->read != NULL && !command->read(port, name)) return REFUSED;
+    ask_manager(port, command->asks);
+    if (command->run == history) return DONE;
+    if (command->asks && !take_told(port)) return REFUSED;
+    if (command->run == plan && !port->is_weighed && !port->is_told)
+        return warnx("%s: no cmisd keeps it, so a file with weights has to be named", port->bus.name), COMMAND_LINE;
+    return (!command->borrows || borrow_bus(port)) && open_port(port) ? DONE : REFUSED;
+}
+
 /* Whatever may keep the program waiting is read before signals are held back, and before the module is touched. */
 static enum status run(const struct command *command, struct port *port, const char *name) {
-    bool ready = port->password_name == NULL || read_password(port, port->password_name);
-    ready = ready && (command->read == NULL || command->read(port, name));
-    ready = ready && (!command->borrows || borrow_bus(port)) && open_port(port);
+    enum status status = prepare(command, port, name);
     hold_signals(&port->signals);
-    enum status status = ready ? command->run(port) : REFUSED;
+    if (status == DONE) status = command->run(port);
     unlock_bus(&port->bus);
     release_signals(port);
     if (port->log != NULL) close_log(port);

@@ -72,6 +72,7 @@ bool read_module(struct port *port, bool of_any_family) {
     struct dovecounter_ending ending;
     unsigned fault;
     uint8_t most;
+    if (port->is_told) return true;
     port->ending = GOES_ON;
     do {
         dovecounter_read_begin(most = port->most, &patience, &talk.conversation);

@@ -18,7 +18,8 @@ struct port {
     /* what is asked for */
     const char *log_name, *password_name;
     bool activate, ensure, force, wake, help, unpaired, counts_by_id, reset, no_commit, json;
-    uint32_t weights[256];
+    uint32_t weights[256], stay;
+    bool is_weighed; /* by words of the command line */
     struct dovecounter_path kept[9];
     size_t kept_count;
     struct dovecounter_lane_change change;
@@ -32,7 +33,9 @@ struct port {
 
     /* the bus */
     struct bus bus;
-    int manager; /* a connection to cmisd, which lends the bus as long as that stands, or -1 */
+    int manager;      /* a connection to cmisd, which lends the bus as long as that stands, or -1 */
+    const char *told; /* what cmisd has answered about the port, or NULL */
+    bool is_told;     /* the memory is as cmisd has it, and no bus is opened */
     FILE *log;
     uint8_t most, least; /* bytes that the adapter fetches at once: as far as is known, and certainly */
     sigset_t signals;    /* they end the program between two operations */
@@ -62,6 +65,9 @@ uint8_t transact(struct port *port, const struct dovecounter_operation *operatio
 uint8_t transact_in_pieces(struct port *port, const struct dovecounter_operation *operation, uint8_t bytes[128]);
 
 /* manager.c */
+void ask_manager(struct port *port, bool reads);
+bool take_told(struct port *port);
+enum status history(struct port *port);
 bool borrow_bus(struct port *port);
 void give_back_bus(struct port *port);
 

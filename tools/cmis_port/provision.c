@@ -32,30 +32,65 @@ static void print_plan(const struct port *port) {
     print_line("control", port->plan.control, "\n");
 }
 
-/* Reads the module, and finds and prints the plan. */
+/* Reads the module, prints its flags, and finds the plan. */
 static bool find_plan(struct port *port) {
     bool whole = read_module(port, false);
     print_flags(port);
     if (!whole) return false;
     uint32_t status = dovecounter_plan(port->halves, port->half_count, !port->unpaired, port->counts_by_id,
-                                       port->weights, 0, port->kept, port->kept_count, &port->plan);
+                                       port->weights, port->stay, port->kept, port->kept_count, &port->plan);
     if (status == DOVECOUNTER_DONE && bytes_at(port, ACTIVE) == NULL) status = DOVECOUNTER_ENDED;
-    if (status != DOVECOUNTER_DONE) return refuse_by(port, status), false;
+    return status == DOVECOUNTER_DONE || (refuse_by(port, status), false);
+}
+
+/* As cmisd writes control bytes. */
+static void print_control(const char *name, const uint8_t control[8]) {
+    printf(", \"%s\": \"", name);
+    for (unsigned lane = 0; lane < 8; lane++) printf("%s%02x", lane > 0 ? " " : "", control[lane]);
+    putchar('"');
+}
+
+static void print_plan_in_json(const struct port *port, const struct dovecounter_effect *effect) {
+    static const char *const hindrances[] = {[DOVECOUNTER_OTHER_STATE] = "other-state",
+                                             [DOVECOUNTER_OTHER_BYTES] = "other-bytes",
+                                             [DOVECOUNTER_WOULD_COME_UP] = "would-come-up",
+                                             [DOVECOUNTER_NO_PATH] = "no-path",
+                                             [DOVECOUNTER_WOULD_GO_DOWN] = "would-go-down"};
+    bool is_refused = status_by(effect) != DONE;
+    printf(", \"weight\": %llu, \"paths\": [", (unsigned long long)port->plan.weight);
+    for (size_t i = 0; i < port->plan.count; i++) {
+        const struct dovecounter_path *path = &port->plan.paths[i];
+        printf("%s{\"application\": %u, \"host\": %u, \"media\": %u}", i > 0 ? ", " : "", path->application, path->host,
+               path->media);
+    }
+    putchar(']');
+    print_control("control", port->plan.control);
+    print_control("active", bytes_at(port, ACTIVE));
+    printf(", \"provision\": \"%s\", ", is_refused        ? hindrances[effect->hindrance]
+                                        : effect->is_done ? "done"
+                                                          : "takes");
+    print_list("lanes", is_refused ? effect->lanes : effect->taken);
+}
+
+static void print_plan_in_text(const struct port *port, const struct dovecounter_effect *effect) {
     print_plan(port);
-    return true;
+    print_held(port);
+    if (status_by(effect) != DONE)
+        say_hindrance(stdout, "provision refuses:", effect);
+    else if (effect->is_done)
+        puts("provision has nothing to do");
+    else
+        say_lanes(stdout, "provision takes", effect->taken, "");
 }
 
 enum status plan(struct port *port) {
-    if (!find_plan(port)) return REFUSED;
-    print_held(port);
-    struct dovecounter_effect effect = judge(port);
-    if (status_by(&effect) != DONE)
-        say_hindrance(stdout, "provision refuses:", &effect);
-    else if (effect.is_done)
-        puts("provision has nothing to do");
-    else
-        say_lanes(stdout, "provision takes", effect.taken, "");
-    return DONE;
+    if (port->json) putchar('{');
+    bool found = find_plan(port);
+    struct dovecounter_effect effect = found ? judge(port) : (struct dovecounter_effect){0};
+    if (found && !port->json) print_plan_in_text(port, &effect);
+    if (found && port->json) print_plan_in_json(port, &effect);
+    if (port->json) puts("}");
+    return found ? DONE : REFUSED;
 }
 
 /* Wakes the module up if it is in low power, and looks again at what stands against provisioning. */
@@ -104,6 +139,7 @@ static enum status say_what_is_held(struct port *port, bool done) {
 
 enum status provision(struct port *port) {
     if (!find_plan(port)) return REFUSED;
+    print_plan(port);
     struct dovecounter_effect effect = judge(port);
     enum status status = status_by(&effect);
     if (status != DONE || effect.is_done) {

@@ -20,14 +20,21 @@ static bool read_half(const char *line, struct dovecounter_half *half) {
     return strlen(digits) == 256 && read_digits(digits, half->bytes);
 }
 
-static bool read_image(const char *name, struct simulated *simulated) {
+/* The halves of an image text; how many there are. */
+size_t read_halves(FILE *file, struct dovecounter_half *halves, size_t most) {
     char line[400];
+    size_t count = 0;
+    for (int lines = 0; lines < 64 && count < most; lines++) {
+        if (fgets(line, sizeof line, file) == NULL || strcmp(line, "end\n") == 0) break;
+        if (read_half(line, &halves[count])) count++;
+    }
+    return count;
+}
+
+static bool read_image(const char *name, struct simulated *simulated) {
     FILE *file = fopen(name, "r");
     if (file == NULL) return warn("%s", name), false;
-    for (int lines = 0; lines < 64 && simulated->count < 16; lines++) {
-        if (fgets(line, sizeof line, file) == NULL || strcmp(line, "end\n") == 0) break;
-        if (read_half(line, &simulated->halves[simulated->count])) simulated->count++;
-    }
+    simulated->count = read_halves(file, simulated->halves, 16);
     fclose(file);
     return true;
 }

@@ -70,7 +70,9 @@ static bool open_log(struct port *port) {
     return true;
 }
 
-bool open_port(struct port *port) { return open_bus(&port->bus) && (port->log_name == NULL || open_log(port)); }
+bool open_port(struct port *port) {
+    return (port->is_told || open_bus(&port->bus)) && (port->log_name == NULL || open_log(port));
+}
 
 /* A line as the command trace of cmisctl prints it. */
 static void log_operation(struct port *port, const struct dovecounter_operation *operation, bool answered,

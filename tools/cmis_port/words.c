@@ -60,13 +60,26 @@ void print_codes(FILE *out, const uint8_t codes[4], const char *const names[16])
 }
 
 /* A line of an image, as cmisctl reads it. */
-void print_half(FILE *out, const struct dovecounter_half *half) {
+static void print_half(FILE *out, const struct dovecounter_half *half, const char *end) {
+    static const char digits[] = "0123456789abcdef";
+    char hex[2 * sizeof half->bytes + 1];
     if (half->upper)
         fprintf(out, "upper %02X %02x %02x ", half->device, half->bank, half->page);
     else
         fprintf(out, "lower %02X ", half->device);
-    for (size_t at = 0; at < sizeof half->bytes; at++) fprintf(out, "%02x", half->bytes[at]);
-    fputc('\n', out);
+    for (size_t at = 0; at < 2 * sizeof half->bytes; at++)
+        hex[at] = digits[half->bytes[at / 2] >> (at % 2 == 0 ? 4 : 0) & 15];
+    hex[sizeof hex - 1] = 0;
+    fputs(hex, out);
+    fputs(end, out);
+}
+
+/* An image, from this half on by steps of 1 or -1, with this end of each line; none of no halves. */
+void print_image(FILE *out, const struct dovecounter_half *first, size_t count, int step, const char *end) {
+    if (count == 0) return;
+    fprintf(out, "module-image 1%s", end);
+    for (; count > 0; count--, first += step) print_half(out, first, end);
+    fprintf(out, "end%s", end);
 }
 
 void print_lanes(FILE *out, unsigned lanes) {

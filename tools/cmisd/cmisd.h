@@ -43,7 +43,10 @@ struct port {
     unsigned operations, nacks; /* all transactions; all refused */
     struct dovecounter_half halves[DOVECOUNTER_MOST_READ];
     size_t half_count;
-    int page; /* that was read to be selected last, or -1 */
+    int64_t read_at;                    /* when one was read last as a whole */
+    int page;                           /* that was read to be selected last, or -1 */
+    bool has_new_image, has_new_counts; /* than its files */
+    struct dovecounter_plan plan; /* whose paths are shown, if its control bytes are those that the port works for */
 
     uint8_t stage; /* as it was told last */
     int64_t since, failed_at;
@@ -77,16 +80,27 @@ void tell_flags(struct port *port);
 void hear(struct port *port, const struct dovecounter_port_outcome *outcome);
 
 /* status.c */
-extern const char *folder;
+struct raised {
+    char name[NAME_SIZE];
+    unsigned lane; /* 0 of a flag of the module */
+    uint16_t count;
+    int64_t last;
+};
 extern const char *const requests[4];
 void print_text(FILE *out, const char *before, const char *name, const char *text);
+void print_seconds(FILE *out, int64_t moment);
 void print_moment(FILE *out, const char *before, const char *name, int64_t moment);
 void begin_port(FILE *out, const struct port *port);
 void print_port(FILE *out, const struct port *port);
+void print_memory(FILE *out, const struct port *port);
 void name_flag(char name[NAME_SIZE], size_t flag);
+struct raised raised_of(const struct port *port, size_t flag);
 const struct dovecounter_half *half_of(const struct port *port, uint8_t upper, uint8_t page);
-void put_status(const struct port *port);
-void put_image(const struct port *port);
+
+/* files.c */
+extern const char *folder;
+void put_image(struct port *port);
+void put_status(struct port *port);
 void remove_file(const char *port, const char *ending);
 void remove_old_files(void);
 

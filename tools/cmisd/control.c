@@ -46,7 +46,11 @@ static void answer_ports(FILE *out, struct port *port, const char *word) {
 static void answer_show(FILE *out, struct port *port, const char *word) {
     (void)word;
     print_port(out, port);
-    fputc('\n', out);
+}
+
+static void answer_memory(FILE *out, struct port *port, const char *word) {
+    (void)word;
+    print_memory(out, port);
 }
 
 static void answer_hold(FILE *out, struct port *port, const char *word) {
@@ -92,6 +96,7 @@ static void answer_acknowledge(FILE *out, struct port *port, const char *word) {
     if (*end != 0 || moment > (uint64_t)now()) return answer_error(out, "that is no moment that show has named");
     dovecounter_port_acknowledge(&port->core, moment);
     port->flags = port->core.flags;
+    port->has_new_counts = true;
     tell(port, "acknowledged", "");
     answer_done(out);
 }
@@ -106,11 +111,17 @@ static const struct command {
     const char *name;
     void (*answer)(FILE *out, struct port *port, const char *word);
     int least, most; /* words after the command, of which the first one is a port */
-} commands[] = {{"ports", answer_ports, 0, 0},           {"show", answer_show, 1, 1},
-                {"reload", answer_reload, 0, 0},         {"hold", answer_hold, 1, 1},
-                {"release", answer_release, 1, 1},       {"wake", answer_wake, 1, 1},
-                {"sleep", answer_sleep, 1, 2},           {"provision", answer_provision, 1, 2},
-                {"deactivate", answer_deactivate, 2, 2}, {"acknowledge", answer_acknowledge, 1, 2}};
+} commands[] = {{"ports", answer_ports, 0, 0},
+                {"show", answer_show, 1, 1},
+                {"memory", answer_memory, 1, 1},
+                {"reload", answer_reload, 0, 0},
+                {"hold", answer_hold, 1, 1},
+                {"release", answer_release, 1, 1},
+                {"wake", answer_wake, 1, 1},
+                {"sleep", answer_sleep, 1, 2},
+                {"provision", answer_provision, 1, 2},
+                {"deactivate", answer_deactivate, 2, 2},
+                {"acknowledge", answer_acknowledge, 1, 2}};
 
 static void answer(FILE *out, char *line) {
     char *words[WORDS + 1] = {NULL}, *rest = line;
@@ -122,12 +133,12 @@ static void answer(FILE *out, char *line) {
         if (count - 1 < command->least || count - 1 > command->most)
             return answer_error(out, "other words follow that");
         struct port *port = count > 1 ? port_of(words[1]) : NULL;
+        if (count > 1 && port == NULL) port = port_on(words[1]);
         if (count > 1 && port == NULL) return answer_error(out, "there is no such port");
         return command->answer(out, port, count > 2 ? words[2] : NULL);
     }
-    answer_error(
-        out,
-        "one of: ports, show, events, reload, hold, release, lend, wake, sleep, provision, deactivate, acknowledge");
+    answer_error(out, "one of: ports, show, memory, events, reload, hold, release, lend, wake, sleep, provision, "
+                      "deactivate, acknowledge");
 }
 
 /* ---- clients */

@@ -146,7 +146,7 @@ static void look_at_pin(struct port *port) {
     if (found == 1 || was_there) take_presence(port, found == 1 ? DOVECOUNTER_PLUGGED : DOVECOUNTER_PULLED);
 }
 
-/* Looks at the pin, or fetches byte 0, which clears no flag. */
+/* Looks at the pin, or fetches byte 0, which clears no flag, if nothing was answered for a second. */
 static void look(struct port *port) {
     static const struct dovecounter_operation first = {.kind = DOVECOUNTER_FETCH, .device = 0xA0, .count = 1};
     uint8_t bytes[128];
@@ -168,6 +168,7 @@ static void take_half(struct port *port, const struct dovecounter_half *half) {
     while (at < port->half_count && memcmp(&port->halves[at], half, offsetof(struct dovecounter_half, bytes)) != 0)
         at++;
     if (at == DOVECOUNTER_MOST_READ) return;
+    if (at == port->half_count || memcmp(&port->halves[at], half, sizeof *half) != 0) port->has_new_image = true;
     if (at == port->half_count) port->half_count++;
     port->halves[at] = *half;
 }
@@ -188,6 +189,7 @@ static void remember(struct port *port, const struct dovecounter_port_next *next
     if (!next->whole) half = *known;
     memcpy(half.bytes + made->offset % 128, bytes, made->count);
     take_half(port, &half);
+    if (next->whole) port->read_at = now();
 }
 
 static void carry_out(struct port *port, const struct dovecounter_port_next *next) {
@@ -203,6 +205,7 @@ static void carry_out(struct port *port, const struct dovecounter_port_next *nex
     tell_flags(port);
     hear(port, &led_to);
     if (led_to.kind == DOVECOUNTER_PORT_FAILED) forget(port);
+    if (answered && port->entry.presence[0] == 0) port->looks_at = now() + SECOND;
     take_answer(port, answered, began);
 }
 
@@ -212,9 +215,10 @@ static void step(struct port *port) {
     bool still = is_still(port), has_pin = port->entry.presence[0] != 0;
     if (still) shut(port);
     if (!still && !port->is_open) return reopen(port);
-    if ((has_pin || !still) && port->looks_at <= now()) return look(port);
+    if (has_pin && port->looks_at <= now()) return look(port);
     must(dovecounter_port_next(&port->core, (uint64_t)now(), &next));
     if (next.kind == DOVECOUNTER_PORT_DO) return carry_out(port, &next);
+    if (!still && port->looks_at <= now()) return look(port);
     port->due = has_pin || !still ? port->looks_at : INT64_MAX;
     if (next.kind == DOVECOUNTER_PORT_UNTIL && next.moment < (uint64_t)port->due) port->due = (int64_t)next.moment;
 }
@@ -359,6 +363,7 @@ static void add(const struct entry *entry) {
     must(dovecounter_port_hold(&port->core, is_still(port)));
     while (*link != NULL) link = &(*link)->next;
     *link = port;
+    port->has_new_counts = true;
     tell(port, "added", "");
     wake(port);
 }
@@ -367,8 +372,8 @@ static void retire(struct port *port) {
     tell(port, "removed", "");
     port->is_retired = true;
     port->due = INT64_MIN;
-    remove_file(port->entry.name, "image");
-    remove_file(port->entry.name, "json");
+    for (const char *const *each = (const char *const[]){"image", "json", "prom", NULL}; *each != NULL; each++)
+        remove_file(port->entry.name, *each);
     pthread_cond_signal(&port->adapter->woken);
 }
 

@@ -1,26 +1,29 @@
-/* The files of a port, each put in its place whole: PORT.image, its memory as a text of cmisctl, and PORT.json, how it is. */
+/* How a port is, in JSON: a line for PORT.json and for who asks; and what cmis-port goes by in place of a bus. */
 #include "cmisd.h"
 
-#include <dirent.h>
-#include <err.h>
 #include <string.h>
 #include <time.h>
-#include <unistd.h>
 
 enum { MODULE_STATE = 3, CONFIG_STATUSES = 202 - 128, ACTIVE = 206 - 128 };
 
-const char *folder = "/run/cmisd";
-
 /* ---- members of JSON, each after `before`, which may be a comma */
 
-static void print_name(FILE *out, const char *before, const char *name) { fprintf(out, "%s\"%s\": ", before, name); }
+static void print_name(FILE *out, const char *before, const char *name) {
+    fputs(before, out);
+    fputc('"', out);
+    fputs(name, out);
+    fputs("\": ", out);
+}
 
 void print_text(FILE *out, const char *before, const char *name, const char *text) {
     print_name(out, before, name);
     fputc('"', out);
     for (const char *each = text; *each != 0; each++) {
         bool is_plain = *each >= ' ' && *each <= '~' && *each != '"' && *each != '\\';
-        fprintf(out, is_plain ? "%c" : "\\u%04x", (unsigned char)*each);
+        if (is_plain)
+            fputc(*each, out);
+        else
+            fprintf(out, "\\u%04x", (unsigned char)*each);
     }
     fputc('"', out);
 }
@@ -36,12 +39,16 @@ static void print_flag(FILE *out, const char *before, const char *name, bool fla
 }
 
 /* In seconds since 1970, of a moment of now(). */
-void print_moment(FILE *out, const char *before, const char *name, int64_t moment) {
+void print_seconds(FILE *out, int64_t moment) {
     struct timespec time;
     clock_gettime(CLOCK_REALTIME, &time);
     int64_t real = (int64_t)time.tv_sec * 1000 + time.tv_nsec / 1000000 - now() + moment;
-    print_name(out, before, name);
     fprintf(out, "%lld.%03lld", (long long)(real / 1000), (long long)(real % 1000));
+}
+
+void print_moment(FILE *out, const char *before, const char *name, int64_t moment) {
+    print_name(out, before, name);
+    print_seconds(out, moment);
 }
 
 /* ---- what is known of a module */
@@ -76,21 +83,18 @@ static void print_control(FILE *out, const uint8_t control[8]) {
 
 /* What the port works for, with the paths that these bytes stand for. */
 static void print_plan(FILE *out, const struct port *port) {
-    const struct dovecounter_wanted *wanted = &port->entry.wanted;
     const struct dovecounter_goal *goal = &port->core.goal;
-    struct dovecounter_plan plan;
+    const struct dovecounter_plan *plan = &port->plan;
     if (port->core.stage < DOVECOUNTER_PORT_PROVISIONING || port->core.stage > DOVECOUNTER_PORT_WATCHING) return;
     fputs(", \"plan\": {", out);
     print_control(out, goal->control);
-    uint32_t status = dovecounter_plan(port->halves, port->half_count, wanted->paired, wanted->counts_by_id,
-                                       wanted->weights, wanted->stay, NULL, 0, &plan);
-    bool is_same = status == DOVECOUNTER_DONE && memcmp(plan.control, goal->control, sizeof plan.control) == 0;
-    for (size_t i = 0; i < plan.count && is_same; i++) {
-        print_number(out, i == 0 ? ", \"paths\": [{" : "}, {", "application", plan.paths[i].application);
-        print_number(out, ", ", "host", plan.paths[i].host);
-        print_number(out, ", ", "media", plan.paths[i].media);
+    bool is_same = plan->count > 0 && memcmp(plan->control, goal->control, sizeof plan->control) == 0;
+    for (size_t i = 0; i < plan->count && is_same; i++) {
+        print_number(out, i == 0 ? ", \"paths\": [{" : "}, {", "application", plan->paths[i].application);
+        print_number(out, ", ", "host", plan->paths[i].host);
+        print_number(out, ", ", "media", plan->paths[i].media);
     }
-    fputs(is_same && plan.count > 0 ? "}]}" : "}", out);
+    fputs(is_same ? "}]}" : "}", out);
 }
 
 /* Since when a code of a lane is as it was read last, if it has ever changed, and how often it has changed. */
@@ -155,22 +159,29 @@ void name_flag(char name[NAME_SIZE], size_t flag) {
         snprintf(name, NAME_SIZE, "module-flag-%zu.%zu", 8 + flag / 8, flag % 8);
 }
 
-static void print_flags(FILE *out, const struct port *port) {
+/* A flag, by the order of names, and how often and when it was raised; without its name if never. */
+struct raised raised_of(const struct port *port, size_t flag) {
     const struct dovecounter_flag_counts *flags = &port->core.flags;
+    bool of_lane = flag >= MODULE_FLAGS;
+    size_t at = of_lane ? flag - MODULE_FLAGS : flag;
+    struct raised raised = {.lane = of_lane ? (unsigned)(at % 8 + 1) : 0,
+                            .count = of_lane ? flags->lane_counts[at] : flags->module_counts[at],
+                            .last = (int64_t)(of_lane ? flags->lane_last[at] : flags->module_last[at])};
+    if (raised.count > 0) name_flag(raised.name, flag);
+    return raised;
+}
+
+static void print_flags(FILE *out, const struct port *port) {
     const char *before = "";
     fputs(", \"flags\": [", out);
     for (size_t flag = 0; flag < MODULE_FLAGS + LANE_FLAGS; flag++) {
-        bool of_lane = flag >= MODULE_FLAGS;
-        size_t at = of_lane ? flag - MODULE_FLAGS : flag;
-        char name[NAME_SIZE];
-        uint16_t count = of_lane ? flags->lane_counts[at] : flags->module_counts[at];
-        if (count == 0) continue;
-        name_flag(name, flag);
+        const struct raised raised = raised_of(port, flag);
+        if (raised.count == 0) continue;
         fprintf(out, "%s{", before);
-        print_text(out, "", "flag", name);
-        if (of_lane) print_number(out, ", ", "lane", at % 8 + 1);
-        print_number(out, ", ", "count", count);
-        print_moment(out, ", ", "last", (int64_t)(of_lane ? flags->lane_last[at] : flags->module_last[at]));
+        print_text(out, "", "flag", raised.name);
+        if (raised.lane > 0) print_number(out, ", ", "lane", raised.lane);
+        print_number(out, ", ", "count", raised.count);
+        print_moment(out, ", ", "last", raised.last);
         fputc('}', out);
         before = ", ";
     }
@@ -242,7 +253,7 @@ void begin_port(FILE *out, const struct port *port) {
     print_wait(out, port);
 }
 
-void print_port(FILE *out, const struct port *port) {
+static void print_members(FILE *out, const struct port *port) {
     begin_port(out, port);
     if (print_identity(out, port)) print_lanes(out, port);
     print_plan(out, port);
@@ -253,63 +264,35 @@ void print_port(FILE *out, const struct port *port) {
     print_number(out, ", ", "refused", port->nacks);
     print_number(out, ", ", "moment", (uint64_t)now());
     print_moment(out, ", ", "time", now());
-    fputs("}", out);
 }
 
-/* ---- files */
-
-static void print_line(FILE *out, const struct port *port) {
-    print_port(out, port);
-    fputc('\n', out);
+void print_port(FILE *out, const struct port *port) {
+    print_members(out, port);
+    fputs("}\n", out);
 }
 
-/* The lower half comes first, as it was read first. */
-static void print_image(FILE *out, const struct port *port) {
-    fputs("module-image 1\n", out);
-    for (size_t i = 0; i < port->half_count; i++) print_half(out, &port->halves[i]);
-    fputs("end\n", out);
+/* As a text of lines, in JSON. */
+static void print_weights(FILE *out, const uint32_t weights[256]) {
+    print_name(out, ", ", "weights");
+    fputs("\"[host]\\n", out);
+    for (unsigned id = 0; id < 256; id++)
+        if (weights[id] > 0) fprintf(out, "%02Xh = %u\\n", id, weights[id]);
+    fputc('"', out);
 }
 
-/* Says once that files can't be written, and once that they can again. */
-static void note_disk(const char *name, bool is_written) {
-    static bool was_written = true;
-    if (!is_written && was_written) warn("%s", name);
-    if (is_written && !was_written) warnx("%s: files can be written again", name);
-    was_written = is_written;
-}
-
-static void put_file(const struct port *port, const char *ending, void (*print)(FILE *out, const struct port *port)) {
-    char name[WORDS_SIZE], made[WORDS_SIZE];
-    snprintf(name, sizeof name, "%s/%s.%s", folder, port->entry.name, ending);
-    snprintf(made, sizeof made, "%s/.%s.%s", folder, port->entry.name, ending);
-    FILE *out = fopen(made, "we");
-    if (out == NULL) return note_disk(name, false);
-    print(out, port);
-    bool is_whole = !ferror(out);
-    is_whole = fclose(out) == 0 && is_whole && rename(made, name) == 0;
-    note_disk(name, is_whole);
-    if (!is_whole) unlink(made);
-}
-
-void put_status(const struct port *port) { put_file(port, "json", print_line); }
-void put_image(const struct port *port) { put_file(port, "image", print_image); }
-
-void remove_file(const char *port, const char *ending) {
-    char name[WORDS_SIZE];
-    snprintf(name, sizeof name, "%s/%s.%s", folder, port, ending);
-    unlink(name);
-}
-
-/* Of a run before this one there may be files of ports that are no longer configured, and images of modules that are gone. */
-void remove_old_files(void) {
-    char name[NAME_SIZE];
-    DIR *entries = opendir(folder);
-    for (struct dirent *each; entries != NULL && (each = readdir(entries)) != NULL;) {
-        const char *dot = strrchr(each->d_name, '.');
-        bool is_own = dot != NULL && (strcmp(dot, ".json") == 0 || strcmp(dot, ".image") == 0);
-        if (!is_own) continue;
-        snprintf(name, sizeof name, "%.*s", (int)(dot - each->d_name), each->d_name);
-        if (port_of(name) == NULL || strcmp(dot, ".image") == 0) remove_file(name, dot + 1);
+/* All of a port, and what cmis-port goes by in place of its bus: what the plan goes by; and, unless it is being read, the memory, and how
+   many milliseconds ago the newest half of it was read. */
+void print_memory(FILE *out, const struct port *port) {
+    print_members(out, port);
+    print_weights(out, port->entry.wanted.weights);
+    print_flag(out, ", ", "paired", port->entry.wanted.paired);
+    print_flag(out, ", ", "counts_by_id", port->entry.wanted.counts_by_id);
+    print_number(out, ", ", "stay", port->entry.wanted.stay);
+    if (port->half_count > 0 && port->core.stage != DOVECOUNTER_PORT_READING) {
+        print_number(out, ", ", "age", (uint64_t)(now() - port->read_at));
+        fputs(", \"image\": \"", out);
+        print_image(out, port->halves, port->half_count, 1, "\\n");
+        fputc('"', out);
     }
-    if (entries != NULL) closedir(entries);
+    fputs("}\n", out);
 }

@@ -106,10 +106,19 @@ static void tell_note(struct port *port, uint8_t note) {
     }
 }
 
+/* The best plan, as the module was just read: whose control bytes the port works for, unless somebody asked for something else. */
+static void find_plan(struct port *port) {
+    const struct dovecounter_wanted *wanted = &port->entry.wanted;
+    port->plan.count = 0;
+    dovecounter_plan(port->halves, port->half_count, wanted->paired, wanted->counts_by_id, wanted->weights,
+                     wanted->stay, NULL, 0, &port->plan);
+}
+
 /* What was read as a whole becomes the image. */
 void hear(struct port *port, const struct dovecounter_port_outcome *outcome) {
     char words[WORDS_SIZE];
     if (outcome->kind == DOVECOUNTER_PORT_LEAVES || outcome->note != DOVECOUNTER_PORT_QUIET) put_image(port);
+    if (outcome->note == DOVECOUNTER_PORT_IDENTIFIED || outcome->note == DOVECOUNTER_PORT_CAME_UP) find_plan(port);
     if (outcome->kind == DOVECOUNTER_PORT_WENT) tell_note(port, outcome->note);
     if (outcome->kind == DOVECOUNTER_PORT_FAILED) tell_failure(port, outcome);
     if (outcome->kind != DOVECOUNTER_PORT_LEAVES) return;
@@ -129,8 +138,11 @@ static void tell_flag(struct port *port, size_t flag) {
 
 /* Those that were read as raised for the first time since they were acknowledged. */
 void tell_flags(struct port *port) {
-    const struct dovecounter_flag_counts was = port->flags, *is = &port->core.flags;
+    const struct dovecounter_flag_counts *is = &port->core.flags;
+    if (memcmp(&port->flags, is, sizeof *is) == 0) return;
+    const struct dovecounter_flag_counts was = port->flags;
     port->flags = *is;
+    port->has_new_counts = true;
     for (size_t flag = 0; flag < MODULE_FLAGS; flag++)
         if (is->module_counts[flag] > 0 && was.module_counts[flag] == 0) tell_flag(port, flag);
     for (size_t flag = 0; flag < LANE_FLAGS; flag++)

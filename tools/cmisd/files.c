@@ -1,0 +1,132 @@
+/* The files of a port, each put in its place whole: PORT.image, its memory as a text of cmisctl; PORT.json, how it is; and PORT.prom, what
+   was counted, for Prometheus. */
+#include "cmisd.h"
+
+#include <dirent.h>
+#include <err.h>
+#include <stdio_ext.h>
+#include <string.h>
+#include <unistd.h>
+
+const char *folder = "/run/cmisd";
+
+/* ---- PORT.prom */
+
+static void begin_metric(FILE *out, const char *name, const char *type, const char *about) {
+    fprintf(out, "# HELP %s %s\n# TYPE %s %s\n", name, about, name, type);
+}
+
+/* A sample without its value; lane 0 and no flag are left out. */
+static void begin_sample(FILE *out, const char *name, const struct port *port, unsigned lane, const char *flag) {
+    fprintf(out, "%s{port=\"%s\"", name, port->entry.name);
+    if (lane > 0) fprintf(out, ",lane=\"%u\"", lane);
+    if (flag != NULL) fprintf(out, ",flag=\"%s\"", flag);
+    fputs("} ", out);
+}
+
+/* How often flags were read as raised, or when last. */
+static void print_flags(FILE *out, const struct port *port, const char *name, bool counts) {
+    for (size_t flag = 0; flag < MODULE_FLAGS + LANE_FLAGS; flag++) {
+        const struct raised raised = raised_of(port, flag);
+        if (raised.count == 0) continue;
+        begin_sample(out, name, port, raised.lane, raised.name);
+        if (counts)
+            fprintf(out, "%u", raised.count);
+        else
+            print_seconds(out, raised.last);
+        fputc('\n', out);
+    }
+}
+
+/* How often a code of each lane was read to have changed, and when last. */
+static void print_codes(FILE *out, const struct port *port, const struct dovecounter_lane_codes *codes,
+                        const char *name, const char *about) {
+    char total[64], last[64];
+    snprintf(total, sizeof total, "dovecounter_lane_%s_changes_total", name);
+    begin_metric(out, total, "counter", about);
+    for (unsigned lane = 0; lane < 8; lane++) {
+        begin_sample(out, total, port, lane + 1, NULL);
+        fprintf(out, "%u\n", codes->changes[lane]);
+    }
+    snprintf(last, sizeof last, "dovecounter_lane_%s_changed_timestamp_seconds", name);
+    begin_metric(out, last, "gauge", "when cmisd last read that it has changed");
+    for (unsigned lane = 0; lane < 8; lane++) {
+        if (codes->changes[lane] == 0) continue;
+        begin_sample(out, last, port, lane + 1, NULL);
+        print_seconds(out, (int64_t)codes->last[lane]);
+        fputc('\n', out);
+    }
+}
+
+static void print_metrics(FILE *out, const struct port *port) {
+    static const char total[] = "dovecounter_flag_reads_total", last[] = "dovecounter_flag_read_timestamp_seconds";
+    const struct dovecounter_flag_counts *flags = &port->core.flags;
+    begin_metric(out, total, "counter", "how often cmisd has read the flag as raised");
+    print_flags(out, port, total, true);
+    begin_metric(out, last, "gauge", "when cmisd last read the flag as raised");
+    print_flags(out, port, last, false);
+    print_codes(out, port, &flags->states, "data_path_state", "how often cmisd has read another data path state");
+    print_codes(out, port, &flags->statuses, "config_status", "how often cmisd has read another configuration status");
+}
+
+/* ---- all of them */
+
+static void print_image_of(FILE *out, const struct port *port) {
+    print_image(out, port->halves, port->half_count, 1, "\n");
+}
+
+/* Says once that files can't be written, and once that they can again. */
+static void note_disk(const char *name, bool is_written) {
+    static bool was_written = true;
+    if (!is_written && was_written) warn("%s", name);
+    if (is_written && !was_written) warnx("%s: files can be written again", name);
+    was_written = is_written;
+}
+
+/* Whether it is in its place. */
+static bool put_file(const struct port *port, const char *ending, void (*print)(FILE *out, const struct port *port)) {
+    char name[WORDS_SIZE], made[WORDS_SIZE];
+    snprintf(name, sizeof name, "%s/%s.%s", folder, port->entry.name, ending);
+    snprintf(made, sizeof made, "%s/.%s.%s", folder, port->entry.name, ending);
+    FILE *out = fopen(made, "we");
+    if (out == NULL) return note_disk(name, false), false;
+    __fsetlocking(out, FSETLOCKING_BYCALLER); /* which takes half of the time */
+    print(out, port);
+    bool is_whole = !ferror(out);
+    is_whole = fclose(out) == 0 && is_whole && rename(made, name) == 0;
+    note_disk(name, is_whole);
+    if (!is_whole) unlink(made);
+    return is_whole;
+}
+
+void put_image(struct port *port) {
+    if (port->has_new_image) port->has_new_image = !put_file(port, "image", print_image_of);
+}
+
+/* PORT.json is written although nothing has changed, so that others see when the port was looked at. */
+void put_status(struct port *port) {
+    put_file(port, "json", print_port);
+    if (port->has_new_counts) port->has_new_counts = !put_file(port, "prom", print_metrics);
+}
+
+void remove_file(const char *port, const char *ending) {
+    char name[WORDS_SIZE];
+    snprintf(name, sizeof name, "%s/%s.%s", folder, port, ending);
+    unlink(name);
+}
+
+/* Of a run before this one there may be files of ports that are no longer configured, and images of modules that are gone. */
+void remove_old_files(void) {
+    static const char *const endings[] = {"image", "json", "prom"};
+    char name[NAME_SIZE];
+    DIR *entries = opendir(folder);
+    for (struct dirent *each; entries != NULL && (each = readdir(entries)) != NULL;) {
+        const char *dot = strrchr(each->d_name, '.');
+        bool is_own = false;
+        for (size_t i = 0; i < 3 && dot != NULL; i++) is_own = is_own || strcmp(dot + 1, endings[i]) == 0;
+        if (!is_own) continue;
+        snprintf(name, sizeof name, "%.*s", (int)(dot - each->d_name), each->d_name);
+        if (port_of(name) == NULL || strcmp(dot, ".image") == 0) remove_file(name, dot + 1);
+    }
+    if (entries != NULL) closedir(entries);
+}
