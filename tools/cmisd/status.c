@@ -28,9 +28,18 @@ void print_text(FILE *out, const char *before, const char *name, const char *tex
     fputc('"', out);
 }
 
+/* As printf has it, whose time was half of the daemon's. */
+static void print_digits(FILE *out, uint64_t number) {
+    char digits[20];
+    size_t at = sizeof digits;
+    do digits[--at] = (char)('0' + number % 10);
+    while ((number /= 10) > 0);
+    fwrite(digits + at, 1, sizeof digits - at, out);
+}
+
 static void print_number(FILE *out, const char *before, const char *name, uint64_t number) {
     print_name(out, before, name);
-    fprintf(out, "%llu", (unsigned long long)number);
+    print_digits(out, number);
 }
 
 static void print_flag(FILE *out, const char *before, const char *name, bool flag) {
@@ -43,7 +52,9 @@ void print_seconds(FILE *out, int64_t moment) {
     struct timespec time;
     clock_gettime(CLOCK_REALTIME, &time);
     int64_t real = (int64_t)time.tv_sec * 1000 + time.tv_nsec / 1000000 - now() + moment;
-    fprintf(out, "%lld.%03lld", (long long)(real / 1000), (long long)(real % 1000));
+    print_digits(out, (uint64_t)real / 1000);
+    fputs(real % 1000 < 10 ? ".00" : real % 1000 < 100 ? ".0" : ".", out);
+    print_digits(out, (uint64_t)real % 1000);
 }
 
 void print_moment(FILE *out, const char *before, const char *name, int64_t moment) {
