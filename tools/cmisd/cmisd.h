@@ -29,7 +29,7 @@ struct configuration {
    it out of the list; all else is used by whoever holds `state`. */
 struct port {
     struct entry entry;
-    struct port *next;
+    struct port *next, *beside; /* of all; of those on its adapter */
     struct adapter *adapter;
     struct bus bus;
     struct dovecounter_port core;

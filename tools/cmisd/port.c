@@ -17,6 +17,7 @@ enum { SECOND = 1000, SOON = 100, LONGEST = 64 * SECOND }; /* milliseconds */
 struct adapter {
     char name[TEXT_SIZE];
     pthread_cond_t woken;
+    struct port *ports; /* those on it, of all of `ports` */
     struct adapter *next;
 };
 
@@ -239,18 +240,20 @@ static void wait_until(pthread_cond_t *condition, int64_t moment) {
 }
 
 static void drop(struct port *port) {
-    struct port **link = &ports;
+    struct port **link = &ports, **beside = &port->adapter->ports;
     shut(port);
     while (*link != port) link = &(*link)->next;
+    while (*beside != port) beside = &(*beside)->beside;
     *link = port->next;
+    *beside = port->beside;
     free(port);
 }
 
 /* The port of an adapter that has been due for longest: so none waits for more than one operation of each other. */
 static struct port *next_due(const struct adapter *adapter) {
-    struct port *first = NULL;
-    for (struct port *each = ports; each != NULL; each = each->next)
-        if (each->adapter == adapter && (first == NULL || each->due < first->due)) first = each;
+    struct port *first = adapter->ports;
+    for (struct port *each = first; each != NULL; each = each->beside)
+        if (each->due < first->due) first = each;
     return first;
 }
 
@@ -363,6 +366,8 @@ static void add(const struct entry *entry) {
     must(dovecounter_port_hold(&port->core, is_still(port)));
     while (*link != NULL) link = &(*link)->next;
     *link = port;
+    port->beside = port->adapter->ports;
+    port->adapter->ports = port;
     port->has_new_counts = true;
     tell(port, "added", "");
     wake(port);
