@@ -90,7 +90,7 @@ static bool put_file(const struct port *port, const char *ending, void (*print)(
     snprintf(made, sizeof made, "%s/.%s.%s", folder, port->entry.name, ending);
     FILE *out = fopen(made, "we");
     if (out == NULL) return note_disk(name, false), false;
-    __fsetlocking(out, FSETLOCKING_BYCALLER); /* which takes half of the time */
+    __fsetlocking(out, FSETLOCKING_BYCALLER); /* no other thread has it */
     print(out, port);
     bool is_whole = !ferror(out);
     is_whole = fclose(out) == 0 && is_whole && rename(made, name) == 0;
