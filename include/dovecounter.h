@@ -1614,7 +1614,7 @@ struct dovecounter_lane_codes {
 
 /* How often each flag was read as raised since it was acknowledged (at most 65535), and when last (0: never). Flags
    are in the order of the module's memory, in a byte from bit 0 on. Below them, what page 11h shows of the lanes.
-   They are a CMIS module's: in the others these bytes have other meanings. */
+   They are a CMIS module's: of one whose byte 0, as last read, names another family, nothing is counted here. */
 struct dovecounter_flag_counts {
     uint16_t module_counts[32]; /* bytes 8 to 11 of the lower memory: flag 8 * (byte - 8) + bit */
     uint64_t module_last[32];
@@ -1666,7 +1666,8 @@ struct dovecounter_port {
     struct dovecounter_left left;
     uint8_t request;       /* what was asked: enum dovecounter_request */
     uint8_t request_lanes; /* and of which lanes */
-    uint8_t spare[2];
+    uint8_t identifier;
+    uint8_t spare;
     struct dovecounter_half halves[DOVECOUNTER_MOST_READ];
 };
 

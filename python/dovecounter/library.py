@@ -443,8 +443,7 @@ class Port(Structure):
         *_members(c_uint8, "stage held outstanding vain selection page"),
         ("goal", Goal),
         ("left", Left),
-        *_members(c_uint8, "request request_lanes"),
-        ("spare", c_uint8 * 2),
+        *_members(c_uint8, "request request_lanes identifier spare"),
         ("halves", Half * MOST_READ),
     ]
 

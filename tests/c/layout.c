@@ -288,7 +288,8 @@ AT(port, goal, 2116);
 AT(port, left, 2126);
 AT(port, request, 2132);
 AT(port, request_lanes, 2133);
-AT(port, spare, 2134);
+AT(port, identifier, 2134);
+AT(port, spare, 2135);
 AT(port, halves, 2136);
 
 SIZE(port_next, 32);

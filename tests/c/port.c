@@ -268,6 +268,45 @@ static void try_flags(void) {
     expect("nor is dated", 0, (unsigned long)port.flags.lane_last[FLAG]);
 }
 
+/* Where a CMIS module has flags, one of another family has something else. One with flat memory has no page 11h, whatever its lower half
+   says of a selection. */
+static void try_other_families(void) {
+    enum { SFP = 0x03, QSFP28 = 0x11, QSFP_DD = 0x18, FLAGS = 8 };
+    static const struct {
+        uint8_t identifier, memory; /* byte 2, which says that memory is flat */
+    } kinds[] = {{SFP, 0}, {QSFP28, 0x04}, {QSFP_DD, 0x80}};
+    static const struct dovecounter_flag_counts none;
+    for (size_t i = 0; i < sizeof kinds / sizeof kinds[0]; i++) {
+        uint8_t lower[128] = {
+            kinds[i].identifier, 0x50, kinds[i].memory, [FLAGS] = 0xFF, 0xFF, 0xFF, 0xFF, [127] = 0x11};
+        uint8_t upper[128];
+        memset(upper, 0xFF, sizeof upper);
+        begin();
+        plug_in();
+        pass(times.settle);
+        ask();
+        expect("the lower half", DOVECOUNTER_FETCH, next.operation.kind);
+        expect("as a whole", 128, next.operation.count);
+        expect("is read", 0, dovecounter_port_take(&port, DOVECOUNTER_FETCHED, lower, 128, &wanted, now, &outcome));
+        expect("its byte 0 is known", kinds[i].identifier, port.identifier);
+        for (int flag = 0; flag < 32; flag++) {
+            expect("a flag of the module", kinds[i].identifier == QSFP_DD, port.flags.module_counts[flag]);
+            expect("and when", kinds[i].identifier == QSFP_DD ? (unsigned long)now : 0,
+                   (unsigned long)port.flags.module_last[flag]);
+        }
+        ask();
+        if (kinds[i].identifier != SFP) {
+            expect("the upper half", 128, next.operation.offset);
+            expect("is read", 0, dovecounter_port_take(&port, DOVECOUNTER_FETCHED, upper, 128, &wanted, now, &outcome));
+        }
+        expect_same("no flag of a lane", none.lane_counts, port.flags.lane_counts, sizeof none.lane_counts);
+        expect_same("no state", &none.states, &port.flags.states, sizeof none.states);
+        expect_same("no status", &none.statuses, &port.flags.statuses, sizeof none.statuses);
+        expect("pulled", 0, dovecounter_port_pull(&port));
+        expect("its byte 0 is no longer known", 0, port.identifier);
+    }
+}
+
 /* Each lane's state and status is known since when it was read, whatever is acknowledged or pulled. */
 static void try_lane_codes(void) {
     enum { LANE_1 = 0, LANE_5 = 4, LANE_6 };
@@ -570,6 +609,7 @@ int main(void) {
     try_pull();
     try_hold();
     try_flags();
+    try_other_families();
     try_lane_codes();
     try_permission();
     try_sleep();

@@ -1,7 +1,8 @@
--- The flags that were read as raised, how often and when, the codes of lanes beside them, and which page they were read from.
--- (OIF-CMIS-05.0, chapter 8 "Module Management Memory Map": flags of the lower memory, bytes 8 to 11; DPState, lane flags and
--- ConfigStatus of page 11h, bytes 128 to 131, 134 to 152 and 202 to 205; bank and page select bytes 126 and 127)
-use Rattle.std.specs.Prelude.{◌+◌, ◌-◌, ◌/◌, ◌%◌, ◌==◌, ◌&&◌, ℕ, Bool, false, nat_le, nat_lt, List, drop, length, take, map, replicate, slice_index, if◌then◌else◌}
+-- The flags that a CMIS module was read to raise, how often and when, the codes of lanes beside them, and which page they were read
+-- from. (OIF-CMIS-05.0, chapter 8 "Module Management Memory Map": identifier, byte 0; MemoryModel, byte 2; flags of the lower memory,
+-- bytes 8 to 11; DPState, lane flags and ConfigStatus of page 11h, bytes 128 to 131, 134 to 152 and 202 to 205; bank and page select
+-- bytes 126 and 127)
+use Rattle.std.specs.Prelude.{◌+◌, ◌-◌, ◌/◌, ◌%◌, ◌==◌, ◌&&◌, ℕ, Bool, true, false, nat_le, nat_lt, List, Option, Some, None, drop, length, take, map, replicate, slice_index, if◌then◌else◌}
 use Rattle.std.specs.Int.{bit_at}
 use Rattle.std.specs.List.{range_with_len}
 use Rattle.bus_model.specs.declared.device.Dev.TheVariants.{A0, A2}
@@ -12,7 +13,12 @@ use Rattle.bus_model.specs.declared.operation.Reply.TheVariants.{Bytes, Done, Re
 use Rattle.paged_memory.specs.declared.page_addressing.KnownPage.{KnownPage}
 use Rattle.paged_memory.specs.declared.page_addressing.KnownPage.TheVariants.{Unknown}
 use Rattle.paged_memory.specs.declared.page_addressing.PageAddressing.TheVariants.{BankAndPage}
+use Rattle.paged_memory.specs.declared.family.Family.{Family}
+use Rattle.paged_memory.specs.declared.family.Family.TheVariants.{Cmis, Sff8636, Sff8472}
+use Rattle.paged_memory.specs.Families.{managed_by}
 use Rattle.paged_memory.specs.KnownPages.{is_known, selection_read}
+use Rattle.field_tables.specs.declared.field.Field.TheVariants.{CFlatMemory}
+use Rattle.field_tables.specs.FieldValues.{number_in_byte}
 use Rattle.port_manager.specs.declared.flags.Flags.{Flags}
 use Rattle.port_manager.specs.Codes.{no_codes, with_codes}
 use Rattle.port_manager.specs.Counts.{later_of, one_more}
@@ -28,9 +34,19 @@ no_flags = record {
   statuses = no_codes;
 }
 
--- so often they were raised, and nothing is known of the page that is selected
+-- so often they were raised, and nothing is known of the module: an identifier of 0 is none's
 abbrev pub unread : Flags → FlagKeeper
-unread flags = record { selected = Unknown; flags = flags }
+unread flags = record { selected = Unknown; identifier = 0; flags = flags }
+
+abbrev is_cmis_family : Option Family → Bool
+is_cmis_family None = false
+is_cmis_family (Some Cmis) = true
+is_cmis_family (Some Sff8636) = false
+is_cmis_family (Some Sff8472) = false
+
+-- a module with this identifier is managed by CMIS
+abbrev pub is_cmis : ℕ → Bool
+is_cmis identifier = is_cmis_family (managed_by identifier)
 
 -- ---- one reply
 
@@ -67,14 +83,19 @@ with_lanes held offset bytes now =
       statuses = with_codes held.statuses offset bytes 202 now;
     }
 
--- the page that the lower memory shows as selected
+-- the page that the lower memory shows as selected, unless the module has no other page than 00h
 abbrev pub shown_page : List ℕ → KnownPage
-shown_page lower = selection_read BankAndPage (take 2 (drop 126 lower))
+shown_page lower =
+    if number_in_byte CFlatMemory (slice_index lower 2) == 1 then Unknown else selection_read BankAndPage (take 2 (drop 126 lower))
 
--- bytes show the flags of the lower memory that they cover, and those of page 11h if it is selected
-abbrev pub flags_by : Bool → Flags → ℕ → List ℕ → ℕ → Flags
-flags_by known flags offset bytes now =
-    if known then with_lanes (with_module flags offset bytes now) offset bytes now else with_module flags offset bytes now
+-- byte 0, if these bytes have it, and else as it was read before
+abbrev pub identifier_by : ℕ → ℕ → List ℕ → ℕ
+identifier_by before offset bytes = if offset == 0 && nat_lt 0 (length bytes) then slice_index bytes 0 else before
+
+-- bytes of a CMIS module show the flags of the lower memory that they cover, and those of page 11h if it is selected
+abbrev pub flags_by : Bool → Bool → Flags → ℕ → List ℕ → ℕ → Flags
+flags_by cmis known flags offset bytes now =
+    if cmis then (if known then with_lanes (with_module flags offset bytes now) offset bytes now else with_module flags offset bytes now) else flags
 
 -- the lower memory shows the page that is selected too
 abbrev pub selected_by : KnownPage → ℕ → ℕ → List ℕ → KnownPage
@@ -85,7 +106,8 @@ abbrev pub noted_bytes : FlagKeeper → ℕ → ℕ → List ℕ → ℕ → Fla
 noted_bytes keeper offset count bytes now =
     record {
       selected = selected_by keeper.selected offset count bytes;
-      flags = flags_by (is_known keeper.selected 0x11) keeper.flags offset bytes now;
+      identifier = identifier_by keeper.identifier offset bytes;
+      flags = flags_by (is_cmis (identifier_by keeper.identifier offset bytes)) (is_known keeper.selected 0x11) keeper.flags offset bytes now;
     }
 
 abbrev pub noted_reply : FlagKeeper → ℕ → ℕ → Reply → ℕ → FlagKeeper
@@ -95,7 +117,7 @@ noted_reply keeper offset count Refused now = keeper
 
 -- after an operation was made: a store leaves it open which page is selected
 abbrev pub noted : FlagKeeper → Op → Reply → ℕ → FlagKeeper
-noted keeper (Store dev offset bytes) reply now = record { selected = Unknown; flags = keeper.flags }
+noted keeper (Store dev offset bytes) reply now = record keeper { selected = Unknown }
 noted keeper (Fetch A0 offset count) reply now = noted_reply keeper offset count reply now
 noted keeper (Fetch A2 offset count) reply now = keeper
 
@@ -123,4 +145,4 @@ since held moment =
     }
 
 abbrev pub acknowledged : FlagKeeper → ℕ → FlagKeeper
-acknowledged keeper moment = record { selected = keeper.selected; flags = since keeper.flags moment }
+acknowledged keeper moment = record keeper { flags = since keeper.flags moment }

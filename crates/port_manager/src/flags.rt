@@ -1,5 +1,5 @@
-// The flags that were read as raised. A fetch of latched flags clears them in the module, so it is kept here how often each one was
-// read, and when last, until that is acknowledged.
+// The flags that a CMIS module was read to raise; where it has them, modules of other families have something else. A fetch of latched
+// flags clears them in the module, so it is kept here how often each one was read, and when last, until that is acknowledged.
 ghost use Rattle.std.specs.Prelude.{◌≡◌, ◌≤◌, ◌<◌, length};
 ghost use Rattle.bus_model.specs.Operations.{Answers};
 ghost use Rattle.port_manager.specs.Counts as counts;
@@ -7,7 +7,8 @@ ghost use Rattle.port_manager.specs.Flags as spec;
 
 use crate::codes::LaneCodes;
 use bus_model::{Dev, Op, Reply};
-use paged_memory::{KnownPage, PageAddressing};
+use field_tables::{Field, number_in_byte};
+use paged_memory::{Family, KnownPage, PageAddressing};
 
 /// Each flag of a module, byte by byte as they stand in its memory, and in a byte from the lowest bit: how often it was read as raised
 /// since that was acknowledged, as far as 16 bits count, and the moment of the last time, or 0. Beside them the codes of its lanes.
@@ -29,6 +30,8 @@ pub struct Flags {
 pub struct FlagKeeper {
     /// Which page was read to be selected, if nothing was stored since.
     pub selected: KnownPage,
+    /// Byte 0 of the lower memory, as it was last read since a module was plugged; before that 0, which identifies none.
+    pub identifier: u8,
     pub flags: Flags,
 }
 
@@ -63,6 +66,17 @@ impl Flags {
 }
 
 impl FlagKeeper {
+    /// So often they were raised, and nothing is known of the module.
+    pub(crate) fn unread(flags: Flags) -> FlagKeeper
+        ensures { result ≡ spec.unread flags }
+    {
+        FlagKeeper {
+            selected: KnownPage::Unknown,
+            identifier: 0,
+            flags,
+        }
+    }
+
     /// An operation was made, and had this reply at this moment.
     pub fn take(&mut self, op: &Op, reply: &Reply, now: u64)
         requires { Answers op.now reply.now }
@@ -95,9 +109,14 @@ impl FlagKeeper {
         requires { length bytes.now ≡ count }
         ensures { self.new ≡ spec.noted_bytes self.old offset count bytes.now now }
     {
-        self.flags = with_module(&self.flags, offset, bytes, now);
-        if self.selected == KnownPage::Page(0x11) {
-            self.flags = with_lanes(&self.flags, offset, bytes, now);
+        if offset == 0 && !bytes.is_empty() {
+            self.identifier = bytes[0];
+        }
+        if is_cmis(self.identifier) {
+            self.flags = with_module(&self.flags, offset, bytes, now);
+            if self.selected == KnownPage::Page(0x11) {
+                self.flags = with_lanes(&self.flags, offset, bytes, now);
+            }
         }
         if offset == 0 && count == 128 {
             self.selected = shown_page(bytes);
@@ -107,12 +126,23 @@ impl FlagKeeper {
     }
 }
 
-// The page that the lower memory shows as selected.
+// Whether a module with this identifier is managed by CMIS.
+fn is_cmis(identifier: u8) -> bool
+    ensures { result ≡ spec.is_cmis identifier }
+{
+    Family::managing(identifier) == Some(Family::Cmis)
+}
+
+// The page that the lower memory shows as selected, unless the module has no other page than 00h.
 fn shown_page(lower: &[u8]) -> KnownPage
     requires { length lower.now ≡ 128 }
     ensures { result ≡ spec.shown_page lower.now }
 {
-    KnownPage::of(PageAddressing::BankAndPage, &lower[126..128])
+    if number_in_byte(Field::CFlatMemory, lower[2]) == 1 {
+        KnownPage::Unknown
+    } else {
+        KnownPage::of(PageAddressing::BankAndPage, &lower[126..128])
+    }
 }
 
 // With what bytes from this address on show of the lower memory.

@@ -80,8 +80,9 @@ pub fn one_decision()
     ensures { (wanted : Wanted) (image : Memory) (one other : Decision) → IsDecision wanted image one → IsDecision wanted image other → one ≡ other }
 {}
 
-/// Each flag that a reply shows as raised is counted, and dated no earlier, until what was read at that moment is acknowledged,
-/// whatever comes between, also if the module is pulled.
+/// Each flag that a reply of a CMIS module shows as raised is counted, and dated no earlier, until what was read at that moment is
+/// acknowledged, whatever comes between, also if the module is pulled. A reply of a module of another family, by byte 0 as it was last
+/// read, counts and dates nothing.
 pub fn no_flag_is_lost()
     ensures { NoFlagIsLost }
 {}

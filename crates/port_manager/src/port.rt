@@ -20,7 +20,6 @@ use crate::times::{Times, doubled, later, left};
 use crate::turn::{Course, Note, PortFault};
 use bus_model::Reply;
 use conversations::Next;
-use paged_memory::KnownPage;
 use std::mem;
 
 /// What is outstanding on the bus.
@@ -351,10 +350,7 @@ fn empty(times: Times, outstanding: Outstanding, flags: Flags, held: bool) -> Po
         back_off: times.first,
         outstanding,
         vain: false,
-        keeper: FlagKeeper {
-            selected: KnownPage::Unknown,
-            flags,
-        },
+        keeper: FlagKeeper::unread(flags),
         held,
         request: Request::Wake,
         silence: Silence::none(),

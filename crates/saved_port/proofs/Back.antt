@@ -168,6 +168,7 @@ pub record Stands (saved : SavedPort) (port : Port) : Type 0 where
   pub vain : saved.vain ≡ number_of port.vain
   pub selection : saved.selection ≡ (numbers_of_page port.keeper.selected).0
   pub page : saved.page ≡ (numbers_of_page port.keeper.selected).1
+  pub identifier : saved.identifier ≡ port.keeper.identifier
   pub flags : flags_in saved.flags ≡ port.keeper.flags
   pub held : saved.held ≡ number_of port.held
   pub request : request_in saved.request saved.request_lanes ≡ port.request
@@ -189,7 +190,7 @@ with_stage saved port stands =
       back_off = stands.back_off i;
       outstanding = stands.outstanding i;
       vain = vain i;
-      keeper = record { selected = selected i; flags = stands.flags i };
+      keeper = record { selected = selected i; identifier = stands.identifier i; flags = stands.flags i };
       held = held i;
       request = stands.request i;
       silence = record { refusals = stands.refusals i; since = stands.since i };

@@ -202,7 +202,7 @@ port_with saved stage = record {
   back_off = saved.back_off;
   outstanding = outstanding_in saved.outstanding;
   vain = saved.vain == 1;
-  keeper = record { selected = page_in saved.selection saved.page; flags = flags_in saved.flags };
+  keeper = record { selected = page_in saved.selection saved.page; identifier = saved.identifier; flags = flags_in saved.flags };
   held = saved.held == 1;
   request = request_in saved.request saved.request_lanes;
   silence = record { refusals = saved.refusals; since = saved.silent_since };

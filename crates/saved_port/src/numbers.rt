@@ -110,6 +110,8 @@ pub struct SavedPort {
     /// What somebody has asked: 1 to sleep, 2 to provision, 3 to deactivate, 0 nothing; and of which lanes.
     pub request: u8,
     pub request_lanes: u8,
-    /// Zeros, by which the halves begin where C has them.
-    pub spare: [u8; 2],
+    /// Byte 0 of the lower memory, as it was last read, or 0.
+    pub identifier: u8,
+    /// A zero, by which the halves begin where C has them.
+    pub spare: u8,
 }

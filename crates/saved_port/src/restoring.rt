@@ -49,6 +49,7 @@ fn put_rest(saved: &SavedPort, port: &mut Port)
     port.outstanding = outstanding_in(saved.outstanding);
     port.vain = saved.vain == 1;
     port.keeper.selected = page_in(saved.selection, saved.page);
+    port.keeper.identifier = saved.identifier;
     put_flags(&saved.flags, &mut port.keeper.flags);
     port.held = saved.held == 1;
     port.request = request_in(saved.request, saved.request_lanes);

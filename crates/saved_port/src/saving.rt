@@ -54,7 +54,8 @@ pub fn save(port: &Port, half_count: u16) -> SavedPort
         left: stage.left,
         request: request.number,
         request_lanes: request.lanes,
-        spare: [0; 2],
+        identifier: port.keeper.identifier,
+        spare: 0,
     }
 }
 

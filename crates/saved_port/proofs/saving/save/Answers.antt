@@ -13,6 +13,7 @@ returns-clause-same c image read known =
       vain = c.number_of-vain.ensures;
       selection = search rules;
       page = search rules;
+      identifier = refl;
       flags = c.numbers_of_flags-flags.ensures;
       held = c.number_of-held.ensures;
       request = c.numbers_of_request-request.ensures;
