@@ -1,4 +1,4 @@
-// What works at a module: one of five conversations, of which each may be the next one's reason.
+// What works at a module: one of six conversations, of which each may be the next one's reason.
 ghost use Rattle.std.specs.Prelude.{◌≡◌, Option, Some, IfSome};
 ghost use Rattle.bus_model.specs.Operations.{IsWellShaped};
 ghost use Rattle.conversations.specs.Wanted.{IfDo, op_of};
