@@ -11,11 +11,12 @@
      Single lanes                 switch outputs, polarity and squelch
      Signal integrity settings    look at them, change them while lanes are up
      Tests of links               make and check patterns, loop lanes back
+     Statistics                   freeze what a module lists itself (VDM), read it, release it
      A port's manager             keep the module in a port as wanted
      A simulated module           a module without hardware
 
-   Every function except dovecounter_run, _update_run, _lane_run, _settings_run and _link_test_run is proved to return and to do what
-   this file says, except where it says "tested". Nothing is proved about real modules. No function allocates, prints, waits, keeps a pointer or has state
+   Every function except dovecounter_run, _update_run, _lane_run, _settings_run, _link_test_run and _vdm_run is proved to return and
+   to do what this file says, except where it says "tested". Nothing is proved about real modules. No function allocates, prints, waits, keeps a pointer or has state
    of its own, so calls may run in parallel unless one writes what another uses.
 
    You have to ensure what no function can check:
@@ -47,7 +48,7 @@ extern "C" {
    Each function returns the first of its statuses that applies, and 0 if none does. With any status but 0 it has
    written nothing, with these exceptions: dovecounter_certificate writes the text's length if the buffer is too small,
    and dovecounter_weights the number of the faulty line; dovecounter_run, _update_run, _lane_run,
-   _settings_run and _link_test_run have gone on up to the reply that they return status 34 for.
+   _settings_run, _link_test_run and _vdm_run have gone on up to the reply that they return status 34 for.
 
      status_text, fault_text, verdict_text   3 4
      code_name                               3 4
@@ -67,7 +68,7 @@ extern "C" {
      reply                                   31 32 34
      end                                     31 33
      run, update_run, lane_run               31 34
-     settings_run, link_test_run             31 34
+     settings_run, link_test_run, vdm_run    31 34
      port_plug to port_next                  31
      port_take                               31 34
      update_next                             31 32
@@ -88,6 +89,9 @@ extern "C" {
      link_test_reply                         31 32 34
      link_test_end                           31 33
      link_results                            31
+     vdm_next                                31 32
+     vdm_reply                               31 32 34
+     vdm_end                                 31 33
      module_begin                            1 2 51, then as advertisement, then 53 54
      module_fetch, module_store              as advertisement, then 61 62 63
      module_tick, module_pin, module_active  61
@@ -398,10 +402,7 @@ uint32_t dovecounter_monitors(const struct dovecounter_half *halves, size_t half
 
 /* ---- What a module measures ----
 
-   dovecounter_observables also decodes pages 20h to 2Ch, which no reading below fetches. Fetch each by yourself,
-   while no conversation is under way (a port: while it is held): store the bytes 0 and the page at 126 of device
-   0xA0, fetch these two back and compare them, since a module without the page shows page 00h, and fetch 128 bytes
-   from 128 on. */
+   dovecounter_observables also decodes pages 20h to 2Ch, which dovecounter_vdm_begin reads ("Statistics", below). */
 
 /* What is measured. `cmisctl observables` has the same names (docs/observables.md). */
 enum dovecounter_quantity {
@@ -1544,6 +1545,109 @@ static inline uint32_t dovecounter_settings_run(struct dovecounter_changing_sett
         else
             outcome = transact(context, &operation, bytes);
         status = dovecounter_settings_reply(changing, outcome, bytes, operation.count);
+        if (status != DOVECOUNTER_DONE) return status;
+    }
+    return status == DOVECOUNTER_ENDED ? (uint32_t)DOVECOUNTER_DONE : status;
+}
+
+/* ---- Statistics ----
+
+   A reading of what a CMIS module lists itself (VDM), under way (docs/observables.md, "Frozen statistics"). It touches no bus:
+   dovecounter_vdm_next names the operation to make, and dovecounter_vdm_reply takes its outcome, until dovecounter_vdm_end says
+   how it ended; dovecounter_vdm_run is that loop. Nobody else may use the module meanwhile. A fetch of 128 bytes may be split, as
+   for a port (below).
+
+   It freezes the statistics, reads pages 20h to 2Ch of bank 0 as far as the module advertises them, and releases the statistics, by 759
+   operations at most. It stores bit 7 of byte 144 of page 2Fh, and no other but page selections. Whatever the bus refuses,
+   and wherever it stops, the statistics aren't left frozen, or the member `release` names it. Reading clears the flags of page 2Ch.
+
+   Begin only with a CMIS module that has pages. For all that it measures, read it by dovecounter_read_begin too, and ask twice, each time
+   until *place is 0: dovecounter_observables of those halves, from place 0 on while *place is at most
+   DOVECOUNTER_FIRST_INSTANCE; then of the halves of this reading and the lower half of 0xA0, 16 at most, from
+   DOVECOUNTER_FIRST_INSTANCE on. */
+
+/* The most halves of a reading: pages 01h and 2Fh, and 13 of 20h to 2Ch. */
+#define DOVECOUNTER_MOST_VDM 15
+
+/* The first place of dovecounter_observables at which isn't a monitor, but what a module lists itself. */
+#define DOVECOUNTER_FIRST_INSTANCE 64
+
+enum dovecounter_vdm_statistics {
+    DOVECOUNTER_VDM_UNKNOWN = 0,     /* page 01h or 2Fh couldn't be read: whether there are any isn't known */
+    DOVECOUNTER_VDM_UNSUPPORTED = 1, /* the module advertises none */
+    DOVECOUNTER_VDM_NOT_TAKEN = 2,   /* it took no request to freeze: what was read may not belong together */
+    DOVECOUNTER_VDM_PENDING = 3,     /* it took one, and didn't freeze in time: what was read may not belong together */
+    DOVECOUNTER_VDM_FROZEN = 4       /* they were frozen while they were read */
+};
+
+enum dovecounter_vdm_release {
+    DOVECOUNTER_VDM_NEVER_FROZEN = 0,  /* no freeze was asked for */
+    DOVECOUNTER_VDM_MAY_BE_FROZEN = 1, /* one was, and no release was accepted since */
+    DOVECOUNTER_VDM_ACCEPTED = 2,      /* a release was accepted; whether it is done wasn't seen */
+    DOVECOUNTER_VDM_RELEASED = 3       /* a release was accepted, and done */
+};
+
+/* A reading under way. You may copy it, save it, and read halves and release, but don't write its fields: a changed one is refused, or
+   taken for another. */
+struct dovecounter_vdm {
+    uint32_t magic;
+    uint32_t pause;
+    uint16_t left;
+    uint8_t stage;
+    uint8_t stage_page;
+    uint8_t selection;
+    uint8_t page;
+    uint8_t due;
+    uint8_t control;
+    uint8_t statistics;
+    uint8_t release; /* enum dovecounter_vdm_release, now */
+    uint8_t halves;  /* how many halves it has read */
+    uint8_t page_count;
+    uint8_t todo_count;
+    uint8_t pages[16];
+    uint8_t todo[16];
+};
+
+/* Begins to read, with a pause of so many milliseconds after each fruitless operation: 100 suits a module that you know nothing
+   about, which then has ten seconds to freeze its statistics. */
+void dovecounter_vdm_begin(uint32_t pause, struct dovecounter_vdm *reading);
+
+/* Writes what to do now. The reading keeps what it has read in halves. */
+uint32_t dovecounter_vdm_next(const struct dovecounter_vdm *reading,
+                              const struct dovecounter_half halves[DOVECOUNTER_MOST_VDM],
+                              struct dovecounter_operation *operation);
+
+/* Takes the outcome of that operation, as dovecounter_reply does: each whole half is inserted at halves[0]. */
+uint32_t dovecounter_vdm_reply(struct dovecounter_vdm *reading, struct dovecounter_half halves[DOVECOUNTER_MOST_VDM],
+                               uint8_t outcome, const uint8_t *bytes, size_t byte_count);
+
+struct dovecounter_vdm_end {
+    uint8_t statistics;    /* enum dovecounter_vdm_statistics */
+    uint8_t release;       /* enum dovecounter_vdm_release */
+    uint8_t missing_count; /* how many advertised pages couldn't be read */
+    uint8_t missing[16];   /* these pages; zeros after them */
+};
+
+/* Writes how it ended. With any end the halves are what was read. */
+uint32_t dovecounter_vdm_end(const struct dovecounter_vdm *reading,
+                             const struct dovecounter_half halves[DOVECOUNTER_MOST_VDM],
+                             struct dovecounter_vdm_end *end);
+
+/* Carries a reading out, as dovecounter_run does. */
+static inline uint32_t dovecounter_vdm_run(
+    struct dovecounter_vdm *reading, struct dovecounter_half halves[DOVECOUNTER_MOST_VDM],
+    uint8_t (*transact)(void *context, const struct dovecounter_operation *operation, uint8_t bytes[128]),
+    void (*pause)(void *context, uint32_t milliseconds), void *context) {
+    struct dovecounter_operation operation;
+    uint8_t bytes[128];
+    uint32_t status;
+    while ((status = dovecounter_vdm_next(reading, halves, &operation)) == DOVECOUNTER_DONE) {
+        uint8_t outcome = DOVECOUNTER_WAITED;
+        if (operation.kind == DOVECOUNTER_WAIT)
+            pause(context, operation.milliseconds);
+        else
+            outcome = transact(context, &operation, bytes);
+        status = dovecounter_vdm_reply(reading, halves, outcome, bytes, operation.count);
         if (status != DOVECOUNTER_DONE) return status;
     }
     return status == DOVECOUNTER_ENDED ? (uint32_t)DOVECOUNTER_DONE : status;

@@ -293,6 +293,31 @@ static void *tunes_lanes(void *x) {
     return x;
 }
 
+static struct dovecounter_vdm statistics;
+static struct dovecounter_half read_statistics[DOVECOUNTER_MOST_VDM];
+static struct dovecounter_vdm_end statistics_end;
+
+/* A module of four groups, of which each bit that is waited for is 1. */
+static uint8_t answer_statistics(const struct dovecounter_operation *it, uint8_t bytes[128]) {
+    static uint8_t selected;
+    if (it->kind == DOVECOUNTER_WAIT) return DOVECOUNTER_WAITED;
+    if (it->kind == DOVECOUNTER_STORE && it->offset == 126) selected = it->bytes[1];
+    memset(bytes, 0xFF, 128);
+    if (it->kind == DOVECOUNTER_FETCH && it->offset == 126) bytes[0] = 0, bytes[1] = selected;
+    return it->kind == DOVECOUNTER_STORE ? DOVECOUNTER_STORED : DOVECOUNTER_FETCHED;
+}
+
+/* All operations of a reading of statistics, each answered. */
+static void *reads_statistics(void *x) {
+    dovecounter_vdm_begin(20, &statistics);
+    while (dovecounter_vdm_next(&statistics, read_statistics, &operation) == DOVECOUNTER_DONE) {
+        uint8_t reply = answer_statistics(&operation, fetched);
+        dovecounter_vdm_reply(&statistics, read_statistics, reply, fetched, operation.count);
+    }
+    dovecounter_vdm_end(&statistics, read_statistics, &statistics_end);
+    return x;
+}
+
 int main(void) {
     read_halves();
     wanted.weights[0x0D] = 101;
@@ -338,5 +363,7 @@ int main(void) {
     print_used("the calls of a test of a link", tests_links, alone);
     print_used("dovecounter_settings", has_settings, alone);
     print_used("the calls of a change of settings", tunes_lanes, alone);
+    print_used("the calls of a reading of statistics", reads_statistics, alone);
+    if (statistics.halves != DOVECOUNTER_MOST_VDM || statistics_end.release != DOVECOUNTER_VDM_RELEASED) return 1;
     return 0;
 }

@@ -364,6 +364,69 @@ static void call_test(void) {
     end_test();
 }
 
+/* ---- statistics ---- */
+
+static struct dovecounter_vdm statistics;
+static struct dovecounter_half read_statistics[DOVECOUNTER_MOST_VDM];
+
+static void begin_vdm(void) {
+    struct dovecounter_vdm *found = painted(OUT, sizeof *found);
+    uint32_t pause = byte();
+    dovecounter_vdm_begin(pause, found);
+    stop_if(found->halves != 0 || found->release != DOVECOUNTER_VDM_NEVER_FROZEN, "a beginning");
+    statistics = *found;
+}
+
+static uint32_t reply_to_vdm(uint8_t outcome, const uint8_t *bytes, size_t count) {
+    struct dovecounter_vdm *it = copied(BYTES, &statistics, sizeof statistics);
+    struct dovecounter_half before[DOVECOUNTER_MOST_VDM];
+    memcpy(before, read_statistics, sizeof before);
+    uint32_t status = dovecounter_vdm_reply(it, read_statistics, outcome, bytes, count);
+    judge(status, "vdm_reply", LIST(31, 32, 34), it, 0);
+    stop_if(status && memcmp(it, &statistics, sizeof *it), "a refused reply changes the reading");
+    stop_if(status && memcmp(before, read_statistics, sizeof before), "a refused reply changes halves");
+    stop_if(!status && it->halves > DOVECOUNTER_MOST_VDM, "more halves than may be");
+    statistics = *it;
+    return status;
+}
+
+static void end_vdm(void) {
+#define VDM_END(it) dovecounter_vdm_end(&statistics, read_statistics, it)
+    ASK(struct dovecounter_vdm_end, found, LIST(31, 33), VDM_END);
+    if (status) return;
+    stop_if(found->statistics > DOVECOUNTER_VDM_FROZEN || found->missing_count > 16, "the end of statistics");
+    stop_if(found->release != statistics.release, "another release at the end");
+}
+
+static void go_on_with_vdm(void) {
+    for (int steps = byte(); steps > 0; steps--) {
+#define VDM_NEXT(it) dovecounter_vdm_next(&statistics, read_statistics, it)
+        ASK(struct dovecounter_operation, next, LIST(31, 32), VDM_NEXT);
+        if (status) break;
+        stop_if_no_operation(next);
+        struct dovecounter_operation operation = *next;
+        uint8_t how = byte(), outcome = DOVECOUNTER_WAITED, *bytes = room(OUT, 0);
+        if (operation.kind != DOVECOUNTER_WAIT && how % 8 == 7)
+            outcome = DOVECOUNTER_REFUSED;
+        else if (operation.kind == DOVECOUNTER_STORE)
+            outcome = DOVECOUNTER_STORED;
+        else if (operation.kind == DOVECOUNTER_FETCH)
+            outcome = DOVECOUNTER_FETCHED, bytes = fetched_from(&operation, how);
+        if (outcome == DOVECOUNTER_STORED && operation.offset == SELECTION) memcpy(selected, operation.bytes, 2);
+        stop_if(reply_to_vdm(outcome, bytes, outcome == DOVECOUNTER_FETCHED ? operation.count : 0) != 0, "a reply");
+    }
+    end_vdm();
+}
+
+/* A reply of any kind, or a changed number. */
+static void call_vdm(void) {
+    uint8_t what = byte();
+    if (what & 1) change(&statistics, sizeof statistics);
+    size_t size = byte();
+    if (what & 4) reply_to_vdm(what >> 4, filled(OUT, size), size);
+    end_vdm();
+}
+
 /* ---- ports ---- */
 
 static struct dovecounter_port port;

@@ -621,3 +621,27 @@ SIZE(settings_end, 3);
 AT(settings_end, outcome, 0);
 AT(settings_end, lane, 1);
 AT(settings_end, reached, 2);
+
+SIZE(vdm, 56);
+AT(vdm, magic, 0);
+AT(vdm, pause, 4);
+AT(vdm, left, 8);
+AT(vdm, stage, 10);
+AT(vdm, stage_page, 11);
+AT(vdm, selection, 12);
+AT(vdm, page, 13);
+AT(vdm, due, 14);
+AT(vdm, control, 15);
+AT(vdm, statistics, 16);
+AT(vdm, release, 17);
+AT(vdm, halves, 18);
+AT(vdm, page_count, 19);
+AT(vdm, todo_count, 20);
+AT(vdm, pages, 21);
+AT(vdm, todo, 37);
+
+SIZE(vdm_end, 19);
+AT(vdm_end, statistics, 0);
+AT(vdm_end, release, 1);
+AT(vdm_end, missing_count, 2);
+AT(vdm_end, missing, 3);

@@ -21,4 +21,5 @@ mod DecodersRefuse
 mod WatchfulLaws
 mod KeptLaws
 mod ToldReplies
+mod VdmLaws
 pub mod NextObservables

@@ -28,3 +28,4 @@ pub mod LanesTold
 pub mod LinkTestsTold
 pub mod ObservableNumbers
 pub mod SettingsTold
+pub mod VdmTold

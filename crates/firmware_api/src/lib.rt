@@ -1,7 +1,7 @@
 //! What C calls: what a module is, measures and warns of, its Applications, a plan of its lanes, the check of a
 //! certificate, the longest that its states last, conversations with it that are told what the caller's bus answered, the
-//! manager of a port, updates of a module's firmware, changes of single lanes and of their settings, tests of links, and simulated
-//! modules.
+//! manager of a port, updates of a module's firmware, changes of single lanes and of their settings, tests of links, readings of
+//! statistics, and simulated modules.
 #![tactic(auto)]
 
 mod advertisement;
@@ -32,4 +32,5 @@ mod simulated;
 mod status;
 mod texts;
 mod update;
+mod vdm;
 mod weights;

@@ -67,8 +67,8 @@ fn kept(on_page: &OnPage<Halves>, reply: &Reply) -> Option<Key>
     }
 }
 
-// The half with these bytes.
-fn half_at(key: Key, fetched: &[u8]) -> HalfBytes
+/// The half with these bytes.
+pub fn half_at(key: Key, fetched: &[u8]) -> HalfBytes
     requires { length fetched.now ≡ 128 }
     ensures key { key_of result ≡ key }
     ensures bytes { result.bytes ≡ fetched.now }

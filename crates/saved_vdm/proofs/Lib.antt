@@ -1,0 +1,4 @@
+pub mod ReadingsBack
+pub mod NeedLaws
+pub mod ImageLaws
+pub mod HalfLaws

@@ -1,0 +1,3 @@
+pub mod SavedReadings
+pub mod VdmTurns
+pub mod VdmEndings

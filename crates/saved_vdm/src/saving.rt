@@ -1,0 +1,126 @@
+// The numbers of a reading of statistics.
+ghost use Rattle.std.specs.Prelude.{◌≡◌, ◌≤◌, ◌+◌, Some, length, take, true};
+ghost use Rattle.saved_vdm.specs.SavedReadings.{most_halves, need, reading_in};
+ghost use Rattle.saved_vdm.specs.SavedReadings as spec;
+ghost use Rattle.saved_vdm.specs.VdmEndings as ends;
+
+use crate::numbers::{MAX_LISTED, SavedVdm};
+use crate::restoring::READING;
+use arrayvec::ArrayVec;
+use paged_memory::KnownPage;
+use vdm_reading::{Release, Statistics, VdmReading, VdmStage};
+
+/// The numbers of a reading that has read so many halves.
+pub fn save(reading: &VdmReading, halves: u8) -> SavedVdm
+    requires { halves + need reading.now.stage (length reading.now.todo.items) ≤ most_halves }
+    ensures same { reading_in result reading.now.image ≡ Some reading.now }
+    ensures halves { result.halves ≡ halves }
+{
+    let stage = numbers_of_stage(reading.stage);
+    let page = numbers_of_page(reading.selection);
+    let due = number_of(reading.due);
+    let statistics = number_of_statistics(reading.statistics);
+    let release = number_of_release(reading.release);
+    let pages = numbers_of_bytes(&reading.pages);
+    let todo = numbers_of_bytes(&reading.todo);
+    let each_page = pages.1;
+    let each_todo = todo.1;
+    SavedVdm {
+        magic: READING,
+        pause: reading.pause,
+        left: reading.left,
+        stage: stage.0,
+        stage_page: stage.1,
+        selection: page.0,
+        page: page.1,
+        due,
+        control: reading.control,
+        statistics,
+        release,
+        halves,
+        page_count: pages.0,
+        todo_count: todo.0,
+        pages: each_page,
+        todo: each_todo,
+    }
+}
+
+fn numbers_of_stage(stage: VdmStage) -> (u8, u8)
+    ensures same { spec.stage_in result.0 result.1 ≡ stage }
+    ensures known { result.0 ≤ 7 }
+{
+    match stage {
+        VdmStage::Advertised => (0, 0),
+        VdmStage::Groups => (1, 0),
+        VdmStage::Freeze => (2, 0),
+        VdmStage::Freezing => (3, 0),
+        VdmStage::Page(page) => (4, page),
+        VdmStage::Release => (5, 0),
+        VdmStage::Releasing => (6, 0),
+        VdmStage::Over => (7, 0),
+    }
+}
+
+fn numbers_of_page(selected: KnownPage) -> (u8, u8)
+    ensures { spec.page_in result.0 result.1 ≡ selected }
+{
+    match selected {
+        KnownPage::Unknown => (0, 0),
+        KnownPage::Open => (1, 0),
+        KnownPage::Page(page) => (2, page),
+    }
+}
+
+fn number_of(yes: bool) -> u8
+    ensures { spec.is_one result ≡ yes }
+{
+    if yes { 1 } else { 0 }
+}
+
+/// 0 to 4, in their order.
+pub(crate) fn number_of_statistics(statistics: Statistics) -> u8
+    ensures value { result ≡ ends.number_of_statistics statistics }
+    ensures same { spec.statistics_in result ≡ statistics }
+    ensures known { result ≤ 4 }
+{
+    match statistics {
+        Statistics::Unknown => 0,
+        Statistics::Unsupported => 1,
+        Statistics::Refused => 2,
+        Statistics::Pending => 3,
+        Statistics::Frozen => 4,
+    }
+}
+
+/// 0 to 3, in their order.
+pub(crate) fn number_of_release(release: Release) -> u8
+    ensures value { result ≡ ends.number_of_release release }
+    ensures same { spec.release_in result ≡ release }
+    ensures known { result ≤ 3 }
+{
+    match release {
+        Release::NotNeeded => 0,
+        Release::MayBeFrozen => 1,
+        Release::Accepted => 2,
+        Release::Released => 3,
+    }
+}
+
+/// How many there are, and themselves with zeros after them.
+pub(crate) fn numbers_of_bytes(bytes: &ArrayVec<u8, MAX_LISTED>) -> (u8, [u8; MAX_LISTED])
+    ensures same { take result.0 result.1 ≡ bytes.now.items }
+    ensures count { result.0 ≡ length bytes.now.items }
+    ensures few { result.0 ≤ 16 }
+{
+    let count = bytes.len();
+    let all = first_bytes(bytes);
+    (count as u8, all)
+}
+
+fn first_bytes(bytes: &ArrayVec<u8, MAX_LISTED>) -> [u8; MAX_LISTED]
+    ensures { take (length bytes.now.items) result ≡ bytes.now.items }
+{
+    let mut all = [0; MAX_LISTED];
+    all[..bytes.len()].copy_from_slice(bytes);
+    all
+}

@@ -1,0 +1,89 @@
+//! The beginning of a reading of statistics, and one turn of it, from its numbers to its numbers.
+ghost use Rattle.std.specs.Prelude.{◌≡◌, ◌≤◌, ◌+◌, Some};
+ghost use Rattle.std.specs.FinMap as map;
+ghost use Rattle.conversations.specs.Wanted.{IsReplyTo};
+ghost use Rattle.saved_vdm.specs.SavedReadings.{reading_in};
+ghost use Rattle.saved_vdm.specs.VdmTurns as spec;
+ghost use Rattle.vdm_reading.specs.VdmStages.{after, begun, rested, wants};
+
+use crate::numbers::SavedVdm;
+use crate::saving::save;
+use bus_model::Reply;
+use conversations::Conversation;
+use vdm_reading::{VdmReading, VdmStage};
+
+/// The numbers of a reading that has made nothing yet, and pauses for so many milliseconds after a fruitless transaction.
+pub fn begin(pause: u32) -> SavedVdm
+    ensures begun { reading_in result map.empty ≡ Some (begun pause) }
+    ensures halves { result.halves ≡ 0 }
+{
+    save(&VdmReading::begin(pause), 0)
+}
+
+/// The page whose half the reply gives, if it gives one.
+pub fn page_given(reading: &VdmReading, reply: &Reply) -> Option<u8>
+    ensures { result ≡ spec.page_given reading.now reply.now }
+{
+    let selects = reading.selection.is_open()
+        || reading
+            .selection
+            .missing(Some(reading.stage.page()))
+            .is_some();
+    match reply {
+        Reply::Bytes(_) if !selects => page_read(reading.stage),
+        _ => None,
+    }
+}
+
+fn page_read(stage: VdmStage) -> Option<u8>
+    ensures { result ≡ spec.page_read stage }
+{
+    match stage {
+        VdmStage::Advertised => Some(0x01),
+        VdmStage::Groups => Some(0x2F),
+        VdmStage::Page(page) => Some(page),
+        VdmStage::Freeze
+        | VdmStage::Freezing
+        | VdmStage::Release
+        | VdmStage::Releasing
+        | VdmStage::Over => None,
+    }
+}
+
+/// Takes the reply to the operation that was to be made, and keeps the numbers of the reading then. Answers the page whose half the
+/// reply gives, if it gives one: it comes into the image.
+pub fn take_saved(mut reading: VdmReading, reply: &Reply, saved: &mut SavedVdm) -> Option<u8>
+    requires reply { IsReplyTo (wants reading) reply.now }
+    requires was { reading_in saved.old reading.image ≡ Some reading }
+    requires few { map.len reading.image ≤ saved.old.halves }
+    ensures page { result ≡ spec.page_given reading reply.now }
+    ensures half { spec.GivesHalf result reply.now }
+    ensures same { reading_in saved.new (spec.image_with result reply.now reading.image) ≡ Some (after reading reply.now) }
+    ensures halves { saved.new.halves ≡ saved.old.halves + spec.count_of result }
+{
+    let page = page_given(&reading, reply);
+    reading.take(reply);
+    let halves = saved.halves + count_of(page);
+    *saved = save(&reading, halves);
+    page
+}
+
+// How many halves more are read then.
+fn count_of(page: Option<u8>) -> u8
+    ensures { result ≡ spec.count_of page }
+{
+    match page {
+        Some(_) => 1,
+        None => 0,
+    }
+}
+
+/// The pause that was due is over; keeps the numbers of the reading then.
+pub fn wait_saved(mut reading: VdmReading, saved: &mut SavedVdm)
+    requires { reading_in saved.old reading.image ≡ Some reading }
+    ensures same { reading_in saved.new reading.image ≡ Some (rested reading) }
+    ensures halves { saved.new.halves ≡ saved.old.halves }
+{
+    reading.due = false;
+    *saved = save(&reading, saved.halves);
+}
