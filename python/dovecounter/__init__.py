@@ -94,6 +94,7 @@ from .settings import SettingsChange, SettingsEnd, SettingsFault, SettingsOutcom
 from .signals import LaneSignal, ModuleSignals, SignalLimits, SignalSettings
 from .simulated import Delays, SimulatedModule
 from .states import ConfigStatus, ModuleState, PathState
+from .vdm import VdmEnd, VdmFault, VdmReading, VdmRelease, VdmStatistics
 
 __all__ = [
     "LOWER",
@@ -189,6 +190,11 @@ __all__ = [
     "Times",
     "Until",
     "Value",
+    "VdmEnd",
+    "VdmFault",
+    "VdmReading",
+    "VdmRelease",
+    "VdmStatistics",
     "Voltage",
     "Wait",
     "Waking",

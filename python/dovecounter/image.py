@@ -295,12 +295,16 @@ class Image:
         `cmisctl observables`; of CMIS also what it lists itself (VDM). Needs the lower half of 0xA0
         alone; what is in another half that is missing is left out, or None. Raises a Fault of RP1, RP4
         or RP6."""
+        return self.observed(0)
+
+    def observed(self, first: int, end: int = 2**16) -> Tuple[Observable, ...]:
+        """Those from a place of the library's list on, and before another one."""
         halves, count = self.arguments()
         observed: List[Observable] = []
-        place, found = c_uint16(0), library.Observable()
+        place, found = c_uint16(first), library.Observable()
         while True:
             self.take(_observables(halves, count, byref(place), byref(found)), _OF_OBSERVABLES)
-            if place.value == 0:
+            if place.value == 0 or place.value > end:
                 return tuple(observed)
             observed.append(observable_of(found))
 

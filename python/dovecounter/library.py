@@ -30,6 +30,8 @@ TEXT_SIZE = 256  # DOVECOUNTER_TEXT_SIZE
 CERTIFICATE_SIZE = 74046  # DOVECOUNTER_CERTIFICATE_SIZE
 UNBOUNDED = 2**32 - 1  # DOVECOUNTER_UNBOUNDED
 MOST_READ = 5  # DOVECOUNTER_MOST_READ
+MOST_VDM = 15  # DOVECOUNTER_MOST_VDM
+FIRST_INSTANCE = 64  # DOVECOUNTER_FIRST_INSTANCE
 _TOO_SMALL, REPORT_FAULT, _NO_MEMORY = 4, 5, 6  # statuses of reports
 _REPORT_SIZE = 2**15  # which most reports fit
 FILE = f"libdovecounter.so.{VERSION}"
@@ -398,6 +400,23 @@ class SettingsEnd(Structure):
     _fields_ = _members(c_uint8, "outcome lane reached")
 
 
+class Vdm(Structure):
+    _fields_ = [
+        *_members(c_uint32, "magic pause"),
+        ("left", c_uint16),
+        *_members(c_uint8, "stage stage_page selection page due control statistics release halves"),
+        *_members(c_uint8, "page_count todo_count"),
+        *_members(c_uint8 * 16, "pages todo"),
+    ]
+
+
+class VdmEnd(Structure):
+    _fields_ = [
+        *_members(c_uint8, "statistics release missing_count"),
+        ("missing", c_uint8 * 16),
+    ]
+
+
 class Times(Structure):
     _fields_ = _members(c_uint32, "settle period first most")
 
@@ -576,6 +595,10 @@ FUNCTIONS: Dict[str, Tuple[Any, Tuple[Any, ...]]] = {
     "settings_next": (c_uint32, (POINTER(ChangingSettings), POINTER(Operation))),
     "settings_reply": (c_uint32, (POINTER(ChangingSettings), c_uint8, *_BYTES)),
     "settings_end": (c_uint32, (POINTER(ChangingSettings), POINTER(SettingsEnd))),
+    "vdm_begin": (None, (c_uint32, POINTER(Vdm))),
+    "vdm_next": (c_uint32, (POINTER(Vdm), POINTER(Half), POINTER(Operation))),
+    "vdm_reply": (c_uint32, (POINTER(Vdm), POINTER(Half), c_uint8, *_BYTES)),
+    "vdm_end": (c_uint32, (POINTER(Vdm), POINTER(Half), POINTER(VdmEnd))),
     "port_new": (None, (POINTER(Times), POINTER(Port))),
     "port_plug": (c_uint32, (POINTER(Port), c_uint64)),
     "port_pull": (c_uint32, (POINTER(Port),)),

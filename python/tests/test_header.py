@@ -15,16 +15,24 @@ from typing import Any, Dict, List, Tuple, Type
 import pytest
 
 from shared import ROOT
-from dovecounter import Family, Request, Side, Table, library, procedures, simulated
 from dovecounter import (
+    Family,
+    Request,
+    Side,
+    Table,
+    VdmRelease,
+    VdmStatistics,
     capabilities,
     firmware,
     lanes,
+    library,
     links,
     planning,
     port,
+    procedures,
     reports,
     settings,
+    simulated,
     states,
 )
 from dovecounter.faults import CODES
@@ -171,6 +179,10 @@ def test_numbers_are_those_of_the_header() -> None:
         procedures._WAITED,
     )
     assert f"#define DOVECOUNTER_MOST_READ {library.MOST_READ}\n" in HEADER
+    assert f"#define DOVECOUNTER_MOST_VDM {library.MOST_VDM}\n" in HEADER
+    assert f"#define DOVECOUNTER_FIRST_INSTANCE {library.FIRST_INSTANCE}\n" in HEADER
+    for of_vdm in (*VdmStatistics, *VdmRelease):
+        assert STATUSES[f"VDM_{of_vdm.name}"] == of_vdm.value
     assert (STATUSES["NO_RANGE"], STATUSES["NOT_TAKEN"]) == (
         simulated._NO_RANGE,
         simulated._NOT_TAKEN,

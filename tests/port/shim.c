@@ -80,6 +80,14 @@ static void read_link_word(const char *word, unsigned value) {
     if (strcmp(word, "tests-none") == 0) diagnostics->fixed = true;
 }
 
+/* Words of pages 20h to 2Fh. */
+static void read_statistics_word(const char *word, unsigned value) {
+    if (strcmp(word, "statistics") == 0) shim.lists = true;
+    if (strncmp(word, "freeze=", 7) == 0) shim.statistics.lasts = value;
+    if (strcmp(word, "moves") == 0) shim.statistics.moves = true;
+    if (strcmp(word, "stuck-statistics") == 0) shim.statistics.stuck = true;
+}
+
 /* Words of the firmware. */
 static void read_firmware_word(const char *word, unsigned value) {
     struct two_banks *firmware = &shim.firmware;
@@ -106,6 +114,7 @@ static void read_word(const char *word) {
     if (after != NULL) value = (unsigned)strtoul(after + 1, NULL, 0);
     read_rare_word(word, value);
     read_link_word(word, value);
+    read_statistics_word(word, value);
     read_firmware_word(word, value);
     sscanf(word, "image=%255s", shim.image);
     sscanf(word, "out=%255s", shim.out);
@@ -183,6 +192,7 @@ static void begin(void) {
     begin_emulator(&shim.module, 1);
     begin_diagnostics(&shim.diagnostics);
     begin_two_banks(&shim.firmware, 1);
+    shim.statistics.pages = shim.module.pages;
     load_bank(&shim.firmware, 0, (const uint8_t *)"\1\2\0\3", 4);
     for (char *word = strtok_r(copy, " ", &rest); word != NULL; word = strtok_r(NULL, " ", &rest)) read_word(word);
     free(copy);
@@ -217,6 +227,7 @@ __attribute__((destructor)) static void tell(void) {
     fwrite(text, 1, describe(&shim.module, text, sizeof text), out);
     if (shim.banks) tell_firmware(out);
     if (shim.links) fwrite(text, 1, describe_diagnostics(&shim.diagnostics, text, sizeof text), out);
+    if (shim.lists) fwrite(text, 1, describe_statistics(&shim.statistics, text, sizeof text), out);
     fclose(out);
 }
 
@@ -247,6 +258,7 @@ static bool reaches(void) {
         pass_millisecond(&shim.module);
         if (shim.banks) pass_time(&shim.firmware, 1);
         if (shim.links) pass_diagnostics(&shim.diagnostics);
+        if (shim.lists) pass_statistics(&shim.statistics);
         if (shim.firmware.off_left > 0) store_byte(&shim.module, 127, 0); /* a reset selects page 00h */
     }
     errno = shim.error;
@@ -263,11 +275,16 @@ static bool is_of_links(uint8_t address) {
     return shim.links && address >= 128 && (shim.module.page == 0x13 || shim.module.page == 0x14);
 }
 
+static bool is_of_statistics(uint8_t address) {
+    return shim.lists && address >= 128 && shim.module.page >= 0x20 && shim.module.page <= 0x2F;
+}
+
 static bool is_of_block(uint8_t address) { return shim.banks && address >= 128 && shim.module.page == 0x9F; }
 
 static uint8_t fetch_one(uint8_t address) {
     if (shim.banks && address == 37) return fetch_status(&shim.firmware);
     if (is_of_links(address)) return fetch_diagnostics(&shim.diagnostics, shim.module.page, address);
+    if (is_of_statistics(address)) return fetch_statistics(&shim.statistics, shim.module.page, address);
     return is_of_block(address) ? fetch_of_block(&shim.firmware, address) : fetch_byte(&shim.module, address);
 }
 
@@ -276,6 +293,8 @@ static void store_one(uint8_t address, uint8_t byte) {
         store_to_block(&shim.firmware, address, byte);
     else if (is_of_links(address))
         store_diagnostics(&shim.diagnostics, shim.module.page, address, byte);
+    else if (is_of_statistics(address))
+        store_statistics(&shim.statistics, shim.module.page, address, byte);
     else
         store_byte(&shim.module, address, byte);
 }

@@ -5,6 +5,7 @@
 #define SHIM_H
 #include "diagnostics.h"
 #include "emulator.h"
+#include "statistics.h"
 #include "two_banks.h"
 
 struct shim {
@@ -46,6 +47,8 @@ struct shim {
     /* its firmware, if it has a command data block */
     struct diagnostics diagnostics;
     bool links; /* the module has them */
+    struct statistics statistics;
+    bool lists; /* so it has pages 20h to 2Fh */
     struct two_banks firmware;
     bool banks;
     char keep[256]; /* a file for the image that runs at the end */

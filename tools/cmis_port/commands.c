@@ -15,12 +15,13 @@ enum status refuse_by(const struct port *port, uint32_t status) {
 }
 
 enum status image(struct port *port) {
-    bool whole = read_module(port, true);
-    const struct dovecounter_half *first = port->halves + port->half_count - 1; /* the newest comes first */
+    struct listed listed = {.count = 0};
+    bool whole = read_module(port, true) && (!port->vdm || read_listed(port, &listed));
+    const char *end = port->json ? "\\n" : "\n";
     if (port->json) fputs("{\"image\": \"", stdout);
-    print_image(stdout, first, port->half_count, -1, port->json ? "\\n" : "\n");
+    print_image(stdout, port->halves, port->half_count, listed.halves, listed.count, end);
     if (port->json) puts("\"}");
-    return whole ? DONE : REFUSED;
+    return whole ? DONE : port->stored ? NOT_PROVISIONED : REFUSED;
 }
 
 static void print_lane(const struct port *port, unsigned lane, const char *before) {

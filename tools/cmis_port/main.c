@@ -10,6 +10,7 @@
 
 static const char usage[] =
     "usage: cmis-port BUS image | state | history | plan [WEIGHTS] | provision WEIGHTS | wake | sleep\n"
+    "       cmis-port BUS observables\n"
     "       cmis-port BUS firmware [commit | abort | update FILE]\n"
     "       cmis-port BUS lanes\n"
     "       cmis-port BUS tx | rx on | off LANES\n"
@@ -24,6 +25,7 @@ static const char usage[] =
     "  LANES           such as 3 or 1-4,7: media lanes of tx and tx-squelch, else host lanes\n"
     "  WEIGHTS         a file with a line [host] and lines such as 0Dh = 101\n"
     "  image           print the module's memory, for cmisctl\n"
+    "  observables     print all that the module measures, with limits and flags, as cmisctl observables does\n"
     "  state           print the states of the module and its lanes, its flags, and the active control bytes\n"
     "  history         print how often flags were raised and lanes have changed, and when last, as cmisd has it\n"
     "  plan            print the best plan, and whether provision would accept it; without WEIGHTS by cmisd's\n"
@@ -54,6 +56,7 @@ static const char usage[] =
     "  --lanes LANES   make and check the pattern on these lanes of the side alone\n"
     "  --loopback X    loop them back meanwhile: media-output, media-input, host-output or host-input\n"
     "  --show X        print error ratios, counts (of lanes 1 to 4 or 5 to 8), or noise\n"
+    "  --vdm           add to the image what the module lists itself (VDM)\n"
     "  --json          print a line of JSON each\n"
     "  --log FILE      write each transaction to FILE\n"
     "Examples:\n"
@@ -83,6 +86,7 @@ static bool take_flag(struct port *port, int flag) {
     case 'r': return port->reset = true;
     case 'n': return port->no_commit = true;
     case 'j': return port->json = true;
+    case 'v': return port->vdm = true;
     case 'h': return port->help = true;
     case 's': return (port->words.side = optarg) != NULL;
     case 'p': return (port->words.pattern = optarg) != NULL;
@@ -95,17 +99,27 @@ static bool take_flag(struct port *port, int flag) {
 }
 
 static bool read_flags(int count, char **words, struct port *port) {
-    static const struct option flags[] = {
-        {"keep", required_argument, NULL, 'k'},     {"log", required_argument, NULL, 'l'},
-        {"activate", no_argument, NULL, 'a'},       {"force", no_argument, NULL, 'f'},
-        {"ensure", no_argument, NULL, 'e'},         {"wake", no_argument, NULL, 'w'},
-        {"help", no_argument, NULL, 'h'},           {"unpaired", no_argument, NULL, 'u'},
-        {"counts-by-id", no_argument, NULL, 'c'},   {"reset", no_argument, NULL, 'r'},
-        {"no-commit", no_argument, NULL, 'n'},      {"password", required_argument, NULL, 'P'},
-        {"json", no_argument, NULL, 'j'},           {"side", required_argument, NULL, 's'},
-        {"pattern", required_argument, NULL, 'p'},  {"lanes", required_argument, NULL, 'L'},
-        {"for", required_argument, NULL, 't'},      {"show", required_argument, NULL, 'S'},
-        {"loopback", required_argument, NULL, 'b'}, {0}};
+    static const struct option flags[] = {{"keep", required_argument, NULL, 'k'},
+                                          {"log", required_argument, NULL, 'l'},
+                                          {"activate", no_argument, NULL, 'a'},
+                                          {"force", no_argument, NULL, 'f'},
+                                          {"ensure", no_argument, NULL, 'e'},
+                                          {"wake", no_argument, NULL, 'w'},
+                                          {"help", no_argument, NULL, 'h'},
+                                          {"unpaired", no_argument, NULL, 'u'},
+                                          {"counts-by-id", no_argument, NULL, 'c'},
+                                          {"reset", no_argument, NULL, 'r'},
+                                          {"no-commit", no_argument, NULL, 'n'},
+                                          {"password", required_argument, NULL, 'P'},
+                                          {"vdm", no_argument, NULL, 'v'},
+                                          {"json", no_argument, NULL, 'j'},
+                                          {"side", required_argument, NULL, 's'},
+                                          {"pattern", required_argument, NULL, 'p'},
+                                          {"lanes", required_argument, NULL, 'L'},
+                                          {"for", required_argument, NULL, 't'},
+                                          {"show", required_argument, NULL, 'S'},
+                                          {"loopback", required_argument, NULL, 'b'},
+                                          {0}};
     int flag;
     optind = 0;
     while ((flag = getopt_long(count, words, "h", flags, NULL)) != -1)
@@ -126,6 +140,7 @@ struct command {
     bool sets;                                         /* its words are followed by a setting and lanes */
     bool loops, checks; /* by a side, a kind and perhaps lanes; by flags about a pattern */
     bool tunes;         /* its words are followed by settings with their values */
+    bool lists;         /* it takes --vdm */
 };
 
 static bool read_host(struct port *port, const char *name) {
@@ -137,6 +152,7 @@ static bool is_stray(const struct port *port, const struct command *command) {
     bool changes = port->activate || port->ensure || port->wake;
     const struct link_words *words = &port->words;
     bool of_pattern = words->side || words->pattern || words->lanes || words->shown || words->loopback;
+    if (port->vdm && !command->lists) return true;
     if ((of_pattern && !command->checks) || (words->time && !command->checks && !command->loops)) return true;
     if (port->password_name && !command->unlocks) return true;
     return (asks && !command->plans) || (changes && !command->stores) || (port->force && !command->forces) ||
@@ -146,7 +162,8 @@ static bool is_stray(const struct port *port, const struct command *command) {
 /* The command that the words name, if all flags are its own; else NULL. The last word is that of the file that it takes. */
 static const struct command *read_words(int count, char **words, struct port *port) {
     static const struct command commands[] = {
-        {.name = "image", .run = image, .asks = true, .shows = true},
+        {.name = "image", .run = image, .asks = true, .shows = true, .lists = true},
+        {.name = "observables", .run = observables, .shows = true, .borrows = true},
         {.name = "state", .run = state, .asks = true, .shows = true},
         {.name = "history", .run = history, .asks = true, .shows = true},
         {.name = "plan", .run = plan, .asks = true, .plans = true, .shows = true},
@@ -213,12 +230,13 @@ static void close_log(struct port *port) {
 static enum status prepare(const struct command *command, struct port *port, const char *name) {
     if (port->password_name != NULL && !read_password(port, port->password_name)) return REFUSED;
     if (command->read != NULL && !command->read(port, name)) return REFUSED;
-    ask_manager(port, command->asks);
+    bool asks = command->asks && !port->vdm, borrows = command->borrows || port->vdm;
+    ask_manager(port, asks);
     if (command->run == history) return DONE;
-    if (command->asks && !take_told(port)) return REFUSED;
+    if (asks && !take_told(port)) return REFUSED;
     if (command->run == plan && !port->is_weighed && !port->is_told)
         return warnx("%s: no cmisd keeps it, so a file with weights has to be named", port->bus.name), COMMAND_LINE;
-    return (!command->borrows || borrow_bus(port)) && open_port(port) ? DONE : REFUSED;
+    return (!borrows || borrow_bus(port)) && open_port(port) ? DONE : REFUSED;
 }
 
 /* Whatever may keep the program waiting is read before signals are held back, and before the module is touched. */

@@ -17,7 +17,7 @@ struct link_words {
 struct port {
     /* what is asked for */
     const char *log_name, *password_name;
-    bool activate, ensure, force, wake, help, unpaired, counts_by_id, reset, no_commit, json;
+    bool activate, ensure, force, wake, help, unpaired, counts_by_id, reset, no_commit, json, vdm;
     uint32_t weights[256], stay;
     bool is_weighed; /* by words of the command line */
     struct dovecounter_path kept[9];
@@ -129,6 +129,18 @@ enum status status_by(const struct dovecounter_effect *effect);
 void say_lanes(FILE *out, const char *before, unsigned lanes, const char *after);
 void say_state(FILE *out, const char *before, unsigned state, const char *after);
 void say_hindrance(FILE *out, const char *before, const struct dovecounter_effect *effect);
+
+/* observables.c */
+/* What a module lists itself (VDM), as it was read. */
+struct listed {
+    struct dovecounter_half halves[DOVECOUNTER_MOST_VDM + 1]; /* the lower one after those that were read */
+    uint8_t count;                                            /* of those */
+    uint8_t release;                                          /* what became of a freeze */
+    bool ended, interrupted;
+    struct dovecounter_vdm_end end; /* if it has ended */
+};
+bool read_listed(struct port *port, struct listed *listed);
+enum status observables(struct port *port);
 
 /* provision.c */
 enum status plan(struct port *port);

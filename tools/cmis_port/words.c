@@ -74,11 +74,38 @@ static void print_half(FILE *out, const struct dovecounter_half *half, const cha
     fputs(end, out);
 }
 
-/* An image, from this half on by steps of 1 or -1, with this end of each line; none of no halves. */
-void print_image(FILE *out, const struct dovecounter_half *first, size_t count, int step, const char *end) {
+/* Where a half stands in an image. */
+static unsigned place_of(const struct dovecounter_half *half) {
+    return (unsigned)half->device << 24 | (unsigned)half->upper << 16 | (unsigned)half->bank << 8 | half->page;
+}
+
+static const struct dovecounter_half *lowest_from(unsigned place, const struct dovecounter_half *halves, size_t count) {
+    const struct dovecounter_half *lowest = NULL;
+    for (size_t i = 0; i < count; i++)
+        if (place_of(&halves[i]) >= place && (lowest == NULL || place_of(&halves[i]) < place_of(lowest)))
+            lowest = &halves[i];
+    return lowest;
+}
+
+/* Pages 23h, 27h and 2Bh: what a module lists in a fourth group, for which an image of 16 halves has no room. */
+static bool has_no_room(const struct dovecounter_half *half) {
+    return half->upper && half->page >= 0x20 && half->page <= 0x2B && half->page % 4 == 3;
+}
+
+/* The image of a module's halves and of those that it lists itself, among which one has no place twice, with this end of each line; none
+ * of no halves. */
+void print_image(FILE *out, const struct dovecounter_half *halves, size_t count, const struct dovecounter_half *listed,
+                 size_t listed_count, const char *end) {
     if (count == 0) return;
     fprintf(out, "module-image 1%s", end);
-    for (; count > 0; count--, first += step) print_half(out, first, end);
+    for (unsigned place = 0;; place++) {
+        const struct dovecounter_half *own = lowest_from(place, halves, count);
+        const struct dovecounter_half *other = lowest_from(place, listed, listed_count), *next = own;
+        if (own == NULL || (other != NULL && place_of(other) < place_of(own))) next = other;
+        if (next == NULL) break;
+        place = place_of(next);
+        if (!has_no_room(next)) print_half(out, next, end);
+    }
     fprintf(out, "end%s", end);
 }
 

@@ -72,7 +72,7 @@ static void print_metrics(FILE *out, const struct port *port) {
 /* ---- all of them */
 
 static void print_image_of(FILE *out, const struct port *port) {
-    print_image(out, port->halves, port->half_count, 1, "\n");
+    print_image(out, port->halves, port->half_count, NULL, 0, "\n");
 }
 
 /* Says once that files can't be written, and once that they can again. */

@@ -43,6 +43,6 @@ module _ (page : Option ℕ) (reply : Reply) (before after : List HalfBytes) (ha
       memory_of (take (count + count_of page) after) ≡ image_with page reply (memory_of (take count before))
   put_by is_page is_reply placed same grown count =
       let given : count + 1 ≤ 15 → memory_of (take (count + 1) after) ≡ image_with (Some number) (Bytes bytes) (memory_of (take count before)) =
-          λ room. memory_more half (take count before) (take (count + 1) after) (vdm.key_of number) bytes.items placed same (grown count (omega (arith, room))) in
+      λ room. memory_more half (take count before) (take (count + 1) after) (vdm.key_of number) bytes.items placed same (grown count (omega (arith, room))) in
       subst (λ (p : Option ℕ). count + count_of p ≤ 15 → memory_of (take (count + count_of p) after) ≡ image_with p reply (memory_of (take count before))) (sym is_page)
       (subst (λ (r : Reply). count + 1 ≤ 15 → memory_of (take (count + 1) after) ≡ image_with (Some number) r (memory_of (take count before))) (sym is_reply) given)

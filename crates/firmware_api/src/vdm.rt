@@ -158,8 +158,10 @@ fn put_page(page: Option<u8>, reply: &Reply, halves: &mut [HalfBytes; MAX_HALVES
         memory_of (take (count + count_of page) halves.new) ≡ image_with page reply.now (memory_of (take count halves.old)) }
 {
     match (page, reply) {
-        (Some(page), Reply::Bytes(bytes)) =>
-            put_in_front(half_at(Key::upper(Dev::A0, 0, page), bytes), halves),
+        (Some(page), Reply::Bytes(bytes)) => put_in_front(
+            half_at(Key::upper(Dev::A0, 0, page), bytes),
+            halves,
+        ),
         _ => {}
     }
 }

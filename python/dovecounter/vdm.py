@@ -1,0 +1,135 @@
+"""Reading what a module lists itself (VDM) while its statistics are frozen (docs/observables.md)."""
+from __future__ import annotations
+
+from ctypes import byref
+from dataclasses import dataclass
+from enum import Enum
+from typing import Dict, Optional, Tuple
+
+from . import library
+from .faults import look_at_type
+from .image import LOWER, Image, Key, page
+from .observables import Observable
+from .procedures import Procedure
+from .reports import Patience
+
+_WAITED = 3
+
+_begin = library.function("vdm_begin")
+_next = library.function("vdm_next")
+_reply = library.function("vdm_reply")
+_end = library.function("vdm_end")
+
+
+class VdmStatistics(Enum):
+    """What was read, by the library's numbers."""
+
+    UNKNOWN = 0
+    """page 01h or 2Fh couldn't be read: whether there are any isn't known"""
+    UNSUPPORTED = 1
+    """the module advertises none"""
+    NOT_TAKEN = 2
+    """it took no request to freeze: what was read may not belong together"""
+    PENDING = 3
+    """it took one, and didn't freeze in time: what was read may not belong together"""
+    FROZEN = 4
+    """they were frozen while they were read"""
+
+
+class VdmRelease(Enum):
+    """What became of a freeze, by the library's numbers."""
+
+    NEVER_FROZEN = 0
+    MAY_BE_FROZEN = 1
+    """one was asked for, and no release was accepted since"""
+    ACCEPTED = 2
+    """a release was accepted; whether it is done wasn't seen"""
+    RELEASED = 3
+
+
+@dataclass(frozen=True)
+class VdmEnd:
+    """How a reading ended."""
+
+    statistics: VdmStatistics
+    release: VdmRelease
+    missing: Tuple[int, ...]
+    """the advertised pages that couldn't be read"""
+
+
+class VdmFault(Exception):
+    """A reading that isn't whole: not frozen, not read or not released."""
+
+    def __init__(self, end: VdmEnd) -> None:
+        super().__init__(end)
+        self.end = end
+
+    def __str__(self) -> str:
+        parts = [f"statistics {self.end.statistics.name}", f"release {self.end.release.name}"]
+        lost = ", ".join(f"{number:02X}h" for number in self.end.missing)
+        return ", ".join(parts).lower().replace("_", " ") + (lost and f", without {lost}")
+
+
+class VdmReading(Procedure):
+    """Freezes the statistics of a CMIS module that has pages, reads what it lists on pages 20h to 2Ch
+    of bank 0, and releases them, by 759 operations at most. Of a Patience only the pause counts.
+    Raises a VdmFault while it is iterated if that isn't whole; `image` has what was read even so.
+    If you give up before its end, `release` says whether the statistics may stay frozen."""
+
+    def __init__(self, patience: Patience = Patience()) -> None:
+        super().__init__(patience)
+        self._saved = library.Vdm()
+        self._halves = (library.Half * library.MOST_VDM)()
+        self._operations = 0
+        self.end: Optional[VdmEnd] = None
+        """how it ended; None before"""
+        _begin(self._patience.pause, byref(self._saved))
+
+    @property
+    def release(self) -> VdmRelease:
+        """What became of a freeze so far."""
+        return VdmRelease(self._saved.release)
+
+    @property
+    def image(self) -> Image:
+        """The pages that were read so far."""
+        halves: Dict[Key, bytes] = {}
+        for half in self._halves[: self._saved.halves]:
+            halves[page(half.page)] = bytes(half.bytes)
+        return Image(halves)
+
+    def observables(self, image: Image) -> Tuple[Observable, ...]:
+        """All that the module measures: monitors as another image has them, which has the lower half
+        of 0xA0, and after them what this reading has read. Raises a Fault as `Image.observables`.
+        """
+        look_at_type("the image", image, Image)
+        monitors = image.observed(0, library.FIRST_INSTANCE)
+        listed = Image({LOWER: image.halves[LOWER], **self.image.halves})
+        return monitors + listed.observed(library.FIRST_INSTANCE)
+
+    def _made(self) -> int:
+        return self._operations
+
+    def _ask(self, found: library.Operation) -> int:
+        return int(_next(byref(self._saved), self._halves, byref(found)))
+
+    def _take(self, outcome: int, data: bytes) -> int:
+        status = int(_reply(byref(self._saved), self._halves, outcome, data, len(data)))
+        self._operations += status == 0 and outcome != _WAITED
+        return status
+
+    def _has_ended(self) -> None:
+        found = library.VdmEnd()
+        _expect_done(_end(byref(self._saved), self._halves, byref(found)))
+        statistics, release = VdmStatistics(found.statistics), VdmRelease(found.release)
+        self.end = VdmEnd(statistics, release, tuple(found.missing[: found.missing_count]))
+        whole = (VdmStatistics.FROZEN, VdmRelease.RELEASED)
+        if statistics is VdmStatistics.UNSUPPORTED:
+            return
+        if (statistics, release) != whole or self.end.missing:
+            raise VdmFault(self.end)
+
+
+def _expect_done(status: int) -> None:
+    if status:
+        raise AssertionError(f"the library answered status {status}")
