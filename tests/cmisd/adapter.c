@@ -1,6 +1,7 @@
 /* Adapters with simulated modules, each in a file that the test has in memory too: so a module outlives the daemon, and the test sees what
    becomes of it, and lets it be plugged, pulled, reset or silent. The daemon is linked with these in place of the system's calls. */
 #include "../../tools/cmis_port/bus.h"
+#include "../port/statistics.c"
 #include "../port/two_banks.c"
 
 #include <errno.h>
@@ -22,12 +23,13 @@ struct adapter {
     /* what the test asks for */
     uint32_t present, refuse, late, blocks, serial, resets, pin, raises, smbus, rejects, identifier;
     uint32_t wanted[8], has_firmware;
-    uint32_t unused[12];
+    uint32_t lists; /* it has pages 20h to 2Fh; so many milliseconds and one pass until they are frozen */
+    uint32_t unused[11];
     /* what became of it */
     uint32_t transactions, refused, stores, needless, dropped, unread, state, deinit;
     uint32_t paths[8], active[8];
     uint32_t seen_serial, seen_resets, read_lower, read_lanes, stores_of_power, commits;
-    uint32_t unused_too[2];
+    uint32_t frozen, freezes; /* whether the statistics are, or are to be; how often that was stored */
     uint32_t module_flags[32], lane_flags[152]; /* how often each was answered as raised */
     char image[256];
     /* not the test's */
@@ -35,6 +37,8 @@ struct adapter {
     int64_t ticked;
     struct simulated simulated;
     struct two_banks banks;
+    struct statistics statistics;
+    uint8_t listed[0x30][128];
 };
 _Static_assert(sizeof(struct adapter) <= SIZE, "the file is too small");
 
@@ -50,6 +54,17 @@ static bool is_up(const struct adapter *it, unsigned lane) {
     return is->path == ACTIVATED && it->wanted[lane] != 0 && is->active == it->wanted[lane];
 }
 
+/* The pages of what a module lists, as its image has them. */
+static void begin_statistics(struct adapter *it) {
+    memset(&it->statistics, 0, sizeof it->statistics);
+    for (size_t i = 0; i < it->simulated.count; i++) {
+        const struct dovecounter_half *half = &it->simulated.halves[i];
+        if (half->upper && half->page >= 0x20 && half->page <= 0x2F)
+            memcpy(it->listed[half->page], half->bytes, sizeof half->bytes);
+    }
+    it->statistics.moves = true;
+}
+
 /* Another module, or the one that has reset itself. */
 static void begin(struct adapter *it) {
     const struct dovecounter_delays delays = {8, 8, 8, 8, 8, 8, 8};
@@ -57,6 +72,7 @@ static void begin(struct adapter *it) {
         it->read_lower = it->read_lanes = 0;
         memset(&it->simulated, 0, sizeof it->simulated);
         if (!open_simulated(&it->simulated, it->image)) abort();
+        begin_statistics(it);
     }
     dovecounter_module_begin(it->simulated.halves, it->simulated.count, &delays, &it->simulated.module);
     it->seen_serial = it->serial;
@@ -78,6 +94,9 @@ static void let_time_pass(struct adapter *it) {
     dovecounter_module_pin(&it->simulated.module, it->pin != 0);
     ticks = ticks < MOST_TICKS ? ticks : MOST_TICKS;
     if (it->has_firmware) pass_firmware_time(it, (unsigned)ticks);
+    it->statistics.pages = it->listed; /* which each process has elsewhere */
+    it->statistics.lasts = it->lists;
+    for (int64_t tick = 0; it->lists != 0 && tick < ticks; tick++) pass_statistics(&it->statistics);
     for (; ticks > 0; ticks--) dovecounter_module_tick(&it->simulated.module);
     if (it->raises > 1000) it->simulated.module.module_flags = 0xFF;
     if (below(it, 1000) < it->raises)
@@ -89,7 +108,8 @@ static void let_time_pass(struct adapter *it) {
 /* A store that takes down or applies a lane that is up as wanted is needless; one to another module before it was read is too early. */
 static void judge_store(struct adapter *it, const struct i2c_msg *message) {
     uint8_t offset = message->buf[0];
-    if (offset == 126 || offset == 127 || it->simulated.module.page == 0x9F) return;
+    uint8_t page = it->simulated.module.page;
+    if (offset == 126 || offset == 127 || page == 0x9F || (it->lists != 0 && page == 0x2F)) return;
     it->stores++;
     it->stores_of_power += offset == 26;
     it->unread += !it->read_lower || !it->read_lanes;
@@ -121,6 +141,23 @@ static bool is_of_firmware(const struct adapter *it, uint8_t offset) {
     return it->has_firmware && (offset == 37 || (offset >= 128 && it->simulated.module.page == 0x9F));
 }
 
+static bool is_of_statistics(const struct adapter *it, uint8_t offset) {
+    uint8_t page = it->simulated.module.page;
+    return it->lists != 0 && offset >= 128 && page >= 0x20 && page <= 0x2F;
+}
+
+static void use_statistics(struct adapter *it, const struct i2c_rdwr_ioctl_data *data) {
+    const struct i2c_msg *sent = &data->msgs[0], *taken = &data->msgs[1];
+    uint8_t page = it->simulated.module.page;
+    for (unsigned i = 0; data->nmsgs == 2 && i < taken->len; i++)
+        taken->buf[i] = fetch_statistics(&it->statistics, page, (uint8_t)(sent->buf[0] + i));
+    for (unsigned i = 1; data->nmsgs == 1 && i < sent->len; i++)
+        store_statistics(&it->statistics, page, (uint8_t)(sent->buf[0] + i - 1), sent->buf[i]);
+    it->freezes = it->statistics.stores;
+    it->frozen = it->statistics.is_frozen || it->listed[0x2F][144 - 128] >= 0x80;
+    it->unread += it->statistics.astray;
+}
+
 static void use_firmware(struct adapter *it, const struct i2c_rdwr_ioctl_data *data) {
     const struct i2c_msg *sent = &data->msgs[0], *taken = &data->msgs[1];
     for (unsigned i = 0; data->nmsgs == 2 && i < taken->len; i++)
@@ -137,6 +174,7 @@ static bool is_done(struct adapter *it, const struct i2c_rdwr_ioctl_data *data) 
     uint8_t device = (uint8_t)(sent->addr << 1), offset = sent->buf[0];
     if (it->has_firmware && is_deaf(&it->banks)) return false;
     if (is_of_firmware(it, offset)) return use_firmware(it, data), true;
+    if (is_of_statistics(it, offset)) return use_statistics(it, data), true;
     if (data->nmsgs == 1)
         return dovecounter_module_store(module->halves, module->count, &module->module, device, offset, sent->buf + 1,
                                         sent->len - 1U) == DOVECOUNTER_DONE;

@@ -16,7 +16,20 @@ struct entry {
         reset[TEXT_SIZE]; /* the last three are files of pins */
     struct dovecounter_times times;
     struct dovecounter_wanted wanted;
+    uint32_t vdm; /* seconds between two readings of what a module lists itself; 0 for none */
     uint8_t manage;
+};
+
+/* What a module lists itself (VDM). */
+struct listing {
+    struct dovecounter_vdm reading;
+    struct dovecounter_half halves[DOVECOUNTER_MOST_VDM]; /* of the reading under way */
+    struct dovecounter_half read[DOVECOUNTER_MOST_VDM];   /* of the last one, so many: */
+    uint8_t read_count;
+    bool is_under_way;
+    bool is_rested;          /* the last operation of the library has ended a look */
+    int64_t due, goes_on_at; /* when to read it again; until when to pause, or 0 */
+    const char *told;        /* how the last one ended */
 };
 
 struct configuration {
@@ -48,6 +61,8 @@ struct port {
     bool has_new_image, has_new_counts; /* than its files */
     struct dovecounter_plan plan; /* whose paths are shown, if its control bytes are those that the port works for */
 
+    struct listing listing;
+
     uint8_t stage; /* as it was told last */
     int64_t since, failed_at;
     char failure[WORDS_SIZE]; /* the last one, or "" */
@@ -63,6 +78,7 @@ bool read_configuration(const char *name, struct configuration *configuration);
 extern pthread_mutex_t state;
 extern struct port *ports;
 void begin_ports(void);
+int64_t make(struct port *port, const struct dovecounter_operation *operation, uint8_t bytes[128], bool *answered);
 struct port *port_of(const char *name);
 struct port *port_on(const char *bus);
 bool is_still(const struct port *port);
@@ -72,6 +88,11 @@ void hold(struct port *port, bool held);
 void lend(struct port *port, bool lent);
 void apply(const struct configuration *configuration);
 bool stop_all(int64_t most);
+
+/* listing.c */
+void forget_listing(struct port *port);
+bool begin_listing(struct port *port, const struct dovecounter_port_next *next);
+void go_on_listing(struct port *port);
 
 /* told.c */
 void say_reason(char words[WORDS_SIZE], const struct dovecounter_left *left);
@@ -99,6 +120,7 @@ const struct dovecounter_half *half_of(const struct port *port, uint8_t upper, u
 
 /* files.c */
 extern const char *folder;
+void print_image_of(FILE *out, const struct port *port, const char *end);
 void put_image(struct port *port);
 void put_status(struct port *port);
 void remove_file(const char *port, const char *ending);

@@ -30,6 +30,7 @@ static const struct key {
     {"period", NUMBER, offsetof(struct entry, times.period)},
     {"first", NUMBER, offsetof(struct entry, times.first)},
     {"most", NUMBER, offsetof(struct entry, times.most)},
+    {"vdm", NUMBER, offsetof(struct entry, vdm)},
 };
 enum { KEYS = sizeof keys / sizeof keys[0] };
 

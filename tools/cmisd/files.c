@@ -71,9 +71,12 @@ static void print_metrics(FILE *out, const struct port *port) {
 
 /* ---- all of them */
 
-static void print_image_of(FILE *out, const struct port *port) {
-    print_image(out, port->halves, port->half_count, NULL, 0, "\n");
+void print_image_of(FILE *out, const struct port *port, const char *end) {
+    size_t listed = port->entry.vdm > 0 ? port->listing.read_count : 0;
+    print_image(out, port->halves, port->half_count, port->listing.read, listed, end);
 }
+
+static void print_lines(FILE *out, const struct port *port) { print_image_of(out, port, "\n"); }
 
 /* Says once that files can't be written, and once that they can again. */
 static void note_disk(const char *name, bool is_written) {
@@ -100,7 +103,7 @@ static bool put_file(const struct port *port, const char *ending, void (*print)(
 }
 
 void put_image(struct port *port) {
-    if (port->has_new_image) port->has_new_image = !put_file(port, "image", print_image_of);
+    if (port->has_new_image) port->has_new_image = !put_file(port, "image", print_lines);
 }
 
 /* PORT.json is written although nothing has changed, so that others see when the port was looked at. */

@@ -101,8 +101,7 @@ static void reopen(struct port *port) {
 }
 
 /* Makes an operation, while others use the state. Answers when it began. */
-static int64_t make(struct port *port, const struct dovecounter_operation *operation, uint8_t bytes[128],
-                    bool *answered) {
+int64_t make(struct port *port, const struct dovecounter_operation *operation, uint8_t bytes[128], bool *answered) {
     int64_t began = port->began = now();
     pthread_mutex_unlock(&state);
     *answered = port->bus.carry(&port->bus, operation, bytes);
@@ -120,6 +119,7 @@ static void take_presence(struct port *port, uint8_t presence) {
     bool is_plugged = presence == DOVECOUNTER_PLUGGED;
     if (presence == DOVECOUNTER_SAME) return;
     forget(port);
+    forget_listing(port);
     if (!is_plugged) remove_file(port->entry.name, "image");
     tell(port, is_plugged ? "plugged" : "pulled", "");
     if (!is_plugged) shut(port);
@@ -203,6 +203,7 @@ static void carry_out(struct port *port, const struct dovecounter_port_next *nex
     if (port->is_retired) return;
     remember(port, next, outcome, bytes);
     must(dovecounter_port_take(&port->core, outcome, bytes, count, &port->entry.wanted, (uint64_t)now(), &led_to));
+    port->listing.is_rested = led_to.note >= DOVECOUNTER_PORT_CAME_UP;
     tell_flags(port);
     hear(port, &led_to);
     if (led_to.kind == DOVECOUNTER_PORT_FAILED) forget(port);
@@ -210,18 +211,23 @@ static void carry_out(struct port *port, const struct dovecounter_port_next *nex
     take_answer(port, answered, began);
 }
 
-/* One operation, one look, or none, and when the next is due. */
+/* One operation, one look, or none, and when the next is due. What a module lists is read to the end even if the port is to be still, or to
+   go, so that its statistics aren't left frozen. */
 static void step(struct port *port) {
     struct dovecounter_port_next next;
     bool still = is_still(port), has_pin = port->entry.presence[0] != 0;
-    if (still) shut(port);
+    bool lists = port->listing.is_under_way, ends = port->is_retired || is_stopping;
+    bool looks = (has_pin || !still) && port->looks_at <= now();
+    if (lists && (ends || !looks)) return go_on_listing(port);
+    if (still && !lists) shut(port);
     if (!still && !port->is_open) return reopen(port);
-    if (has_pin && port->looks_at <= now()) return look(port);
+    if (looks && (has_pin || lists)) return look(port);
     must(dovecounter_port_next(&port->core, (uint64_t)now(), &next));
     if (next.kind == DOVECOUNTER_PORT_DO) return carry_out(port, &next);
     if (!still && port->looks_at <= now()) return look(port);
     port->due = has_pin || !still ? port->looks_at : INT64_MAX;
     if (next.kind == DOVECOUNTER_PORT_UNTIL && next.moment < (uint64_t)port->due) port->due = (int64_t)next.moment;
+    if (!still) begin_listing(port, &next);
 }
 
 /* ---- threads */
@@ -262,7 +268,7 @@ static void *work(void *context) {
     struct port *port;
     pthread_mutex_lock(&state);
     while ((port = next_due(adapter)) != NULL) {
-        if (port->is_retired || is_stopping)
+        if ((port->is_retired || is_stopping) && !port->listing.is_under_way)
             drop(port);
         else if (port->due > now())
             wait_until(&adapter->woken, port->due < now() + LONGEST ? port->due : now() + LONGEST);

@@ -302,7 +302,7 @@ void print_memory(FILE *out, const struct port *port) {
     if (port->half_count > 0 && port->core.stage != DOVECOUNTER_PORT_READING) {
         print_number(out, ", ", "age", (uint64_t)(now() - port->read_at));
         fputs(", \"image\": \"", out);
-        print_image(out, port->halves, port->half_count, NULL, 0, "\\n");
+        print_image_of(out, port, "\\n");
         fputc('"', out);
     }
     fputs("}\n", out);

@@ -1,0 +1,107 @@
+/* What a module lists itself (VDM): read now and then, after a look at a module that is as wanted or left alone, while its statistics are
+   frozen. Of each reading one operation is made at a time, as of all else that is done at a port. */
+#include "cmisd.h"
+
+#include <string.h>
+
+enum {
+    PAUSE = 20
+}; /* milliseconds after a fruitless operation, of which 101 may be so until the statistics are frozen */
+
+static bool is_unsupported(const struct dovecounter_vdm_end *end) {
+    return end->statistics == DOVECOUNTER_VDM_UNSUPPORTED;
+}
+
+static bool is_whole(const struct dovecounter_vdm_end *end) {
+    return end->statistics == DOVECOUNTER_VDM_FROZEN && end->release == DOVECOUNTER_VDM_RELEASED &&
+           end->missing_count == 0;
+}
+
+static const char *words_of(const struct dovecounter_vdm_end *end) {
+    if (is_unsupported(end)) return "the module lists nothing";
+    if (is_whole(end)) return "what the module lists was read while it was frozen";
+    if (end->release == DOVECOUNTER_VDM_MAY_BE_FROZEN) return "its statistics may still be frozen";
+    switch (end->statistics) {
+    case DOVECOUNTER_VDM_UNKNOWN: return "page 01h or 2Fh can't be read";
+    case DOVECOUNTER_VDM_FROZEN: break;
+    default: return "its statistics weren't frozen while they were read: they may not belong together";
+    }
+    if (end->missing_count > 0) return "a page that the module advertises can't be read";
+    return "the module doesn't show that its statistics go on, though it took the request";
+}
+
+/* Only what differs from the reading before is told. */
+static void tell_end(struct port *port, const struct dovecounter_vdm_end *end) {
+    struct listing *it = &port->listing;
+    const char *words = words_of(end);
+    bool is_new = it->told != words;
+    it->told = words;
+    if (is_new) tell(port, "listed", words);
+}
+
+static void finish(struct port *port) {
+    struct listing *it = &port->listing;
+    struct dovecounter_vdm_end end;
+    it->is_under_way = false;
+    it->due = now() + (int64_t)port->entry.vdm * 1000;
+    if (dovecounter_vdm_end(&it->reading, it->halves, &end) != DOVECOUNTER_DONE) return;
+    uint8_t count = is_unsupported(&end) ? 0 : it->reading.halves;
+    if (count != it->read_count || memcmp(it->read, it->halves, sizeof it->read) != 0) port->has_new_image = true;
+    it->read_count = count;
+    memcpy(it->read, it->halves, sizeof it->read);
+    if (port->is_retired) return;
+    if (port->half_count > 0) put_image(port);
+    tell_end(port, &end);
+}
+
+/* Of a module that is gone nothing is known. */
+void forget_listing(struct port *port) { memset(&port->listing, 0, sizeof port->listing); }
+
+/* Whether a reading may begin now: the library does nothing at the module before another moment, and no conversation is under way. */
+static bool may_begin(const struct port *port, const struct dovecounter_port_next *next) {
+    uint8_t reason = port->core.left.reason;
+    bool is_watched = port->core.stage == DOVECOUNTER_PORT_WATCHING && next->kind == DOVECOUNTER_PORT_UNTIL;
+    bool is_left = port->core.stage == DOVECOUNTER_PORT_LEFT && next->kind == DOVECOUNTER_PORT_IDLE;
+    bool is_awake = reason == DOVECOUNTER_LEFT_NO_PLAN || reason == DOVECOUNTER_LEFT_NEEDS_PERMISSION;
+    return port->entry.vdm > 0 && port->is_open && ((is_watched && port->listing.is_rested) || (is_left && is_awake));
+}
+
+/* Begins a reading if one is due; else sees that the port is due by then. */
+bool begin_listing(struct port *port, const struct dovecounter_port_next *next) {
+    struct listing *it = &port->listing;
+    if (!may_begin(port, next)) return false;
+    if (it->due > now()) {
+        if (it->due < port->due) port->due = it->due;
+        return false;
+    }
+    dovecounter_vdm_begin(PAUSE, &it->reading);
+    it->is_under_way = true;
+    it->goes_on_at = 0;
+    port->due = now();
+    return true;
+}
+
+static uint8_t make_one(struct port *port, const struct dovecounter_operation *operation, uint8_t bytes[128]) {
+    bool answered;
+    make(port, operation, bytes, &answered);
+    port->page = -1; /* another one may be selected */
+    if (!answered) return DOVECOUNTER_REFUSED;
+    return operation->kind == DOVECOUNTER_STORE ? DOVECOUNTER_STORED : DOVECOUNTER_FETCHED;
+}
+
+/* Makes the next operation of the reading under way, waits as long as it asks, or ends it. */
+void go_on_listing(struct port *port) {
+    struct listing *it = &port->listing;
+    struct dovecounter_operation operation;
+    uint8_t bytes[128], outcome = DOVECOUNTER_WAITED;
+    if (dovecounter_vdm_next(&it->reading, it->halves, &operation) != DOVECOUNTER_DONE) return finish(port);
+    if (operation.kind == DOVECOUNTER_WAIT && it->goes_on_at == 0) it->goes_on_at = now() + operation.milliseconds;
+    if (operation.kind == DOVECOUNTER_WAIT && it->goes_on_at > now()) {
+        port->due = it->goes_on_at;
+        return;
+    }
+    it->goes_on_at = 0;
+    if (operation.kind != DOVECOUNTER_WAIT) outcome = make_one(port, &operation, bytes);
+    dovecounter_vdm_reply(&it->reading, it->halves, outcome, bytes, operation.count);
+    port->due = now();
+}
