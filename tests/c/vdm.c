@@ -276,6 +276,7 @@ static void try_ends(void) {
     expect_end("an unknown one", DOVECOUNTER_VDM_UNKNOWN, DOVECOUNTER_VDM_NEVER_FROZEN, 0, read_all());
     make_module(2), deaf_page = GROUPS;
     expect_end("unknown groups", DOVECOUNTER_VDM_UNKNOWN, DOVECOUNTER_VDM_NEVER_FROZEN, 0, read_all());
+    expect("operations: a selection, its reading back and a fetch, and three times those", 12, made);
     make_module(2), takes = 0;
     expect_end("no freeze", DOVECOUNTER_VDM_NOT_TAKEN, DOVECOUNTER_VDM_MAY_BE_FROZEN, 0, read_all());
     make_module(2), takes = 1;
