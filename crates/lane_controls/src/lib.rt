@@ -35,7 +35,8 @@ pub use runs::{
     test_procedure,
 };
 pub use settings_change::{
-    ChangingSettings, SettingsChange, SettingsEnd, SettingsPiece, SettingsStage,
+    ChangingSettings, SettingsChange, SettingsEnd, SettingsPiece, SettingsStage, inactive_lane,
+    store_piece,
 };
 pub use signal_settings::{
     LaneSettings, SETTINGS, SettingFault, SignalLimits, SignalTargets, are_active, settings_of,

@@ -17,6 +17,7 @@ use arrayvec::ArrayVec;
 use bus_model::{Dev, Op};
 use conversations::Next;
 use field_tables::LaneSet;
+pub use lanes::inactive_lane;
 
 /// How many control bytes stand before the settings.
 const CONTROLS: usize = 8;
@@ -130,7 +131,8 @@ impl ChangingSettings {
     }
 }
 
-fn store_piece(piece: SettingsPiece, settings: &[u8; SETTINGS]) -> Op
+/// Stores a piece of the settings.
+pub fn store_piece(piece: SettingsPiece, settings: &[u8; SETTINGS]) -> Op
     ensures value { result ≡ spec.store_piece piece settings.now }
     ensures shape { IsWellShaped result }
 {
