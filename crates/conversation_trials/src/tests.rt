@@ -1,4 +1,5 @@
 mod disturbed_updates;
+mod explicit_settings;
 mod frozen_statistics;
 mod lane_changes;
 mod lane_pages;

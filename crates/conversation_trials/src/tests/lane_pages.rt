@@ -16,6 +16,10 @@ pub struct Pages {
     pub shown: u8,
     /// Whether staged settings become active at once.
     pub applies: bool,
+    /// Whether staged control bytes do.
+    pub provisions: bool,
+    /// Byte 3 of the lower half.
+    pub state: u8,
 }
 
 fn index_of(page: Option<u8>) -> usize {
@@ -43,26 +47,46 @@ impl Pages {
         }
     }
 
-    // Bytes 126 and 127 are the selection.
+    // Byte 3 has the module's state, and bytes 126 and 127 are the selection.
     fn read(&self, page: u8, address: u8) -> u8 {
         match address {
+            3 => self.state,
             126 => 0,
             127 => self.shown,
             _ => self.byte(page, address),
         }
     }
 
-    // What is stored at ApplyImmediate makes all staged settings active.
+    // What is stored at ApplyImmediate makes all staged settings active; at ApplyDPInit, the control bytes of its lanes too.
     fn store(&mut self, page: u8, offset: u8, bytes: &[u8]) {
         let mut address = offset;
         for byte in bytes.iter() {
             self.set(page, address, *byte);
             address = address.wrapping_add(1);
         }
-        if page == 0x10 && offset == 144 && self.applies {
-            for place in 0..21u8 {
-                let staged = self.byte(0x10, 153u8.wrapping_add(place));
+        if page == 0x10 && offset == 144 {
+            self.apply_settings();
+        }
+        if page == 0x10 && offset == 143 && self.byte(0x10, 143) == 0xff {
+            self.provision();
+            self.apply_settings();
+        }
+    }
+
+    fn apply_settings(&mut self) {
+        for place in 0..21u8 {
+            let staged = self.byte(0x10, 153u8.wrapping_add(place));
+            if self.applies {
                 self.set(0x11, 214u8.wrapping_add(place), staged);
+            }
+        }
+    }
+
+    fn provision(&mut self) {
+        for place in 0..8u8 {
+            let staged = self.byte(0x10, 145u8.wrapping_add(place));
+            if self.provisions {
+                self.set(0x11, 206u8.wrapping_add(place), staged);
             }
         }
     }
@@ -110,6 +134,8 @@ pub fn board() -> Pages {
         stuck: None,
         shown: 0,
         applies: true,
+        provisions: false,
+        state: 0x06,
     };
     board.set(0x01, 142, 0x20);
     for address in 128..132u8 {
