@@ -1,0 +1,11 @@
+pub mod LeftAlone
+pub mod TickedLanes
+pub mod InTime
+pub mod AppliedInTime
+pub mod CountersRun
+pub mod ReleasedLanes
+pub mod OwnPlans
+pub mod AcceptedPlans
+pub mod AppliedPlans
+pub mod ReadStates
+pub mod Longest
