@@ -108,6 +108,19 @@ found_of : (found : Option (List ℕ)) → is_some found ≡ true → (page : Li
 found_of None e = absurd (let same = e in cc)
 found_of (Some page) e = (page, refl)
 
+-- the bytes are those that are shown of a half of the image
+pub reads_half : (sim : SimModule) (address count : ℕ) → HasHalves sim
+    → (page : List ℕ) × ((passed_on conduct (Fetch A0 address count) sim).0 ≡ Bytes (record { items = map (shown_byte sim page) (range_with_len address count) }))
+unfolding fetched
+reads_half sim address count has =
+    let (page, is) = found_of (finmap.get sim.image (shown_key A0 sim.selection address)) (has_key sim address has) in
+    (page, ap (λ (found : Option (List ℕ)). fetch_given (fetched_from sim address count found).0) is)
+
+-- and a store is made whole
+pub stores_half : (sim : SimModule) (address : ℕ) (bytes : List ℕ) → HasHalves sim → (passed_on conduct (Store A0 address (record { items = bytes })) sim).1 ≡ stored_bytes sim address bytes
+unfolding stored
+stores_half sim address bytes has = ap (λ (there : Bool). (stored_if sim address bytes there).1) (has_key sim address has)
+
 pub answers_fetch : (sim : SimModule) (address count : ℕ) → HasHalves sim → (bytes : List ℕ) × ((passed_on conduct (Fetch A0 address count) sim).0 ≡ Bytes (record { items = bytes }))
 unfolding fetched
 answers_fetch sim address count has =

@@ -2,3 +2,12 @@ pub mod Halves
 pub mod Links
 pub mod Waits
 pub mod ManagedLaw
+pub mod NewModules
+pub mod SteadyModules
+pub mod Procedures
+pub mod OwnTasks
+pub mod ProcedureSteps
+pub mod JobSteps
+pub mod GoalLanes
+pub mod JobTurns
+pub mod BoundLaw

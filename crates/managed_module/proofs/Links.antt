@@ -59,7 +59,7 @@ pub record IsLinkedTo {C E : Type 0} (paged : Paged C E) (on : OnPage C) (sim : 
 abbrev pub Link : {C E : Type 0} → Paged C E → OnPage C → SimModule → Type 0
 Link paged on sim = is_awaited on.selection ≡ true → IsLinkedTo paged on sim
 
-false_not_true : (b : Bool) → b ≡ false → b ≡ true → ⊥
+pub false_not_true : (b : Bool) → b ≡ false → b ≡ true → ⊥
 false_not_true b e f = let same : false ≡ true = sym e ∙ f in cc
 
 missing_needed : (selected : KnownPage) (needed : Option ℕ) (page : ℕ) → missing_page selected needed ≡ Some page → needed ≡ Some page
@@ -87,20 +87,20 @@ module _ {C E : Type 0} (paged : Paged C E) (on : OnPage C) (inner op : Op) (sim
   abbrev sim_after : SimModule
   sim_after = ticked (passed_on conduct op sim).1
 
-  is_read : is_awaited on.selection ≡ true → op ≡ read_selection BankAndPage
+  pub is_read : is_awaited on.selection ≡ true → op ≡ read_selection BankAndPage
   is_read awaited = is ∙ ap (λ (b : Bool). if b then read_selection by else selecting_first by inner (missing_page on.selection needed)) awaited ∙ ap read_selection way
 
-  is_first : (missing : Option ℕ) → is_awaited on.selection ≡ false → missing_page on.selection needed ≡ missing → op ≡ selecting_first BankAndPage inner missing
+  pub is_first : (missing : Option ℕ) → is_awaited on.selection ≡ false → missing_page on.selection needed ≡ missing → op ≡ selecting_first BankAndPage inner missing
   is_first missing closed m =
       is ∙ ap (λ (b : Bool). if b then read_selection by else selecting_first by inner (missing_page on.selection needed)) closed
       ∙ ap (selecting_first by inner) m ∙ ap (λ (by : PageAddressing). selecting_first by inner missing) way
 
-  told_back : (reply : Reply) → reply ≡ reply_of sim op → is_awaited on.selection ≡ true → reply ≡ Bytes (record { items = shown sim })
+  pub told_back : (reply : Reply) → reply ≡ reply_of sim op → is_awaited on.selection ≡ true → reply ≡ Bytes (record { items = shown sim })
   told_back reply gives awaited = gives ∙ ap (reply_of sim) (is_read awaited) ∙ reads_back sim has
 
   -- ---- the link after the operation
 
-  undoubted : (reply : Reply) → (reply ≡ Refused → ⊥) → after_on paged on reply ≡ trusting_if (is_awaited on.selection) paged on reply
+  pub undoubted : (reply : Reply) → (reply ≡ Refused → ⊥) → after_on paged on reply ≡ trusting_if (is_awaited on.selection) paged on reply
   undoubted (Bytes bytes) answered = ap (λ (b : Bool). doubting_if b (trusting_if (is_awaited on.selection) paged on (Bytes bytes))) (and_false (trusting_if (is_awaited on.selection) paged on (Bytes bytes)).doubts)
   undoubted Done answered = ap (λ (b : Bool). doubting_if b (trusting_if (is_awaited on.selection) paged on Done)) (and_false (trusting_if (is_awaited on.selection) paged on Done).doubts)
   undoubted Refused answered = absurd (answered refl)

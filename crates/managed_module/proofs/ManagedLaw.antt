@@ -59,7 +59,7 @@ follows_linked sim wanted (jobs.Provisioning job goal) reply = λ opened. absurd
 follows_linked sim wanted (jobs.Activating job goal) reply = tt
 follows_linked sim wanted (jobs.Watching job) reply = tt
 
-turn_linked : (sim : SimModule) (wanted : Wanted) (job : Job) (op : Op) (reply : Reply) (turn : Turn) → HasHalves sim → IsCmisJob job → LinkedJob job sim → asked job ≡ Some op → Answers op reply → reply ≡ (passed_on conduct op sim).0
+pub turn_linked : (sim : SimModule) (wanted : Wanted) (job : Job) (op : Op) (reply : Reply) (turn : Turn) → HasHalves sim → IsCmisJob job → LinkedJob job sim → asked job ≡ Some op → Answers op reply → reply ≡ (passed_on conduct op sim).0
     → IsTurn wanted job reply turn → IfOn turn (λ job. LinkedJob job (ticked (passed_on conduct op sim).1))
 turn_linked sim wanted job op reply turn has cmis link asks answers gives is =
     let after = ticked (passed_on conduct op sim).1 in
@@ -103,7 +103,7 @@ turn_waits sim wanted job op reply turn has cmis link stays asks answers gives i
 
 -- ---- one event
 
-abbrev LinkedStage : Stage → SimModule → Type 0
+abbrev pub LinkedStage : Stage → SimModule → Type 0
 LinkedStage stages.Absent sim = Unit {0}
 LinkedStage (stages.Left reason) sim = Unit {0}
 LinkedStage (stages.Working job) sim = LinkedJob job sim
@@ -121,7 +121,7 @@ job_paused (jobs.Provisioning job goal) count sim link = link_paused _ job.conve
 job_paused (jobs.Activating job goal) count sim link = link_paused _ job.conversation.conversation count sim link
 job_paused (jobs.Watching job) count sim link = tt
 
-stage_paused : (stage : Stage) (count : ℕ) (sim : SimModule) → LinkedStage stage sim → LinkedStage stage (ticked_times conduct count sim)
+pub stage_paused : (stage : Stage) (count : ℕ) (sim : SimModule) → LinkedStage stage sim → LinkedStage stage (ticked_times conduct count sim)
 stage_paused stages.Absent count sim link = tt
 stage_paused (stages.Left reason) count sim link = tt
 stage_paused (stages.Working job) count sim link = job_paused job count sim link
@@ -142,7 +142,7 @@ paused_step op result more before pauses few (inr reads) = waited_if op result m
 
 module _ (sim : SimModule) (wanted : Wanted) (job : Job) (op : Op) (reply : Reply) (now : ℕ) (has : HasHalves sim) (cmis : IsCmisJob job) (link : LinkedJob job sim) (asks : asked job ≡ Some op) (answers : Answers op reply)
     (gives : reply ≡ (passed_on conduct op sim).0) where
-  turned_linked : (port : Port) (turn : Turn) → IsGoing (outcome_of port turn now) → IfOn turn (λ job. LinkedJob job (ticked (passed_on conduct op sim).1)) → LinkedStage (turned port turn now).stage (ticked (passed_on conduct op sim).1)
+  pub turned_linked : (port : Port) (turn : Turn) → IsGoing (outcome_of port turn now) → IfOn turn (λ job. LinkedJob job (ticked (passed_on conduct op sim).1)) → LinkedStage (turned port turn now).stage (ticked (passed_on conduct op sim).1)
   turned_linked port (turns.On next note) goes linked = linked
   turned_linked port (turns.Paused next time) goes linked = linked
   turned_linked port (turns.Failed fault) goes linked = absurd goes

@@ -1,6 +1,6 @@
 -- At a simulated module each operation of a job brings it nearer to its end, or reads a state.
-use Rattle.std.proofs.Common.{◌≡◌, ◌≤◌, ◌⊎◌, inl, inr, ◌<◌, ◌+◌, ◌++◌, ◌∷◌, ℕ, Bool, true, false, List, [], length, Option, Some, None, zero, suc, refl, sym, ap, subst, ◌∙◌, arith}
-use Rattle.std.specs.Prelude.{◌-◌, if◌then◌else◌, slice_get}
+use Rattle.std.proofs.Common.{◌≡◌, ◌≤◌, ◌⊎◌, inl, inr, ◌+◌, ◌++◌, ◌∷◌, ℕ, Bool, true, false, List, [], Option, Some, None, zero, suc, refl, sym, ap, subst, ◌∙◌, arith}
+use Rattle.std.specs.Prelude.{if◌then◌else◌, slice_get}
 use Rattle.std.specs.FinMap as finmap
 use Rattle.std.specs.List.{AllByRecursion}
 use Rattle.bus_model.specs.declared.device.Dev.TheVariants.{A0, A2}
@@ -154,13 +154,13 @@ module _ (sim : SimModule) (has : HasHalves sim) (job : Patient (OnPage Halves))
   abbrev region : (region : Region) × (reader.in_hand halves ≡ Some region) × (regions.operation region ≡ a.inner)
   region = region_wanted (reader.in_hand halves) a.inner a.wants
 
-  way : chosen (reader.addressing halves) ≡ BankAndPage
+  pub way : chosen (reader.addressing halves) ≡ BankAndPage
   way = addressed_by _ halves.image (paging_in (managed_by (regions.identifier halves.image)) cmis)
 
   inner_a0 : IsOnA0 a.inner
   inner_a0 = subst IsOnA0 region.2 (region_a0 region.0 (all_at IsRegionOnA0 (regions.regions_of halves.request halves.image) halves.settled region.0 (on_a0 halves.request (managed_by (regions.identifier halves.image)) halves.image cmis) region.1))
 
-  answered : reply ≡ Refused → ⊥
+  pub answered : reply ≡ Refused → ⊥
   answered is = not_refused sim op has (wanted_a0 (chosen (reader.addressing halves)) on.selection (reader.page_by (reader.in_hand halves)) a.inner op way a.is inner_a0) (sym gives ∙ is)
 
   lacks_more : (number : ℕ) → reader.after_lack halves ≡ halves → ⊥
@@ -278,7 +278,7 @@ module _ (sim : SimModule) (has : HasHalves sim) (job : PatientProcedure) (op : 
   hand_is : hand list ≡ Some task
   hand_is = ap (λ (fault : Option ProvisionFault). task_at (tasks_of list.work) list.met fault) found.0 ∙ found.1.1
 
-  task_answered : reply ≡ Refused → ⊥
+  pub task_answered : reply ≡ Refused → ⊥
   task_answered is = not_refused sim op has (wanted_a0 BankAndPage tasks_on.selection (progress.page_by (hand list)) t.inner op refl t.is (subst IsOnA0 found.1.2 (task_a0 task))) (sym gives ∙ is)
 
   page_there : (page : ℕ) → progress.page_by (hand list) ≡ Some page → finmap.contains_key sim.image (upper_key A0 0 page) ≡ true
@@ -291,6 +291,20 @@ module _ (sim : SimModule) (has : HasHalves sim) (job : PatientProcedure) (op : 
   vain_reads (inr (inr (same, stays))) =
       subst (λ (op : Op). reads_state op ≡ true) (sym same)
       (task_told list.work list.met list.fault task t.inner reply found.0 found.1.1 found.1.2 (subst (λ (op : Op). Answers op reply) same answers) task_answered stays)
+
+  -- its own operation brought nothing
+  vain_own : InVain paged_tasks left_of_tasks tasks_counted tasks_on t.inner op t.wants t.is reply → (progress.wants list ≡ Do op) × (after_reply list reply ≡ list)
+  vain_own (inl refused) = absurd (task_answered refused)
+  vain_own (inr (inl other)) =
+      absurd (no_other paged_tasks tasks_on t.inner op sim has refl t.is left_of_tasks tasks_counted t.wants reply gives link (λ page needs. inl (page_there page needs)) other)
+  vain_own (inr (inr (same, stays))) = (t.wants ∙ ap (λ (op : Op). Do op) (sym same), stays)
+
+  pub procedure_idles : (left_of paged_tasks left_of_tasks tasks_counted (procedure_after job reply) + 1 ≤ left_of paged_tasks left_of_tasks tasks_counted job) ⊎ ((progress.wants list ≡ Do op) × (after_reply list reply ≡ list))
+  procedure_idles = by (patient_or_vain paged_tasks left_of_tasks tasks_counted job op reply asks answers) where
+    by : (left_of paged_tasks left_of_tasks tasks_counted (procedure_after job reply) + 1 ≤ left_of paged_tasks left_of_tasks tasks_counted job) ⊎ InVain paged_tasks left_of_tasks tasks_counted tasks_on t.inner op t.wants t.is reply
+        → (left_of paged_tasks left_of_tasks tasks_counted (procedure_after job reply) + 1 ≤ left_of paged_tasks left_of_tasks tasks_counted job) ⊎ ((progress.wants list ≡ Do op) × (after_reply list reply ≡ list))
+    by (inl nearer) = inl nearer
+    by (inr vain) = inr (vain_own vain)
 
   pub procedure_waits : (n : ℕ) → (left_of paged_tasks left_of_tasks tasks_counted (procedure_after job reply) + n + 1 ≤ left_of paged_tasks left_of_tasks tasks_counted job + n) ⊎ (reads_state op ≡ true)
   procedure_waits n = by (patient_or_vain paged_tasks left_of_tasks tasks_counted job op reply asks answers) where
@@ -318,7 +332,7 @@ power_reads power (stage.Found byte) None op Done wants answers answered = inl (
 power_reads power (stage.Found byte) None op Refused wants answers answered = absurd (answered refl)
 power_reads power stage.Stored None op reply wants answers answered = let same : read_module_state ≡ op = cc in inr (subst (λ (o : Op). reads_state o ≡ true) same refl)
 
-power_a0 : (power : Power) (at : PowerStage) (fault : Option ProvisionFault) (op : Op) → wants_by fault (operation_at power at) ≡ Do op → IsOnA0 op
+pub power_a0 : (power : Power) (at : PowerStage) (fault : Option ProvisionFault) (op : Op) → wants_by fault (operation_at power at) ≡ Do op → IsOnA0 op
 power_a0 power at (Some fault) op wants = absurd cc
 power_a0 power stage.Met None op wants = absurd cc
 power_a0 power stage.Unread None op wants = let same : read_controls ≡ op = cc in subst IsOnA0 same tt

@@ -1,4 +1,5 @@
 //! What holds of a port and a simulated module together. Each function is a theorem: its contract says it, and its body is empty.
+ghost use Rattle.managed_module.specs.Bounds.{ComesUpWithin, NewIsSteady};
 ghost use Rattle.managed_module.specs.Managed.{ManagedComesUp};
 
 /// A port at work on a simulated CMIS module, in whatever state, over a bus that refuses nothing, with pauses of any length: unless
@@ -6,4 +7,17 @@ ghost use Rattle.managed_module.specs.Managed.{ManagedComesUp};
 /// that is not yet the one that is awaited.
 pub fn a_simulated_module_comes_up()
     ensures { ManagedComesUp }
+{}
+
+/// Such reads are at most nine for each tick of the longest delay, and five: until the module is ready, lanes are deactivated, an apply is done
+/// and lanes are activated, at a tick or more for each operation. So the module is up within a number of operations that its delays
+/// give, unless something fails, it is left alone or wanted to be in low power. It may be in any state before, but for an apply in
+/// progress, and low power that is asked for while it is ready or powers up.
+pub fn waiting_ends_by_the_delays()
+    ensures { ComesUpWithin }
+{}
+
+/// A new module is in such a state.
+pub fn a_new_module_is_steady()
+    ensures { NewIsSteady }
 {}
