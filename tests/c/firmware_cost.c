@@ -302,7 +302,7 @@ static uint8_t answer_statistics(const struct dovecounter_operation *it, uint8_t
     static uint8_t selected;
     if (it->kind == DOVECOUNTER_WAIT) return DOVECOUNTER_WAITED;
     if (it->kind == DOVECOUNTER_STORE && it->offset == 126) selected = it->bytes[1];
-    memset(bytes, 0xFF, 128);
+    for (size_t i = 0; i < 128; i++) bytes[i] = 0xFF;
     if (it->kind == DOVECOUNTER_FETCH && it->offset == 126) bytes[0] = 0, bytes[1] = selected;
     return it->kind == DOVECOUNTER_STORE ? DOVECOUNTER_STORED : DOVECOUNTER_FETCHED;
 }
