@@ -28,8 +28,11 @@ def _equals(value, other):
     return value == other and isinstance(value, bool) == isinstance(other, bool)
 
 
+# Keywords that have schemas for the value or for its parts.
+WITHIN = ("$ref", "allOf", "if", "then", "else", "items", "properties", "patternProperties", "additionalProperties")
+
 # What a keyword asks of a value, if it is of the type that the keyword speaks of.
-_RULES = {
+RULES = {
     "type": (None, _is),
     "const": (None, _equals),
     "enum": (None, lambda value, wanted: any(_equals(value, one) for one in wanted)),
@@ -54,8 +57,8 @@ def complaints(value, schema, whole, place="$"):
         yield f"{place} has no place"
         return
     for word, wanted in schema.items():
-        if word in _RULES:
-            of_type, fits = _RULES[word]
+        if word in RULES:
+            of_type, fits = RULES[word]
             if (of_type is None or _is(value, of_type)) and not fits(value, wanted):
                 yield f"{place}: {word} {json.dumps(wanted)}"
         elif word == "oneOf":
