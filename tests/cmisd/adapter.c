@@ -16,7 +16,7 @@
 #include <sys/stat.h>
 #include <unistd.h>
 
-enum { SIZE = 1 << 18, READY = 3, ACTIVATED = 4, MOST_TICKS = 2000 };
+enum { SIZE = 1 << 18, READY = 3, ACTIVATED = 4, INITIALIZED = 7, MOST_TICKS = 2000 };
 
 /* The numbers come first, in the order that `run` knows. */
 struct adapter {
@@ -24,7 +24,8 @@ struct adapter {
     uint32_t present, refuse, late, blocks, serial, resets, pin, raises, smbus, rejects, identifier;
     uint32_t wanted[8], has_firmware;
     uint32_t lists; /* it has pages 20h to 2Fh; so many milliseconds and one pass until they are frozen */
-    uint32_t unused[11];
+    uint32_t dark;  /* its lanes aren't shown as DPActivated but as DPInitialized */
+    uint32_t unused[10];
     /* what became of it */
     uint32_t transactions, refused, stores, needless, dropped, unread, state, deinit;
     uint32_t paths[8], active[8];
@@ -182,6 +183,14 @@ static bool is_done(struct adapter *it, const struct i2c_rdwr_ioctl_data *data) 
                                     data->msgs[1].len) == DOVECOUNTER_DONE;
 }
 
+static void darken(const struct i2c_msg *states) {
+    for (unsigned i = 0; i < 4; i++) {
+        uint8_t *byte = &states->buf[i];
+        if (*byte % 16 == ACTIVATED) *byte = (uint8_t)(*byte - ACTIVATED + INITIALIZED);
+        if (*byte / 16 == ACTIVATED) *byte = (uint8_t)(*byte + (INITIALIZED - ACTIVATED) * 16);
+    }
+}
+
 static bool transact(struct adapter *it, const struct i2c_rdwr_ioctl_data *data) {
     bool was_up[8];
     if (it->random == 0) it->random = 88172645463325252U + (uint64_t)now() * 1000003;
@@ -196,6 +205,8 @@ static bool transact(struct adapter *it, const struct i2c_rdwr_ioctl_data *data)
         data->msgs[1].buf[0] = (uint8_t)it->identifier;
     if (it->rejects && data->nmsgs == 2 && data->msgs[0].buf[0] == 202 && it->simulated.module.page == 0x11)
         memset(data->msgs[1].buf, 0x22, data->msgs[1].len); /* ConfigRejected */
+    if (it->dark && data->nmsgs == 2 && data->msgs[0].buf[0] == 128 && it->simulated.module.page == 0x11)
+        darken(&data->msgs[1]);
     if (is_answered && data->nmsgs == 2) judge_fetch(it, data->msgs[0].buf[0], data->msgs[1].buf, data->msgs[1].len);
     if (data->nmsgs == 1) dovecounter_module_tick(&it->simulated.module);
     for (unsigned lane = 0; lane < 8; lane++) it->dropped += was_up[lane] && !is_up(it, lane);

@@ -7,7 +7,7 @@
 #include <pthread.h>
 
 enum { NAME_SIZE = 32, TEXT_SIZE = 128, WORDS_SIZE = 512 };
-enum { LANES_PAGE = 0x11, MODULE_FLAGS = 32, LANE_FLAGS = 152 };
+enum { LANES_PAGE = 0x11, MODULE_FLAGS = 32, LANE_FLAGS = 152, OUTPUTS = 2 };
 
 /* A section of the configuration. */
 struct entry {
@@ -27,9 +27,16 @@ struct listing {
     struct dovecounter_half read[DOVECOUNTER_MOST_VDM];   /* of the last one, so many: */
     uint8_t read_count;
     bool is_under_way;
-    bool is_rested;          /* the last operation of the library has ended a look */
-    int64_t due, goes_on_at; /* when to read it again; until when to pause, or 0 */
-    const char *told;        /* how the last one ended */
+    int64_t due;      /* when to read it again */
+    const char *told; /* how the last one ended */
+};
+
+/* Which outputs are disabled, by lane: of the transmitters, and of the receivers. */
+struct outputs {
+    struct dovecounter_changing_lanes reading;
+    uint8_t at, read[OUTPUTS]; /* of the reading under way: which control; what was read */
+    uint8_t disabled[OUTPUTS]; /* as read last */
+    bool is_due, is_under_way, is_known;
 };
 
 struct configuration {
@@ -62,6 +69,9 @@ struct port {
     struct dovecounter_plan plan; /* whose paths are shown, if its control bytes are those that the port works for */
 
     struct listing listing;
+    struct outputs outputs;
+    bool is_rested;     /* the last operation of the library has ended a look, or a job in a failure */
+    int64_t goes_on_at; /* until when the reading of `listing` or `outputs` under way pauses, or 0 */
 
     uint8_t stage; /* as it was told last */
     int64_t since, failed_at;
@@ -90,9 +100,16 @@ void apply(const struct configuration *configuration);
 bool stop_all(int64_t most);
 
 /* listing.c */
+bool is_pausing(struct port *port, const struct dovecounter_operation *operation);
+uint8_t make_aside(struct port *port, const struct dovecounter_operation *operation, uint8_t bytes[128]);
 void forget_listing(struct port *port);
 bool begin_listing(struct port *port, const struct dovecounter_port_next *next);
 void go_on_listing(struct port *port);
+
+/* outputs.c */
+bool begin_outputs(struct port *port, const struct dovecounter_port_next *next);
+void go_on_with_outputs(struct port *port);
+void print_outputs(FILE *out, const struct port *port);
 
 /* told.c */
 void say_reason(char words[WORDS_SIZE], const struct dovecounter_left *left);
@@ -111,6 +128,7 @@ extern const char *const requests[4];
 void print_text(FILE *out, const char *before, const char *name, const char *text);
 void print_seconds(FILE *out, int64_t moment);
 void print_moment(FILE *out, const char *before, const char *name, int64_t moment);
+void print_lane_list(FILE *out, const char *name, uint8_t lanes);
 void begin_port(FILE *out, const struct port *port);
 void print_port(FILE *out, const struct port *port);
 void print_memory(FILE *out, const struct port *port);

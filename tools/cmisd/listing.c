@@ -55,7 +55,10 @@ static void finish(struct port *port) {
 }
 
 /* Of a module that is gone nothing is known. */
-void forget_listing(struct port *port) { memset(&port->listing, 0, sizeof port->listing); }
+void forget_listing(struct port *port) {
+    memset(&port->listing, 0, sizeof port->listing);
+    memset(&port->outputs, 0, sizeof port->outputs);
+}
 
 /* Whether a reading may begin now: the library does nothing at the module before another moment, and no conversation is under way. */
 static bool may_begin(const struct port *port, const struct dovecounter_port_next *next) {
@@ -63,7 +66,7 @@ static bool may_begin(const struct port *port, const struct dovecounter_port_nex
     bool is_watched = port->core.stage == DOVECOUNTER_PORT_WATCHING && next->kind == DOVECOUNTER_PORT_UNTIL;
     bool is_left = port->core.stage == DOVECOUNTER_PORT_LEFT && next->kind == DOVECOUNTER_PORT_IDLE;
     bool is_awake = reason == DOVECOUNTER_LEFT_NO_PLAN || reason == DOVECOUNTER_LEFT_NEEDS_PERMISSION;
-    return port->entry.vdm > 0 && port->is_open && ((is_watched && port->listing.is_rested) || (is_left && is_awake));
+    return port->entry.vdm > 0 && port->is_open && ((is_watched && port->is_rested) || (is_left && is_awake));
 }
 
 /* Begins a reading if one is due; else sees that the port is due by then. */
@@ -76,13 +79,28 @@ bool begin_listing(struct port *port, const struct dovecounter_port_next *next) 
     }
     dovecounter_vdm_begin(PAUSE, &it->reading);
     it->is_under_way = true;
-    it->goes_on_at = 0;
+    port->goes_on_at = 0;
     port->due = now();
     return true;
 }
 
-static uint8_t make_one(struct port *port, const struct dovecounter_operation *operation, uint8_t bytes[128]) {
+/* Whether it asks for a pause that isn't over, until which nothing is due. */
+bool is_pausing(struct port *port, const struct dovecounter_operation *operation) {
+    bool waits = operation->kind == DOVECOUNTER_WAIT;
+    if (waits && port->goes_on_at == 0) port->goes_on_at = now() + operation->milliseconds;
+    if (waits && port->goes_on_at > now()) {
+        port->due = port->goes_on_at;
+        return true;
+    }
+    port->goes_on_at = 0;
+    port->due = now();
+    return false;
+}
+
+/* Makes an operation that isn't the port's own; its outcome. */
+uint8_t make_aside(struct port *port, const struct dovecounter_operation *operation, uint8_t bytes[128]) {
     bool answered;
+    if (operation->kind == DOVECOUNTER_WAIT) return DOVECOUNTER_WAITED;
     make(port, operation, bytes, &answered);
     port->page = -1; /* another one may be selected */
     if (!answered) return DOVECOUNTER_REFUSED;
@@ -93,15 +111,9 @@ static uint8_t make_one(struct port *port, const struct dovecounter_operation *o
 void go_on_listing(struct port *port) {
     struct listing *it = &port->listing;
     struct dovecounter_operation operation;
-    uint8_t bytes[128], outcome = DOVECOUNTER_WAITED;
+    uint8_t bytes[128];
     if (dovecounter_vdm_next(&it->reading, it->halves, &operation) != DOVECOUNTER_DONE) return finish(port);
-    if (operation.kind == DOVECOUNTER_WAIT && it->goes_on_at == 0) it->goes_on_at = now() + operation.milliseconds;
-    if (operation.kind == DOVECOUNTER_WAIT && it->goes_on_at > now()) {
-        port->due = it->goes_on_at;
-        return;
-    }
-    it->goes_on_at = 0;
-    if (operation.kind != DOVECOUNTER_WAIT) outcome = make_one(port, &operation, bytes);
+    if (is_pausing(port, &operation)) return;
+    uint8_t outcome = make_aside(port, &operation, bytes);
     dovecounter_vdm_reply(&it->reading, it->halves, outcome, bytes, operation.count);
-    port->due = now();
 }

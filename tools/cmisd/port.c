@@ -193,6 +193,13 @@ static void remember(struct port *port, const struct dovecounter_port_next *next
     if (next->whole) port->read_at = now();
 }
 
+/* A module with lanes was read, or its lanes did not come up. */
+static bool may_have_other_outputs(const struct port *port, const struct dovecounter_port_outcome *led_to) {
+    bool is_read = led_to->kind == DOVECOUNTER_PORT_LEAVES || led_to->note == DOVECOUNTER_PORT_IDENTIFIED;
+    bool is_down = led_to->kind == DOVECOUNTER_PORT_FAILED && led_to->failure == DOVECOUNTER_PORT_NOT_ACTIVATED;
+    return is_down || (is_read && half_of(port, 1, LANES_PAGE) != NULL);
+}
+
 static void carry_out(struct port *port, const struct dovecounter_port_next *next) {
     uint8_t bytes[128];
     struct dovecounter_port_outcome led_to;
@@ -203,7 +210,8 @@ static void carry_out(struct port *port, const struct dovecounter_port_next *nex
     if (port->is_retired) return;
     remember(port, next, outcome, bytes);
     must(dovecounter_port_take(&port->core, outcome, bytes, count, &port->entry.wanted, (uint64_t)now(), &led_to));
-    port->listing.is_rested = led_to.note >= DOVECOUNTER_PORT_CAME_UP;
+    port->is_rested = led_to.note >= DOVECOUNTER_PORT_CAME_UP || led_to.kind == DOVECOUNTER_PORT_FAILED;
+    port->outputs.is_due = port->outputs.is_due || may_have_other_outputs(port, &led_to);
     tell_flags(port);
     hear(port, &led_to);
     if (led_to.kind == DOVECOUNTER_PORT_FAILED) forget(port);
@@ -218,16 +226,18 @@ static void step(struct port *port) {
     bool still = is_still(port), has_pin = port->entry.presence[0] != 0;
     bool lists = port->listing.is_under_way, ends = port->is_retired || is_stopping;
     bool looks = (has_pin || !still) && port->looks_at <= now();
+    if (still) port->outputs.is_under_way = false;
     if (lists && (ends || !looks)) return go_on_listing(port);
     if (still && !lists) shut(port);
     if (!still && !port->is_open) return reopen(port);
-    if (looks && (has_pin || lists)) return look(port);
+    if (port->outputs.is_under_way && !looks) return go_on_with_outputs(port);
+    if (looks && (has_pin || lists || port->outputs.is_under_way)) return look(port);
     must(dovecounter_port_next(&port->core, (uint64_t)now(), &next));
     if (next.kind == DOVECOUNTER_PORT_DO) return carry_out(port, &next);
     if (!still && port->looks_at <= now()) return look(port);
     port->due = has_pin || !still ? port->looks_at : INT64_MAX;
     if (next.kind == DOVECOUNTER_PORT_UNTIL && next.moment < (uint64_t)port->due) port->due = (int64_t)next.moment;
-    if (!still) begin_listing(port, &next);
+    if (!still && !begin_outputs(port, &next)) begin_listing(port, &next);
 }
 
 /* ---- threads */

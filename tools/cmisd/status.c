@@ -62,6 +62,16 @@ void print_moment(FILE *out, const char *before, const char *name, int64_t momen
     print_seconds(out, moment);
 }
 
+/* After other members. */
+void print_lane_list(FILE *out, const char *name, uint8_t lanes) {
+    const char *before = "";
+    print_name(out, ", ", name);
+    fputc('[', out);
+    for (unsigned lane = 0; lane < 8; lane++)
+        if (lanes >> lane & 1) fprintf(out, "%s%u", before, lane + 1), before = ", ";
+    fputc(']', out);
+}
+
 /* ---- what is known of a module */
 
 const struct dovecounter_half *half_of(const struct port *port, uint8_t upper, uint8_t page) {
@@ -238,13 +248,10 @@ static void print_wait(FILE *out, const struct port *port) {
 const char *const requests[] = {"wake", "sleep", "provision", "deactivate"};
 
 static void print_request(FILE *out, const struct port *port) {
-    const char *before = "[";
     if (port->core.request == DOVECOUNTER_REQUEST_WAKE) return;
     print_text(out, ", \"asked\": {", "command", requests[port->core.request]);
-    print_name(out, ", ", "lanes");
-    for (unsigned lane = 0; lane < 8; lane++)
-        if (port->core.request_lanes >> lane & 1) fprintf(out, "%s%u", before, lane + 1), before = ", ";
-    fputs(before[0] == '[' ? "[]}" : "]}", out);
+    print_lane_list(out, "lanes", port->core.request_lanes);
+    fputc('}', out);
 }
 
 /* All members of the overview, without the end. */
@@ -267,6 +274,7 @@ void begin_port(FILE *out, const struct port *port) {
 static void print_members(FILE *out, const struct port *port) {
     begin_port(out, port);
     if (print_identity(out, port)) print_lanes(out, port);
+    print_outputs(out, port);
     print_plan(out, port);
     print_flags(out, port);
     if (port->failure[0] != 0) print_text(out, ", \"failed\": {", "words", port->failure);
