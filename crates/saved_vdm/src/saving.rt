@@ -108,6 +108,7 @@ pub(crate) fn number_of_release(release: Release) -> u8
 
 /// How many there are, and themselves with zeros after them.
 pub(crate) fn numbers_of_bytes(bytes: &ArrayVec<u8, MAX_LISTED>) -> (u8, [u8; MAX_LISTED])
+    ensures listed { result.1 ≡ ends.listed bytes.now.items }
     ensures same { take result.0 result.1 ≡ bytes.now.items }
     ensures count { result.0 ≡ length bytes.now.items }
     ensures few { result.0 ≤ 16 }
@@ -118,7 +119,8 @@ pub(crate) fn numbers_of_bytes(bytes: &ArrayVec<u8, MAX_LISTED>) -> (u8, [u8; MA
 }
 
 fn first_bytes(bytes: &ArrayVec<u8, MAX_LISTED>) -> [u8; MAX_LISTED]
-    ensures { take (length bytes.now.items) result ≡ bytes.now.items }
+    ensures listed { result ≡ ends.listed bytes.now.items }
+    ensures same { take (length bytes.now.items) result ≡ bytes.now.items }
 {
     let mut all = [0; MAX_LISTED];
     all[..bytes.len()].copy_from_slice(bytes);
