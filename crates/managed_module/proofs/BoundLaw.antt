@@ -58,7 +58,7 @@ pub record Keeps (most : ℕ) (port : Port) (sim : SimModule) (less : ℕ) : Typ
 
 -- ---- one operation
 
-same_request : (request : Request) (note : Note) → request ≡ Wake → request_after request note ≡ Wake
+pub same_request : (request : Request) (note : Note) → request ≡ Wake → request_after request note ≡ Wake
 same_request request notes.CameUp is = ap (λ (r : Request). request_after r notes.CameUp) is
 same_request request notes.Held is = is
 same_request request notes.Quiet is = is

@@ -108,7 +108,7 @@ is_sleep (Provision goal) = false
 abbrev IsOf : Goal → Decision → Type 0
 IsOf goal decision = (is_sleep decision ≡ false) × ((other : Goal) → named decision ≡ Some other → goal ≡ other)
 
-abbrev chosen_by : Bool → Bool → Bool → Bool → Bool → Goal → Decision
+abbrev pub chosen_by : Bool → Bool → Bool → Bool → Bool → Goal → Decision
 chosen_by no_plan all up may_activate may_provision goal =
     if no_plan then Leave NoPlan
     else if all then (if up then Hold goal else (if may_activate then Activate goal else Leave NeedsPermission))

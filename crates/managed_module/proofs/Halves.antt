@@ -108,13 +108,18 @@ found_of : (found : Option (List ℕ)) → is_some found ≡ true → (page : Li
 found_of None e = absurd (let same = e in cc)
 found_of (Some page) e = (page, refl)
 
--- the bytes are those that are shown of a half of the image
+-- the bytes are those that are shown of the half of the image that is mapped
+pub reads_mapped : (sim : SimModule) (address count : ℕ) → HasHalves sim
+    → (page : List ℕ) × (finmap.get sim.image (shown_key A0 sim.selection address) ≡ Some page)
+    × ((passed_on conduct (Fetch A0 address count) sim).0 ≡ Bytes (record { items = map (shown_byte sim page) (range_with_len address count) }))
+unfolding fetched
+reads_mapped sim address count has =
+    let (page, is) = found_of (finmap.get sim.image (shown_key A0 sim.selection address)) (has_key sim address has) in
+    (page, is, ap (λ (found : Option (List ℕ)). fetch_given (fetched_from sim address count found).0) is)
+
 pub reads_half : (sim : SimModule) (address count : ℕ) → HasHalves sim
     → (page : List ℕ) × ((passed_on conduct (Fetch A0 address count) sim).0 ≡ Bytes (record { items = map (shown_byte sim page) (range_with_len address count) }))
-unfolding fetched
-reads_half sim address count has =
-    let (page, is) = found_of (finmap.get sim.image (shown_key A0 sim.selection address)) (has_key sim address has) in
-    (page, ap (λ (found : Option (List ℕ)). fetch_given (fetched_from sim address count found).0) is)
+reads_half sim address count has = let (page, there, reads) = reads_mapped sim address count has in (page, reads)
 
 -- and a store is made whole
 pub stores_half : (sim : SimModule) (address : ℕ) (bytes : List ℕ) → HasHalves sim → (passed_on conduct (Store A0 address (record { items = bytes })) sim).1 ≡ stored_bytes sim address bytes

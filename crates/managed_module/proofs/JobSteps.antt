@@ -163,7 +163,7 @@ region_fetches (Lower dev) = tt
 region_fetches FirstPage = tt
 region_fetches (Page page) = tt
 
-steady_harmless : (most : ℕ) (sim : SimModule) (op : Op) → IsHarmless op → IsSteady most sim → IsSteady most (module_after sim op)
+pub steady_harmless : (most : ℕ) (sim : SimModule) (op : Op) → IsHarmless op → IsSteady most sim → IsSteady most (module_after sim op)
 steady_harmless most sim op harmless steady =
     let mid = (passed_on conduct op sim).1 in
     steady_tick most mid (steady_left most sim mid (leaves_all sim mid (harmless_leaves op sim harmless)) (counters_passed most op sim steady.counters) steady)

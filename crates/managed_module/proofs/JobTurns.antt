@@ -71,7 +71,7 @@ use Rattle.managed_module.proofs.Waits.{LinkedJob, power_a0, procedure_idles, re
 abbrev Nearer : Job → Op → Reply → Type 0
 Nearer job op reply = (left (later job reply) + 1 ≤ left job) ⊎ (IsIdle job op reply × (left (later job reply) ≤ left job + 2))
 
-abbrev change_of : Power → PowerStage → Option ProvisionFault → PowerChange
+abbrev pub change_of : Power → PowerStage → Option ProvisionFault → PowerChange
 change_of power at fault = record { power = power; stage = at; fault = fault }
 
 stored_nearer : (power : Power) (judged : ReplyJudgement) → (left_of_power (moved_to (change_of power stage.Stored None) (stage_judged judged)) + 1 ≤ 1) ⊎ (moved_to (change_of power stage.Stored None) (stage_judged judged) ≡ change_of power stage.Stored None)
@@ -80,7 +80,7 @@ stored_nearer power NotYet = inr refl
 stored_nearer power (Fails fault) = inl (omega arith)
 
 -- a change of power comes nearer, or the state that was read isn't yet the one that is awaited
-change_nearer : (power : Power) (at : PowerStage) (fault : Option ProvisionFault) (op : Op) (reply : Reply) → wants_by fault (operation_at power at) ≡ Do op → Answers op reply → (reply ≡ Refused → ⊥)
+pub change_nearer : (power : Power) (at : PowerStage) (fault : Option ProvisionFault) (op : Op) (reply : Reply) → wants_by fault (operation_at power at) ≡ Do op → Answers op reply → (reply ≡ Refused → ⊥)
     → (left_of_power (change_after (change_of power at fault) reply) + 1 ≤ left_of_power (change_of power at fault)) ⊎ ((at ≡ stage.Stored) × (change_after (change_of power at fault) reply ≡ change_of power at fault))
 change_nearer p at (Some fault) op reply wants answers answered = absurd cc
 change_nearer p stage.Met None op reply wants answers answered = absurd cc
@@ -242,13 +242,13 @@ decided_leads most done budget after woken patience (Activate goal) judged less 
 decided_leads most done budget after woken patience (Provision goal) judged less steady few fewer =
     (less, (refl, judged.whole goal refl, steady.counters, (λ page e. absurd cc), (steady, reads_few most woken less few)), fewer)
 
-woken_few : (most : ℕ) (at : PowerStage) (sim : SimModule) (less : ℕ) → Wakes most at sim less → reading_waits most true ≤ less
+pub woken_few : (most : ℕ) (at : PowerStage) (sim : SimModule) (less : ℕ) → Wakes most at sim less → reading_waits most true ≤ less
 woken_few most stage.Unread sim less w = omega (arith, w)
 woken_few most (stage.Found byte) sim less w = omega (arith, w)
 woken_few most stage.Stored sim less (awake, (ticks, near, few)) = omega (arith, few)
 woken_few most stage.Met sim less w = w
 
-is_awake : (wanted : Wanted) (decision : Decision) (image : Memory) (asleep : Bool) → asleep ≡ false → IsDecisionFor asleep wanted image decision → IsDecisionAwake wanted image decision
+pub is_awake : (wanted : Wanted) (decision : Decision) (image : Memory) (asleep : Bool) → asleep ≡ false → IsDecisionFor asleep wanted image decision → IsDecisionAwake wanted image decision
 is_awake wanted decision image true e is = absurd cc
 is_awake wanted decision image false e is = is
 
@@ -256,7 +256,7 @@ provisioned_leads : (most done budget : ℕ) (after : SimModule) (goal : Goal) (
 provisioned_leads most done budget after goal patience None leads = leads refl
 provisioned_leads most done budget after goal patience (Some because) leads = tt
 
-ends_or_goes : {E : Type 0} (next : Next (Spent E)) (pause : Option ℕ) (job : Job) (Ended : Option E → Turn → Type 0) (turn : Turn) (Q : Turn → Type 0) → GoesTo next pause job Ended turn
+pub ends_or_goes : {E : Type 0} (next : Next (Spent E)) (pause : Option ℕ) (job : Job) (Ended : Option E → Turn → Type 0) (turn : Turn) (Q : Turn → Type 0) → GoesTo next pause job Ended turn
     → ((op : Op) → next ≡ Do op → Q (going pause job)) → ((time : ℕ) → next ≡ Wait time → ⊥) → ((spent : Spent E) → next ≡ End spent → Ended spent.end turn → Q turn) → Q turn
 ends_or_goes (Do op) pause job Ended turn Q is does waits ends = subst Q (sym is) (does op refl)
 ends_or_goes (Wait time) pause job Ended turn Q is does waits ends = absurd (waits time refl)

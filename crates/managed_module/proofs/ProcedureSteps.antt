@@ -80,7 +80,7 @@ kept_passed : (P : SimModule → Type 0) (op : Op) (sim : SimModule) → IsKeptB
 kept_passed P (Fetch dev offset count) sim keeps p = keeps sim p
 kept_passed P (Store dev offset bytes) sim keeps p = keeps.0 sim p
 
-known_passed : (selected : KnownPage) (op : Op) (sim : SimModule) → ¬ (CoversSelection op) → KnownBy selected sim → KnownBy selected (module_after sim op)
+pub known_passed : (selected : KnownPage) (op : Op) (sim : SimModule) → ¬ (CoversSelection op) → KnownBy selected sim → KnownBy selected (module_after sim op)
 known_passed selected op sim apart known page e = (shows_kept page).tick (passed_on conduct op sim).1 (kept_passed (Shows page) op sim (shows_by page op apart) (known page e))
 
 task_apart : (task : Task) → ¬ (CoversSelection (operation task))
@@ -115,13 +115,13 @@ read_known : (bank number page : ℕ) (zeroth : Bool) → (bank == 0) ≡ zeroth
 read_known bank number page true e is = (eqb-true bank 0 e, let same : Known number ≡ Known page = is in cc)
 read_known bank number page false e is = absurd cc
 
-known_read : (sim : SimModule) → KnownBy (selection_read BankAndPage (shown sim)) sim
+pub known_read : (sim : SimModule) → KnownBy (selection_read BankAndPage (shown sim)) sim
 known_read sim page e =
     let both = read_known sim.selection.bank sim.selection.page page (sim.selection.bank == 0) refl e in
     record { bank = both.0; number = both.1 }
 
 -- a page that is needed and not missing is known
-known_page : (selected : KnownPage) (needed : Option ℕ) (page : ℕ) → missing_page selected needed ≡ None → needed ≡ Some page → selected ≡ Known page
+pub known_page : (selected : KnownPage) (needed : Option ℕ) (page : ℕ) → missing_page selected needed ≡ None → needed ≡ Some page → selected ≡ Known page
 known_page selected None page none e = absurd (let wrong : None ≡ Some page = e in cc)
 known_page selected (Some other) page none e = let same : other ≡ page = cc in by selected refl ∙ ap (λ (n : ℕ). Known n) same where
   is_there : (known : Bool) → (if known then None else Some other) ≡ None → known ≡ true

@@ -1,2 +1,4 @@
 pub mod Managed
 pub mod Bounds
+pub mod Succeeds
+pub mod ModuleGoals

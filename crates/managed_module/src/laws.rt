@@ -1,6 +1,8 @@
 //! What holds of a port and a simulated module together. Each function is a theorem: its contract says it, and its body is empty.
 ghost use Rattle.managed_module.specs.Bounds.{ComesUpWithin, NewIsSteady};
 ghost use Rattle.managed_module.specs.Managed.{ManagedComesUp};
+ghost use Rattle.managed_module.specs.ModuleGoals.{GoalsAreOwn};
+ghost use Rattle.managed_module.specs.Succeeds.{ComesUpSuited};
 
 /// A port at work on a simulated CMIS module, in whatever state, over a bus that refuses nothing, with pauses of any length: unless
 /// something fails or the module is left alone, it is up once more operations were made than 61, and 3 for each read of a state
@@ -20,4 +22,17 @@ pub fn waiting_ends_by_the_delays()
 /// A new module is in such a state.
 pub fn a_new_module_is_steady()
     ensures { NewIsSteady }
+{}
+
+/// More is shown where what is wanted suits the module, and its states don't last for longer than the port waits: no reading of it fails, it
+/// isn't woken up in vain, and it isn't left alone. So it has come up within that number of operations, unless provisioning or activation
+/// fails, whatever it reads as.
+pub fn a_suited_module_comes_up()
+    ensures { ComesUpSuited }
+{}
+
+/// Until then each goal that a reading leads to is a plan of what the module advertises, whose kept paths are active with their control bytes,
+/// if what is active at first is a plan.
+pub fn a_goal_is_of_the_module()
+    ensures { GoalsAreOwn }
 {}
