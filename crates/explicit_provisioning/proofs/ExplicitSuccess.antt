@@ -7,6 +7,8 @@ use Rattle.conversations.specs.declared.event.Event.TheVariants.{Made, Waited, L
 use Rattle.conversations.specs.declared.pausing.Patience.{Patience}
 use Rattle.conversations.specs.declared.pausing.Timed.{Timed}
 use Rattle.conversations.specs.declared.pausing.Timed.TheVariants.{InTime, Overdue}
+use Rattle.conversations.specs.declared.watching.Watched.{Watched}
+use Rattle.conversations.specs.declared.watching.Watched.TheVariants as watched
 use Rattle.conversations.specs.declared.within.Spent.{Spent}
 use Rattle.conversations.specs.Events.{Events, steps_of}
 use Rattle.conversations.specs.Budgets.{HasEnded}
@@ -26,12 +28,13 @@ use Rattle.explicit_provisioning.specs.declared.fault.ExplicitFault.TheVariants.
 use Rattle.std.specs.Option.{option_map}
 use Rattle.explicit_provisioning.specs.declared.following.Sequel.TheVariants.{Early, Late}
 use Rattle.explicit_provisioning.specs.Comparing.{ComparingEnds, comparing_needs}
-use Rattle.explicit_provisioning.specs.ExplicitProcedures.{Ends, EndsPatiently, ExplicitEnd, GoesOn, OwnEnds, RestEnds, TasksEnd, answer_by, answer_in_time, fault_of, needs, rest_needs, tasks_need, tasks_over}
+use Rattle.explicit_provisioning.specs.ExplicitProcedures.{Ends, EndsPatiently, EndsWatched, ExplicitEnd, GoesOn, OwnEnds, RestEnds, TasksEnd, answer_by, answer_in_time, answer_watched, fault_of, needs, rest_needs, tasks_need, tasks_over}
 use Rattle.explicit_provisioning.specs.Following.{HasPassed, first_part, second_part}
 use Rattle.explicit_provisioning.specs.LastReads.{ReadsExplicit, bytes_or, is_change, read_settings}
 use Rattle.explicit_provisioning.specs.Staging.{StagingEnds, is_staged, staging_needs}
 use Rattle.explicit_provisioning.proofs.FollowingLaws.{parts_join}
-use Rattle.explicit_provisioning.proofs.LastReadLaws.{AreOn, last_given, on_both, same_read}
+use Rattle.explicit_provisioning.proofs.LastReadLaws.{AreOn, EachOn, each_on, last_given, on_both, same_read}
+use Rattle.explicit_provisioning.proofs.LookedReads.{still_read}
 use Rattle.explicit_provisioning.proofs.SettingsReads.{IsApart, comparing_ends, comparing_on_page, comparing_passes, staging_on_page}
 use Rattle.explicit_provisioning.proofs.TaskReads.{ReadActive, active_on_page, settings_on_page, tasks_end, tasks_on_page}
 
@@ -117,6 +120,10 @@ module _ (change : SettingsChange) (control : List ℕ) (lanes : Lanes) (eight :
         read.right,
       )
 
+-- each time that one of the two was read, its page was confirmed
+abbrev AreOnPages : History → Type 0
+AreOnPages made = EachOn status_page read_active made × EachOn status_page read_settings made
+
 module _ (change : SettingsChange) (control : List ℕ) (lanes : Lanes) (eight : length control ≡ 8) (events : Events) where
   -- it passes only without a fault
   not_early : {E : Type 0} (fault : Option E) → is_none fault ≡ false → fault ≡ None → ⊥
@@ -141,11 +148,26 @@ module _ (change : SettingsChange) (control : List ℕ) (lanes : Lanes) (eight :
         right = found.2;
       }
 
+  pub explicit_on : (end : ExplicitEnd) → fault_of end ≡ None → Ends change (Provisioning control lanes) events end → AreOnPages (steps_of events)
+  explicit_on (Early fault) none (own, adds, ends) = absurd (not_early fault ends.0 none)
+  explicit_on (Late (Early fault)) none (own, adds, ends) = absurd (not_early fault ends.1.0 (some_is Provision fault none))
+  explicit_on (Late (Late (Some fault))) none (own, adds, ends) = absurd cc
+  explicit_on (Late (Late None)) none (own, adds, (staged, (done, compared))) =
+      let work = Provisioning control lanes in (
+        each_on status_page read_active refl (λ number. refl) (needs change work) own events adds (active_on change control lanes eight own staged done compared),
+        each_on status_page read_settings refl (λ number. refl) (needs change work) own events adds (settings_on change control lanes eight own staged done compared),
+      )
+
 module _ (change : SettingsChange) (control : List ℕ) (lanes : Lanes) (eight : length control ≡ 8) where
   pub paused_read : (patience : Patience) (events : Events) (end : ExplicitEnd) → fault_of end ≡ None
       → EndsPausing patience (GoesOn change (Provisioning control lanes)) (Ends change (Provisioning control lanes)) events (InTime end) → ReadsExplicit control change (steps_of events)
   paused_read patience events end none (due, idle, (own, adds, ends)) =
       subst (ReadsExplicit control change) (steps_paused patience own events None due idle adds) (explicit_read change control lanes eight own end none ends)
+
+  paused_on : (patience : Patience) (events : Events) (end : ExplicitEnd) → fault_of end ≡ None
+      → EndsPausing patience (GoesOn change (Provisioning control lanes)) (Ends change (Provisioning control lanes)) events (InTime end) → AreOnPages (steps_of events)
+  paused_on patience events end none (due, idle, (own, adds, ends)) =
+      subst AreOnPages (steps_paused patience own events None due idle adds) (explicit_on change control lanes eight own end none ends)
 
   ok_none : {F : Type 0} (steps number : ℕ) (fault : Option ExplicitFault) → answer_by {F = F} steps fault ≡ Ok number → fault ≡ None
   ok_none steps number None answer = refl
@@ -161,3 +183,24 @@ module _ (change : SettingsChange) (control : List ℕ) (lanes : Lanes) (eight :
   pub answered_read : (patience : Patience) (events : Events) (spent : Spent (Timed ExplicitEnd)) (steps : ℕ) → EndsPatiently patience change (Provisioning control lanes) events spent
       → answer_in_time {F = Unit {0}} spent.steps spent.end ≡ Ok steps → ReadsExplicit control change (steps_of events)
   answered_read patience events spent steps ends answer = answered_by patience events spent.steps steps spent.end answer ends.ended
+
+  on_by : (patience : Patience) (events : Events) (steps number : ℕ) (end : Option (Timed ExplicitEnd)) → answer_in_time {F = Unit {0}} steps end ≡ Ok number
+      → HasEnded most_steps (GoesOnPausing patience (GoesOn change (Provisioning control lanes)))
+      (EndsPausing patience (GoesOn change (Provisioning control lanes)) (Ends change (Provisioning control lanes))) events end → AreOnPages (steps_of events)
+  on_by patience events steps number None answer ended = absurd cc
+  on_by patience events steps number (Some Overdue) answer ended = absurd cc
+  on_by patience events steps number (Some (InTime end)) answer ended = paused_on patience events end (ok_none {F = Unit {0}} steps number (fault_of end) answer) ended
+
+  -- looks at the module's state change nothing of that
+  pub watched_read : (patience : Patience) (events : Events) (end : Watched (Spent (Timed ExplicitEnd))) (steps : ℕ) → EndsWatched patience change (Provisioning control lanes) events end
+      → answer_watched {F = Unit {0}} (Some end) ≡ Ok steps → ReadsExplicit control change (steps_of events)
+  watched_read patience events (watched.InOrder spent) steps (look, (own, adds, ends)) answer =
+      let reads = answered_read patience own spent steps ends answer in
+      let on = on_by patience own spent.steps steps spent.end answer ends.ended in
+      record {
+        controls = still_read status_page read_active refl control own events look None adds on.0 reads.controls;
+        active = reads.active;
+        settings = still_read status_page read_settings refl reads.active own events look None adds on.1 reads.settings;
+        right = reads.right;
+      }
+  watched_read patience events (watched.Left code) steps ends answer = absurd cc

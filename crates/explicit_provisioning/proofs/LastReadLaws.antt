@@ -19,6 +19,11 @@ abbrev pub last_given : Op → History → Option (List ℕ)
 last_given op [] = None
 last_given op (step ∷ before) = if same_op op step.op then bytes_or (last_given op before) step.reply else (if is_change step.op then None else last_given op before)
 
+-- each time that the operation was made, the page was confirmed
+abbrev pub EachOn : ℕ → Op → History → Type 0
+EachOn page op [] = Unit {0}
+EachOn page op (step ∷ before) = (same_op op step.op ≡ true → is_page_confirmed page before ≡ true) × EachOn page op before
+
 -- each time that the operation is made, that page is needed
 abbrev pub AreOn : ℕ → Op → (Events → Option ℕ) → Events → Type 0
 AreOn page op needs [] = Unit {0}
@@ -67,6 +72,18 @@ module _ (page : ℕ) (op : Op) (no_read_back : same_op op read_selection ≡ fa
     same_read own (Waited time ∷ before) (earlier, is, adds) are = same_read earlier before adds (subst (AreOn page op needs) is are) ∙ sym (ap (λ (e : Events). last_given op (steps_of e)) is)
     same_read own (Lacked number ∷ before) adds are = absurd adds
     same_read own (Asked number ∷ before) (earlier, is, adds) are = same_read earlier before adds (subst (AreOn page op needs) is are) ∙ sym (ap (λ (e : Events). last_given op (steps_of e)) is)
+
+    pub each_on : (own events : Events) → AddsSelections true false BankAndPage needs own events → AreOn page op needs own → EachOn page op (steps_of events)
+    each_on own [] adds are = tt
+    each_on own (Made step ∷ before) (inl (selects, lacks, answers, adds)) are =
+        (λ same. let (other, still) = selects_other (needs own) step.op (trusted true (steps_of before)) selects in absurd cc, each_on own before adds are)
+    each_on own (Made step ∷ before) (inr (inl (earlier, is, closed, on, adds))) are =
+        let now = subst (AreOn page op needs) is are in
+        (λ same. confirmed (needs earlier) (steps_of before) (now.0 same) on, each_on earlier before adds now.1)
+    each_on own (Made step ∷ before) (inr (inr (number, earlier, is, may, needed, shows, answers, adds))) are = absurd cc
+    each_on own (Waited time ∷ before) (earlier, is, adds) are = each_on earlier before adds (subst (AreOn page op needs) is are)
+    each_on own (Lacked number ∷ before) adds are = absurd adds
+    each_on own (Asked number ∷ before) (earlier, is, adds) are = each_on earlier before adds (subst (AreOn page op needs) is are)
 
 module _ (page : ℕ) (op : Op) (over : Events → Bool) (first second : Events → Option ℕ) where
   -- in two conversations, where it is so in each

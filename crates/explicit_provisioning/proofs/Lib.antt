@@ -6,3 +6,4 @@ pub mod SettingsReads
 pub mod ExplicitSuccess
 pub mod SettingsSound
 pub mod SharedLanes
+pub mod LookedReads

@@ -1,9 +1,10 @@
 //! What holds of provisioning with settings, whatever a module answers. Each function is a theorem: its contract says it, and its body is
 //! empty.
-ghost use Rattle.std.specs.Prelude.{◌≡◌, ◌+◌, ◌++◌, ℕ, Bool, List, None, Option, Ok, length};
+ghost use Rattle.std.specs.Prelude.{◌≡◌, ◌+◌, ◌++◌, ℕ, Bool, List, None, Option, Ok, Some, length};
 ghost use Rattle.conversations.specs.declared.pausing.Patience.{Patience};
 ghost use Rattle.conversations.specs.declared.pausing.Timed.{Timed};
 ghost use Rattle.conversations.specs.declared.pausing.Timed.TheVariants.{InTime};
+ghost use Rattle.conversations.specs.declared.watching.Watched.{Watched};
 ghost use Rattle.conversations.specs.declared.within.Spent.{Spent};
 ghost use Rattle.conversations.specs.Events.{Events, steps_of};
 ghost use Rattle.conversations.specs.Pauses.{EndsPausing};
@@ -17,7 +18,7 @@ ghost use Rattle.lane_controls.specs.declared.settings_change.SettingsChange.{Se
 ghost use Rattle.explicit_provisioning.specs.declared.fault.ExplicitFault.{ExplicitFault};
 ghost use Rattle.explicit_provisioning.specs.Comparing.{ComparingEnds};
 ghost use Rattle.explicit_provisioning.specs.ExplicitBytes.{with_explicit};
-ghost use Rattle.explicit_provisioning.specs.ExplicitProcedures.{Ends, EndsPatiently, ExplicitEnd, GoesOn, answer_in_time, fault_of};
+ghost use Rattle.explicit_provisioning.specs.ExplicitProcedures.{Ends, EndsPatiently, EndsWatched, ExplicitEnd, GoesOn, answer_in_time, answer_watched, fault_of};
 ghost use Rattle.explicit_provisioning.specs.Following.{first_part, second_part};
 ghost use Rattle.explicit_provisioning.specs.LastReads.{ReadsExplicit};
 ghost use Rattle.explicit_provisioning.specs.SettingsFound.{ComparingFound, StagingFound};
@@ -42,7 +43,7 @@ pub fn settings_are_as_they_were_read()
 {}
 
 /// If provisioning with settings succeeds, the Active Control Set, as it was read last, has the control bytes under explicit control, and
-/// each lane its settings; and nothing was stored since both were read. So it is with pauses.
+/// each lane its settings; and nothing was stored since both were read. So it is with pauses, and with looks at the module's state.
 pub fn a_success_with_settings_was_read()
     ensures read { (change : SettingsChange) (control : List ℕ) (lanes : Lanes) (events : Events) (end : ExplicitEnd) → length control ≡ 8 → fault_of end ≡ None →
         Ends change (Provisioning control lanes) events end → ReadsExplicit control change (steps_of events) }
@@ -50,4 +51,6 @@ pub fn a_success_with_settings_was_read()
         EndsPausing patience (GoesOn change (Provisioning control lanes)) (Ends change (Provisioning control lanes)) events (InTime end) → ReadsExplicit control change (steps_of events) }
     ensures answered { (patience : Patience) (change : SettingsChange) (control : List ℕ) (lanes : Lanes) (events : Events) (spent : Spent (Timed ExplicitEnd)) (steps : ℕ) → length control ≡ 8 →
         EndsPatiently patience change (Provisioning control lanes) events spent → answer_in_time {F = Unit {0}} spent.steps spent.end ≡ Ok steps → ReadsExplicit control change (steps_of events) }
+    ensures watched { (patience : Patience) (change : SettingsChange) (control : List ℕ) (lanes : Lanes) (events : Events) (end : Watched (Spent (Timed ExplicitEnd))) (steps : ℕ) → length control ≡ 8 →
+        EndsWatched patience change (Provisioning control lanes) events end → answer_watched {F = Unit {0}} (Some end) ≡ Ok steps → ReadsExplicit control change (steps_of events) }
 {}
