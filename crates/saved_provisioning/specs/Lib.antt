@@ -1,0 +1,4 @@
+pub mod SavedProvisioning
+pub mod Standings
+pub mod Turns
+pub mod UsedLanes
