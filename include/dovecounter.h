@@ -10,13 +10,14 @@
      A module's firmware          look at it, update it
      Single lanes                 switch outputs, polarity and squelch
      Signal integrity settings    look at them, change them while lanes are up
+     Provisioning with settings   stage them first, compare them last
      Tests of links               make and check patterns, loop lanes back
      Statistics                   freeze what a module lists itself (VDM), read it, release it
      A port's manager             keep the module in a port as wanted
      A simulated module           a module without hardware
 
-   Every function except dovecounter_run, _update_run, _lane_run, _settings_run, _link_test_run and _vdm_run is proved to return and
-   to do what this file says, except where it says "tested". Nothing is proved about real modules. No function allocates, prints, waits, keeps a pointer or has state
+   Every function except dovecounter_run, _update_run, _lane_run, _settings_run, _explicit_run, _link_test_run and _vdm_run is proved
+   to return and to do what this file says, except where it says "tested". Nothing is proved about real modules. No function allocates, prints, waits, keeps a pointer or has state
    of its own, so calls may run in parallel unless one writes what another uses.
 
    You have to ensure what no function can check:
@@ -48,7 +49,7 @@ extern "C" {
    Each function returns the first of its statuses that applies, and 0 if none does. With any status but 0 it has
    written nothing, with these exceptions: dovecounter_certificate writes the text's length if the buffer is too small,
    and dovecounter_weights the number of the faulty line; dovecounter_run, _update_run, _lane_run,
-   _settings_run, _link_test_run and _vdm_run have gone on up to the reply that they return status 34 for.
+   _settings_run, _explicit_run, _link_test_run and _vdm_run have gone on up to the reply that they return status 34 for.
 
      status_text, fault_text, verdict_text   3 4
      code_name                               3 4
@@ -69,6 +70,7 @@ extern "C" {
      end                                     31 33
      run, update_run, lane_run               31 34
      settings_run, link_test_run, vdm_run    31 34
+     explicit_run                            31 34
      port_plug to port_next                  31
      port_take                               31 34
      update_next                             31 32
@@ -84,6 +86,10 @@ extern "C" {
      settings_next                           31 32
      settings_reply                          31 32 34
      settings_end                            31 33
+     explicit_begin                          101 to 105
+     explicit_next                           31 32
+     explicit_reply                          31 32 34
+     explicit_end                            31 33
      link_test_begin, _stop, _changes        31
      link_test_next                          31 32
      link_test_reply                         31 32 34
@@ -1545,6 +1551,94 @@ static inline uint32_t dovecounter_settings_run(struct dovecounter_changing_sett
         else
             outcome = transact(context, &operation, bytes);
         status = dovecounter_settings_reply(changing, outcome, bytes, operation.count);
+        if (status != DOVECOUNTER_DONE) return status;
+    }
+    return status == DOVECOUNTER_ENDED ? (uint32_t)DOVECOUNTER_DONE : status;
+}
+
+/* ---- Provisioning with settings ----
+
+   Provisioning that also gives lanes of the plan signal integrity settings of yours (docs/lanes.md). It touches no bus, as a change of
+   settings doesn't. It finds the module in ModuleReady, stages the settings and reads them back; only then it provisions as
+   dovecounter_provision_begin does, with ExplicitControl for these lanes, and reads their active settings last. */
+
+struct dovecounter_explicit_fault {
+    uint8_t kind;
+    uint8_t lane;
+    struct dovecounter_fault provision;
+};
+
+struct dovecounter_explicit_stage {
+    uint8_t stage;
+    uint8_t left;
+    struct dovecounter_explicit_fault fault;
+};
+
+/* It under way. Copy it and save it; change nothing. Changed numbers are refused, or taken for another. */
+struct dovecounter_explicit {
+    uint32_t magic;
+    struct dovecounter_progress procedure;
+    struct dovecounter_explicit_stage staging;
+    struct dovecounter_explicit_stage comparing;
+    uint8_t look;
+    uint8_t left;
+    uint8_t lanes;
+    uint8_t tries;
+    uint8_t settings[21];
+    uint8_t mixed[21];
+};
+
+/* Begins it, for a module with these limits: control and lanes as for dovecounter_provision_begin, without ExplicitControl. Lanes of the
+   change whose control byte is 0 get no settings, and `permitted` isn't looked at: `lanes` says what is taken down. A lane of the change
+   outside `lanes` has to be active under explicit control, with these settings. It doubts after a refusal, whatever trusts is. */
+uint32_t dovecounter_explicit_begin(const uint8_t control[8], uint8_t lanes,
+                                    const struct dovecounter_settings_change *change,
+                                    const struct dovecounter_settings_limits *limits,
+                                    const struct dovecounter_patience *patience,
+                                    struct dovecounter_explicit *provisioning);
+
+/* Writes what to do now. */
+uint32_t dovecounter_explicit_next(const struct dovecounter_explicit *provisioning,
+                                   struct dovecounter_operation *operation);
+
+/* Takes the outcome of that operation, as dovecounter_reply does. */
+uint32_t dovecounter_explicit_reply(struct dovecounter_explicit *provisioning, uint8_t outcome, const uint8_t *bytes,
+                                    size_t byte_count);
+
+enum dovecounter_explicit_settings {
+    DOVECOUNTER_EXPLICIT_SETTINGS_RIGHT = 0,      /* `fault` says how it ended */
+    DOVECOUNTER_EXPLICIT_SETTINGS_NOT_STAGED = 1, /* others are staged after all tries; no lane was taken down */
+    DOVECOUNTER_EXPLICIT_SETTINGS_NOT_ACTIVE = 2  /* the plan is active, but `lane` has others after all tries */
+};
+
+/* A success has fault.code 0 and settings 0. A failure may leave settings staged, besides what one of provisioning leaves. */
+struct dovecounter_explicit_end {
+    uint16_t steps; /* transactions of a success; else 0 */
+    struct dovecounter_fault fault;
+    uint8_t settings; /* enum dovecounter_explicit_settings */
+    uint8_t lane;     /* the lowest that it is so with, or 0 */
+};
+
+/* Writes how it ended. */
+uint32_t dovecounter_explicit_end(const struct dovecounter_explicit *provisioning,
+                                  struct dovecounter_explicit_end *end);
+
+/* Carries it out, as dovecounter_run does. */
+static inline uint32_t dovecounter_explicit_run(struct dovecounter_explicit *provisioning,
+                                                uint8_t (*transact)(void *context,
+                                                                    const struct dovecounter_operation *operation,
+                                                                    uint8_t bytes[128]),
+                                                void (*pause)(void *context, uint32_t milliseconds), void *context) {
+    struct dovecounter_operation operation;
+    uint8_t bytes[128];
+    uint32_t status;
+    while ((status = dovecounter_explicit_next(provisioning, &operation)) == DOVECOUNTER_DONE) {
+        uint8_t outcome = DOVECOUNTER_WAITED;
+        if (operation.kind == DOVECOUNTER_WAIT)
+            pause(context, operation.milliseconds);
+        else
+            outcome = transact(context, &operation, bytes);
+        status = dovecounter_explicit_reply(provisioning, outcome, bytes, operation.count);
         if (status != DOVECOUNTER_DONE) return status;
     }
     return status == DOVECOUNTER_ENDED ? (uint32_t)DOVECOUNTER_DONE : status;

@@ -622,6 +622,34 @@ AT(settings_end, outcome, 0);
 AT(settings_end, lane, 1);
 AT(settings_end, reached, 2);
 
+SIZE(explicit_fault, 5);
+AT(explicit_fault, kind, 0);
+AT(explicit_fault, lane, 1);
+AT(explicit_fault, provision, 2);
+
+SIZE(explicit_stage, 7);
+AT(explicit_stage, stage, 0);
+AT(explicit_stage, left, 1);
+AT(explicit_stage, fault, 2);
+
+SIZE(explicit, 112);
+AT(explicit, magic, 0);
+AT(explicit, procedure, 8);
+AT(explicit, staging, 48);
+AT(explicit, comparing, 55);
+AT(explicit, look, 62);
+AT(explicit, left, 63);
+AT(explicit, lanes, 64);
+AT(explicit, tries, 65);
+AT(explicit, settings, 66);
+AT(explicit, mixed, 87);
+
+SIZE(explicit_end, 8);
+AT(explicit_end, steps, 0);
+AT(explicit_end, fault, 2);
+AT(explicit_end, settings, 5);
+AT(explicit_end, lane, 6);
+
 SIZE(vdm, 56);
 AT(vdm, magic, 0);
 AT(vdm, pause, 4);

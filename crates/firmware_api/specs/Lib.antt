@@ -28,4 +28,5 @@ pub mod LanesTold
 pub mod LinkTestsTold
 pub mod ObservableNumbers
 pub mod SettingsTold
+pub mod ExplicitTold
 pub mod VdmTold

@@ -19,7 +19,7 @@ ghost use Rattle.firmware_api.specs.Halves.{memory_of};
 ghost use Rattle.firmware_api.specs.Operations.{reply_of, waited};
 ghost use Rattle.firmware_api.specs.Patiences.{doubts, given};
 ghost use Rattle.firmware_api.specs.ReadEnds.{HasReadModule};
-ghost use Rattle.firmware_api.specs.SavedConversations.{HasInFront, IsEndTold, IsNextTold, IsReplyFor, IsReplyTold, IsSavedAt, conversation_in, end_of, ended_by, ended_with, halves_in, left_by, piece_for, size_refusal, wanted};
+ghost use Rattle.firmware_api.specs.SavedConversations.{HasInFront, IsEndTold, IsNextTold, IsReplyFor, IsReplyTold, IsSavedAt, conversation_in, end_of, ended_by, ended_with, halves_in, left_by, overdue, piece_for, size_refusal, wanted};
 ghost use Rattle.control_sets.specs.SavedNumbers.{numbers};
 ghost use Rattle.firmware_api.specs.Statuses.{done, status_by};
 
@@ -268,8 +268,8 @@ fn end_of(ending: Ending) -> SavedEnd
     }
 }
 
-// What is said of a module whose state has this code, and isn't ModuleReady.
-fn left_by(code: u8) -> SavedFault
+/// What is said of a module whose state has this code, and isn't ModuleReady.
+pub fn left_by(code: u8) -> SavedFault
     ensures { result ≡ left_by code }
 {
     match state_of(code) {
@@ -302,7 +302,7 @@ fn ended_by(spent: Spent<Timed<Option<ProvisionFault>>>) -> SavedEnd
             fault: SavedFault::of(None),
         },
         Some(Timed::InTime(fault)) => without_success(SavedFault::of(fault)),
-        Some(Timed::Overdue) => without_success(OVERDUE),
+        Some(Timed::Overdue) => without_success(overdue()),
         None => without_success(SavedFault::of(Some(ProvisionFault::GaveUp))),
     }
 }
@@ -312,6 +312,13 @@ const OVERDUE: SavedFault = SavedFault {
     first: 0,
     second: 0,
 };
+
+/// What is said of a module that answers too seldom.
+pub fn overdue() -> SavedFault
+    ensures { result ≡ overdue }
+{
+    OVERDUE
+}
 
 fn without_success(fault: SavedFault) -> SavedEnd
     ensures { result ≡ ended_with 0 fault }

@@ -1,7 +1,7 @@
 //! What C calls: what a module is, measures and warns of, its Applications, a plan of its lanes, the check of a
 //! certificate, the longest that its states last, conversations with it that are told what the caller's bus answered, the
-//! manager of a port, updates of a module's firmware, changes of single lanes and of their settings, tests of links, readings of
-//! statistics, and simulated modules.
+//! manager of a port, updates of a module's firmware, changes of single lanes and of their settings, provisioning with settings, tests
+//! of links, readings of statistics, and simulated modules.
 #![tactic(auto)]
 
 mod advertisement;
@@ -10,6 +10,7 @@ mod checking;
 mod code_texts;
 mod conversation;
 mod durations;
+mod explicit;
 mod flags;
 mod half;
 mod identity;
