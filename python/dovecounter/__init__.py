@@ -90,7 +90,14 @@ from .reports import (
     Value,
     Voltage,
 )
-from .settings import SettingsChange, SettingsEnd, SettingsFault, SettingsOutcome, SettingsReach
+from .settings import (
+    ExplicitProvisioning,
+    SettingsChange,
+    SettingsEnd,
+    SettingsFault,
+    SettingsOutcome,
+    SettingsReach,
+)
 from .signals import LaneSignal, ModuleSignals, SignalLimits, SignalSettings
 from .simulated import Delays, SimulatedModule
 from .states import ConfigStatus, ModuleState, PathState
@@ -113,6 +120,7 @@ __all__ = [
     "Details",
     "Durations",
     "Effect",
+    "ExplicitProvisioning",
     "Family",
     "Fault",
     "FirmwareAbort",

@@ -400,6 +400,28 @@ class SettingsEnd(Structure):
     _fields_ = _members(c_uint8, "outcome lane reached")
 
 
+class ExplicitFault(Structure):
+    _fields_ = [*_members(c_uint8, "kind lane"), ("provision", Fault)]
+
+
+class ExplicitStage(Structure):
+    _fields_ = [*_members(c_uint8, "stage left"), ("fault", ExplicitFault)]
+
+
+class Explicit(Structure):
+    _fields_ = [
+        ("magic", c_uint32),
+        ("procedure", Progress),
+        *_members(ExplicitStage, "staging comparing"),
+        *_members(c_uint8, "look left lanes tries"),
+        *_members(c_uint8 * 21, "settings mixed"),
+    ]
+
+
+class ExplicitEnd(Structure):
+    _fields_ = [("steps", c_uint16), ("fault", Fault), *_members(c_uint8, "settings lane")]
+
+
 class Vdm(Structure):
     _fields_ = [
         *_members(c_uint32, "magic pause"),
@@ -595,6 +617,16 @@ FUNCTIONS: Dict[str, Tuple[Any, Tuple[Any, ...]]] = {
     "settings_next": (c_uint32, (POINTER(ChangingSettings), POINTER(Operation))),
     "settings_reply": (c_uint32, (POINTER(ChangingSettings), c_uint8, *_BYTES)),
     "settings_end": (c_uint32, (POINTER(ChangingSettings), POINTER(SettingsEnd))),
+    "explicit_begin": (
+        c_uint32,
+        (
+            *(_CONTROL, c_uint8, POINTER(SettingsChange), POINTER(SettingsLimits)),
+            *(POINTER(Patience), POINTER(Explicit)),
+        ),
+    ),
+    "explicit_next": (c_uint32, (POINTER(Explicit), POINTER(Operation))),
+    "explicit_reply": (c_uint32, (POINTER(Explicit), c_uint8, *_BYTES)),
+    "explicit_end": (c_uint32, (POINTER(Explicit), POINTER(ExplicitEnd))),
     "vdm_begin": (None, (c_uint32, POINTER(Vdm))),
     "vdm_next": (c_uint32, (POINTER(Vdm), POINTER(Half), POINTER(Operation))),
     "vdm_reply": (c_uint32, (POINTER(Vdm), POINTER(Half), c_uint8, *_BYTES)),

@@ -197,6 +197,9 @@ class Procedure:
     def _has_ended(self) -> None:
         ending = library.Ending()
         _expect_done(_end(byref(self._saved), self._halves, byref(ending)))
+        self._ended_by(ending)
+
+    def _ended_by(self, ending: Any) -> None:
         if ending.fault.code == _OVERDUE:
             raise TimeoutError(library.text("fault", _OVERDUE))
         if ending.fault.code in (_RESET, _FAULTY):

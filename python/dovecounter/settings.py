@@ -1,4 +1,5 @@
-"""Changing the signal integrity settings of lanes that are up (docs/lanes.md)."""
+"""Changing the signal integrity settings of lanes that are up, and provisioning with settings
+(docs/lanes.md)."""
 from __future__ import annotations
 
 from ctypes import byref
@@ -7,8 +8,9 @@ from enum import Enum
 from typing import Optional, Sequence, Union
 
 from . import library
-from .faults import look_at, look_at_choice, look_at_type
-from .procedures import Procedure
+from .faults import look_at, look_at_bytes, look_at_choice, look_at_type
+from .planning import Plan
+from .procedures import Procedure, _Change
 from .reports import Patience
 from .signals import LANES, LaneSignal, SignalLimits
 
@@ -18,6 +20,10 @@ _begin = library.function("settings_begin")
 _next = library.function("settings_next")
 _reply = library.function("settings_reply")
 _end = library.function("settings_end")
+_explicit_begin = library.function("explicit_begin")
+_explicit_next = library.function("explicit_next")
+_explicit_reply = library.function("explicit_reply")
+_explicit_end = library.function("explicit_end")
 
 
 class SettingsOutcome(Enum):
@@ -62,8 +68,15 @@ class SettingsEnd:
     reached: SettingsReach
 
 
+# by the numbers of enum dovecounter_explicit_settings
+_OTHER_SETTINGS = {
+    1: (SettingsOutcome.NOT_STAGED, SettingsReach.STAGED),
+    2: (SettingsOutcome.NOT_ACTIVE, SettingsReach.APPLIED),
+}
+
+
 class SettingsFault(Exception):
-    """A change of settings that ended without success."""
+    """A change of settings that ended without success, or provisioning with other settings."""
 
     def __init__(self, end: SettingsEnd) -> None:
         super().__init__(end)
@@ -90,19 +103,7 @@ class SettingsChange(Procedure):
         tries: int = 100,
     ) -> None:
         super().__init__(patience)
-        each = (targets,) * LANES if isinstance(targets, LaneSignal) else targets
-        change = library.SettingsChange(
-            look_at("the byte of lanes", lanes, 255),
-            look_at("the permitted lanes", permitted, 255),
-            look_at("the tries", tries, 255),
-            _targets_of(each),
-        )
-        limited = library.SettingsLimits(
-            sum(1 << look_at("an amplitude", code, 3) for code in set(limits.amplitudes)),
-            look_at("the greatest fixed equalization", limits.fixed_input, 15),
-            look_at("the greatest pre-cursor", limits.pre_cursor, 15),
-            look_at("the greatest post-cursor", limits.post_cursor, 15),
-        )
+        change, limited = _change_of(lanes, targets, permitted, tries), _limits_of(limits)
         self._saved = library.ChangingSettings()
         self.end: Optional[SettingsEnd] = None
         """how it ended; None before"""
@@ -132,6 +133,75 @@ class SettingsChange(Procedure):
             raise TimeoutError(library.text("fault", _OVERDUE))
         if outcome is not SettingsOutcome.ACTIVE:
             raise SettingsFault(self.end)
+
+
+class ExplicitProvisioning(_Change):
+    """Puts a plan into the Active Control Set as Provisioning does, and gives the host lanes of a
+    byte these settings with it, under explicit control: one for all, or one for each of the eight.
+    Lanes of no data path get none; one that is kept has to be active so already. What the module
+    doesn't advertise, by its `limits`, is a ValueError. Raises what Provisioning raises, and a
+    SettingsFault if other settings are staged or active, after all tries."""
+
+    def __init__(
+        self,
+        plan: Plan,
+        lanes: int,
+        targets: Union[LaneSignal, Sequence[LaneSignal]],
+        limits: SignalLimits,
+        patience: Patience = Patience(),
+        tries: int = 100,
+    ) -> None:
+        super().__init__(patience)
+        given = look_at_type("the plan", plan, Plan)
+        change, limited = _change_of(lanes, targets, 0, tries), _limits_of(limits)
+        self._saved = library.Explicit()
+        status = _explicit_begin(
+            library.Lanes(*look_at_bytes("the control bytes", given.control, 8)),
+            look_at("the byte of lanes", given.outside, 255),
+            *map(byref, (change, limited, self._patience, self._saved)),
+        )
+        if status:
+            raise ValueError(library.text("status", status))
+
+    def _made(self) -> int:
+        return int(self._saved.procedure.steps)
+
+    def _ask(self, found: library.Operation) -> int:
+        return int(_explicit_next(byref(self._saved), byref(found)))
+
+    def _take(self, outcome: int, data: bytes) -> int:
+        return int(_explicit_reply(byref(self._saved), outcome, data, len(data)))
+
+    def _has_ended(self) -> None:
+        found = library.ExplicitEnd()
+        status = _explicit_end(byref(self._saved), byref(found))
+        if status:
+            raise AssertionError(f"the library answered status {status}")
+        if found.settings:
+            outcome, reached = _OTHER_SETTINGS[found.settings]
+            raise SettingsFault(SettingsEnd(outcome, found.lane or None, reached))
+        self._ended_by(found)
+
+
+def _change_of(
+    lanes: int, targets: Union[LaneSignal, Sequence[LaneSignal]], permitted: int, tries: int
+) -> library.SettingsChange:
+    each = (targets,) * LANES if isinstance(targets, LaneSignal) else targets
+    return library.SettingsChange(
+        look_at("the byte of lanes", lanes, 255),
+        look_at("the permitted lanes", permitted, 255),
+        look_at("the tries", tries, 255),
+        _targets_of(each),
+    )
+
+
+def _limits_of(limits: SignalLimits) -> library.SettingsLimits:
+    return library.SettingsLimits(
+        sum(1 << look_at("an amplitude", code, 3) for code in set(limits.amplitudes)),
+        look_at("the greatest fixed equalization", limits.fixed_input, 15),
+        look_at("the greatest pre-cursor", limits.pre_cursor, 15),
+        look_at("the greatest post-cursor", limits.post_cursor, 15),
+    )
 
 
 def _targets_of(each: Sequence[LaneSignal]) -> library.SignalTargets:

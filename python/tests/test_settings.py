@@ -9,6 +9,7 @@ from typing import Dict, List, Optional
 import pytest
 
 from dovecounter import (
+    ExplicitProvisioning,
     Family,
     Fault,
     Image,
@@ -17,6 +18,7 @@ from dovecounter import (
     ModuleSignals,
     Operation,
     Patience,
+    Plan,
     Reply,
     SettingsChange,
     SettingsEnd,
@@ -152,6 +154,85 @@ def test_numbers_and_types_are_looked_at() -> None:
         SettingsChange(1, LaneSignal(adaptive=1), LIMITS)  # type: ignore[arg-type]
     with pytest.raises(ValueError):
         SettingsChange(1, TARGET, SignalLimits((4,), 0, 0, 0))
+
+
+# ---- with provisioning
+
+PLAN = Plan(1, (), bytes.fromhex("20 20 24 24 00 00 00 00"), 0x0F, 0xFF)
+
+
+class Provisioned(Module):
+    """The same, which applies control bytes at once, with settings of lanes under explicit control."""
+
+    def __init__(self, state: int = 3) -> None:
+        super().__init__()
+        self.state = state
+        self.pages[0x11][202 - 128 : 206 - 128] = b"\x11" * 4
+
+    def transact(self, operation: Operation) -> Reply:
+        at, data = operation.offset - 128, operation.data
+        if self.answers and at == 3 - 128:
+            return bytes([self.state << 1])
+        if data is None or at not in (0, 143 - 128, 145 - 128):
+            return super().transact(operation)
+        controls, active = self.pages[0x10], self.pages[0x11]
+        if at == 0:
+            for lane in range(8):
+                active[lane // 2] = 0x11 if data[0] >> lane & 1 else 0x44
+        elif at == 143 - 128:
+            self.applied += data
+            active[206 - 128 : 214 - 128] = controls[145 - 128 : 153 - 128]
+            active[214 - 128 : 235 - 128] = controls[153 - 128 : 174 - 128]
+        else:
+            controls[at : at + len(data)] = data
+        return True
+
+
+def provision(module: Provisioned, tries: int = 100, patience: Patience = Patience(10, 100)) -> int:
+    change = ExplicitProvisioning(PLAN, 0x22, TARGET, LIMITS, patience, tries)
+    change.run(module.transact, lambda seconds: None)
+    assert change.steps is not None and repr(change).startswith("<ExplicitProvisioning after ")
+    return change.steps
+
+
+def test_a_plan_is_provisioned_with_settings() -> None:
+    module = Provisioned()
+    assert provision(module) > 20 and module.applied == [0xFF]
+    assert module.pages[0x11][206 - 128 : 214 - 128] == bytes.fromhex("20 21 24 24 00 00 00 00")
+    assert module.pages[0x11][214 - 128 : 235 - 128] == BYTES
+
+
+def test_provisioning_with_settings_has_faults() -> None:
+    module = Provisioned()
+    module.keeps = False
+    with pytest.raises(SettingsFault, match="^not staged$") as found:
+        provision(module, tries=1)
+    assert found.value.end.reached is SettingsReach.STAGED and module.applied == []
+    with pytest.raises(Fault, match="PV6 1"):
+        provision(Provisioned(1))
+    module = Provisioned()
+    module.answers = False
+    with pytest.raises(TimeoutError):
+        provision(module)
+    with pytest.raises(ValueError, match="amplitude"):
+        ExplicitProvisioning(PLAN, 0x02, LaneSignal(), LIMITS)
+    with pytest.raises(TypeError):
+        ExplicitProvisioning("no plan", 0x02, TARGET, LIMITS)  # type: ignore[arg-type]
+
+
+def test_a_lane_with_other_settings_is_a_fault() -> None:
+    module = Provisioned()
+    kept = module.transact
+
+    def forgetful(operation: Operation) -> Reply:
+        reply = kept(operation)
+        module.pages[0x11][223 - 128] = 0
+        return reply
+
+    change = ExplicitProvisioning(PLAN, 0x02, TARGET, LIMITS, tries=2)
+    with pytest.raises(SettingsFault, match="^lane 2 not active$") as found:
+        change.run(forgetful, lambda seconds: None)
+    assert found.value.end.reached is SettingsReach.APPLIED
 
 
 # ---- of images
