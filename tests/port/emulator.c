@@ -138,6 +138,13 @@ void power_up(struct emulator *module) {
     for (int lane = 0; lane < 8; lane++) module->path[lane] = is_held_down(module, lane) ? DEACTIVATED : ACTIVATED;
 }
 
+/* Under explicit control, the staged code before the cursor is none that the module advertises. */
+static bool is_bad_signal(const struct emulator *module, int lane) {
+    const uint8_t *page = module->pages[0x10];
+    unsigned code = page[SETTINGS + 9 + lane / 2] >> 4 * (lane % 2) & 15;
+    return (page[STAGED + lane] & 1) && code > (module->pages[1][154 - 128] & 15);
+}
+
 /* Why a lane's staged byte can't be applied; 0 if it can. */
 static uint8_t rejection(const struct emulator *module, int lane, unsigned mask) {
     const uint8_t *staged = &module->pages[0x10][STAGED];
@@ -148,7 +155,7 @@ static uint8_t rejection(const struct emulator *module, int lane, unsigned mask)
         unsigned count = bytes != NULL ? bytes[2] >> 4 : 0;
         if (bytes == NULL || count == 0 || count > 8 || (bytes[2] & 15) == 0 || (bytes[2] & 15) > 8)
             return BAD_APPLICATION;
-        if (staged[lane] & 1) return BAD_SIGNAL;
+        if (is_bad_signal(module, lane)) return BAD_SIGNAL;
         lanes = lanes_from(first, count);
         if (!(bytes[3] >> first & 1) || first + count > 8 || !(lanes >> lane & 1)) return BAD_PATH;
         for (int other = 0; other < 8; other++)
@@ -180,6 +187,7 @@ static void apply(struct emulator *module, uint8_t mask) {
     }
     if (!good) return;
     memcpy(module->applied, &module->pages[0x10][STAGED], 8);
+    memcpy(module->applied_settings, &module->pages[0x10][SETTINGS], SETTINGS_BYTES);
     module->applying = mask;
     module->silent_left = module->silent;
     module->apply_left = module->silent + some_time(module);
@@ -192,6 +200,22 @@ static uint8_t bits_of_lane(int byte, int lane) {
     return (uint8_t)(lane / 2 == (byte < 7 ? byte - 3 : (byte - 9) % 4) ? 15 << 4 * (lane % 2) : 0);
 }
 
+/* A lane gets these settings into the active set. */
+static void put_settings(struct emulator *module, int lane, const uint8_t *settings) {
+    for (int i = 0; i < SETTINGS_BYTES; i++) {
+        uint8_t *active = &module->pages[0x11][ACTIVE_SETTINGS + i], bits = bits_of_lane(i, lane);
+        *active = (uint8_t)((*active & ~bits) | (settings[i] & bits));
+    }
+}
+
+/* What was applied becomes active: under explicit control with its settings, else with an Application's defaults, zeros. */
+static void end_applying(struct emulator *module, int lane) {
+    static const uint8_t defaults[SETTINGS_BYTES];
+    module->status[lane] = SUCCESS;
+    module->pages[0x11][ACTIVE + lane] = module->applied[lane];
+    put_settings(module, lane, module->applied[lane] & 1 ? module->applied_settings : defaults);
+}
+
 /* ApplyImmediate copies control bytes and settings of lanes that are up at once. */
 static void apply_settings(struct emulator *module, uint8_t mask) {
     module->tuned_lanes |= mask;
@@ -202,10 +226,7 @@ static void apply_settings(struct emulator *module, uint8_t mask) {
         module->status[lane] = up ? SUCCESS : REJECTED;
         if (!up) continue;
         module->pages[0x11][ACTIVE + lane] = module->pages[0x10][STAGED + lane];
-        for (int i = 0; i < SETTINGS_BYTES; i++) {
-            uint8_t *active = &module->pages[0x11][ACTIVE_SETTINGS + i], bits = bits_of_lane(i, lane);
-            *active = (uint8_t)((*active & ~bits) | (module->pages[0x10][SETTINGS + i] & bits));
-        }
+        put_settings(module, lane, &module->pages[0x10][SETTINGS]);
     }
 }
 
@@ -294,8 +315,7 @@ void pass_millisecond(struct emulator *module) {
     for (int lane = 0; lane < 8; lane++) {
         if (!(module->applying >> lane & 1)) continue;
         if (shows) module->status[lane] = IN_PROGRESS;
-        if (ends) module->status[lane] = SUCCESS;
-        if (ends) module->pages[0x11][ACTIVE + lane] = module->applied[lane];
+        if (ends) end_applying(module, lane);
     }
     if (ends) module->applying = 0;
 }

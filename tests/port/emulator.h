@@ -25,7 +25,8 @@ struct emulator {
     uint8_t path[8], status[8];
     unsigned path_left[8]; /* milliseconds until a transient state ends */
     uint8_t applied[8];    /* what becomes active */
-    uint8_t applying;      /* lanes */
+    uint8_t applied_settings[21];
+    uint8_t applying; /* lanes */
     unsigned apply_left, silent_left;
     bool is_low;         /* low power is requested */
     unsigned power_left; /* milliseconds until ModulePwrUp or ModulePwrDn ends */

@@ -47,6 +47,7 @@ static const char usage[] =
     "  --counts-by-id  look up lane counts of 0 by interface ID\n"
     "  --activate      bring the plan's data paths up\n"
     "  --ensure        take down what is in the way, but no active path that the plan has too\n"
+    "  --settings X    give lanes of the plan settings such as 'lane=1-4 pre=2', as settings set does\n"
     "  --force         take down, or disturb, whatever is up; accept a plan without paths\n"
     "  --wake          take the module out of low power first\n"
     "  --reset         let an update restart the module, which takes its lanes down\n"
@@ -94,6 +95,7 @@ static bool take_flag(struct port *port, int flag) {
     case 't': return (port->words.time = optarg) != NULL;
     case 'S': return (port->words.shown = optarg) != NULL;
     case 'b': return (port->words.loopback = optarg) != NULL;
+    case 'g': return port->is_tuned = read_plan_targets(port, optarg);
     default: return false;
     }
 }
@@ -119,6 +121,7 @@ static bool read_flags(int count, char **words, struct port *port) {
                                           {"for", required_argument, NULL, 't'},
                                           {"show", required_argument, NULL, 'S'},
                                           {"loopback", required_argument, NULL, 'b'},
+                                          {"settings", required_argument, NULL, 'g'},
                                           {0}};
     int flag;
     optind = 0;
@@ -132,15 +135,15 @@ struct command {
     enum status (*run)(struct port *port);
     bool (*read)(struct port *port, const char *name); /* the file that it takes, or NULL */
     bool plans;                                        /* it takes --keep, --unpaired and --counts-by-id */
-    bool stores, forces;                               /* it takes --activate, --ensure and --wake; it takes --force */
-    bool resets, shows;                                /* it takes --reset and --no-commit; it takes --json */
-    bool asks;                                         /* it takes the memory as cmisd has it */
-    bool borrows;                                      /* it may have the bus of a port that cmisd keeps */
-    bool unlocks;                                      /* it takes --password */
-    bool sets;                                         /* its words are followed by a setting and lanes */
-    bool loops, checks; /* by a side, a kind and perhaps lanes; by flags about a pattern */
-    bool tunes;         /* its words are followed by settings with their values */
-    bool lists;         /* it takes --vdm */
+    bool stores, forces; /* it takes --activate, --ensure, --wake and --settings; it takes --force */
+    bool resets, shows;  /* it takes --reset and --no-commit; it takes --json */
+    bool asks;           /* it takes the memory as cmisd has it */
+    bool borrows;        /* it may have the bus of a port that cmisd keeps */
+    bool unlocks;        /* it takes --password */
+    bool sets;           /* its words are followed by a setting and lanes */
+    bool loops, checks;  /* by a side, a kind and perhaps lanes; by flags about a pattern */
+    bool tunes;          /* its words are followed by settings with their values */
+    bool lists;          /* it takes --vdm */
 };
 
 static bool read_host(struct port *port, const char *name) {
@@ -149,7 +152,7 @@ static bool read_host(struct port *port, const char *name) {
 
 static bool is_stray(const struct port *port, const struct command *command) {
     bool asks = port->kept_count > 0 || port->unpaired || port->counts_by_id;
-    bool changes = port->activate || port->ensure || port->wake;
+    bool changes = port->activate || port->ensure || port->wake || port->is_tuned;
     const struct link_words *words = &port->words;
     bool of_pattern = words->side || words->pattern || words->lanes || words->shown || words->loopback;
     if (port->vdm && !command->lists) return true;

@@ -27,6 +27,7 @@ struct port {
     struct link_words words;
     uint8_t tuned_lanes;
     int16_t tuned[SETTINGS]; /* what these settings are to be, or -1 */
+    bool is_tuned;           /* by --settings: lanes of the plan get them */
     uint8_t *file;           /* the firmware */
     size_t file_size;
     uint32_t password; /* of the firmware, if there is a name of its file */
@@ -50,6 +51,8 @@ struct port {
     struct dovecounter_half halves[DOVECOUNTER_MOST_READ];
     uint8_t half_count; /* of those, as many as were read */
     struct dovecounter_plan plan;
+    struct dovecounter_settings_change tunes; /* what lanes of the plan get, of a module with these limits */
+    struct dovecounter_settings_limits limits;
 };
 
 /* transactions.c */
@@ -120,8 +123,12 @@ enum status test_link(struct port *port);
 
 /* settings.c */
 bool read_targets(struct port *port, char **words, int count);
+bool read_plan_targets(struct port *port, char *word);
 enum status print_settings(struct port *port);
 enum status change_settings(struct port *port);
+bool begin_tuned(struct port *port);
+bool has_tuned(const struct port *port);
+unsigned provision_tuned(struct port *port);
 
 /* lanes.c */
 struct dovecounter_effect judge(const struct port *port);

@@ -105,13 +105,13 @@ static bool wake_up(struct port *port) {
 /* A module may tell an old success before it begins to apply: then other bytes are active (PV3), and a second try helps. */
 static bool put_in(struct port *port) {
     for (int times = 0; times < 3; times++) {
-        unsigned fault = carry_out(port, PROVISION);
+        unsigned fault = port->is_tuned ? provision_tuned(port) : carry_out(port, PROVISION);
         if (fault != 3) return fault == 0;
         pause_ms(port, BEFORE_AGAIN);
         if (port->ending != GOES_ON || !read_lanes(port)) return false;
         struct dovecounter_effect effect = judge(port);
         if (status_by(&effect) != DONE) return false;
-        if (effect.is_active) return warnx("%s: the plan is active now", port->bus.name), true;
+        if (effect.is_active && !port->is_tuned) return warnx("%s: the plan is active now", port->bus.name), true;
         if (times < 2) warnx("%s: provisioning begins again", port->bus.name);
     }
     return false;
@@ -122,7 +122,7 @@ static bool put_in(struct port *port) {
 static enum status say_what_is_held(struct port *port, bool done) {
     bool known = port->ending != SILENT && read_lanes(port), ready = known && state_of(port) == READY;
     struct dovecounter_effect effect = known ? judge(port) : (struct dovecounter_effect){0};
-    bool finished = ready && effect.is_done;
+    bool finished = ready && effect.is_done && (!port->is_tuned || has_tuned(port));
     if (effect.is_active && port->steps[PROVISION] != 0) printf("provisioned %u\n", port->steps[PROVISION]);
     if (finished && port->steps[ACTIVATE] != 0) printf("activated %u\n", port->steps[ACTIVATE]);
     if (known)
@@ -138,18 +138,19 @@ static enum status say_what_is_held(struct port *port, bool done) {
 }
 
 enum status provision(struct port *port) {
-    if (!find_plan(port)) return REFUSED;
+    if (!find_plan(port) || (port->is_tuned && !begin_tuned(port))) return REFUSED;
     print_plan(port);
     struct dovecounter_effect effect = judge(port);
     enum status status = status_by(&effect);
-    if (status != DONE || effect.is_done) {
+    bool is_done = effect.is_done && (!port->is_tuned || has_tuned(port));
+    if (status != DONE || is_done) {
         if (status == DONE) puts("provision has nothing to do");
         print_held(port);
         if (status != DONE) say_hindrance(stderr, "cmis-port:", &effect);
         return status;
     }
     print_now(port);
-    bool done = wake_up(port) && (judge(port).is_active || put_in(port));
+    bool done = wake_up(port) && ((judge(port).is_active && (!port->is_tuned || has_tuned(port))) || put_in(port));
     done = done && (!port->activate || judge(port).is_done || carry_out(port, ACTIVATE) == 0);
     return say_what_is_held(port, done);
 }

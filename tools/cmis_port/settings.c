@@ -54,6 +54,18 @@ bool read_targets(struct port *port, char **words, int count) {
     return count > 1 && port->tuned_lanes != 0;
 }
 
+/* The same, in one word of the command line. */
+bool read_plan_targets(struct port *port, char *word) {
+    char *words[SETTINGS + 2], *rest = NULL;
+    int count = 0;
+    for (char *each = strtok_r(word, " ", &rest); each != NULL; each = strtok_r(NULL, " ", &rest))
+        if (count < SETTINGS + 1)
+            words[count++] = each;
+        else
+            return false;
+    return read_targets(port, words, count);
+}
+
 /* ---- the settings of a lane, by their place ---- */
 
 static uint8_t *byte_of(struct dovecounter_signal_targets *targets, unsigned setting, unsigned lane) {
@@ -216,4 +228,51 @@ enum status change_settings(struct port *port) {
     if (port->json) print_outcome(port, port->stored ? "unknown" : "unchanged", 0);
     if (port->stored) say_lanes(stderr, "cmis-port: perhaps changed:", port->tuned_lanes, "");
     return port->stored ? NOT_PROVISIONED : REFUSED;
+}
+
+/* ---- provisioning with settings ---- */
+
+/* The settings that lanes of the plan are to have, with explicit control. Says what the module doesn't advertise. */
+bool begin_tuned(struct port *port) {
+    struct found found;
+    const struct dovecounter_patience patience = patience_for(port);
+    struct dovecounter_explicit it;
+    uint32_t status = dovecounter_settings(port->halves, port->half_count, &found.settings);
+    if (status == DOVECOUNTER_DONE) status = dovecounter_settings_limits(port->halves, port->half_count, &found.limits);
+    if (status != DOVECOUNTER_DONE) return refuse_by(port, status), false;
+    port->tuned_lanes &= port->plan.lanes;
+    port->tunes = wanted(port, &found), port->limits = found.limits;
+    for (unsigned lane = 0; lane < 8; lane++) port->plan.control[lane] |= port->tuned_lanes >> lane & 1;
+    status = dovecounter_explicit_begin(port->plan.control, 0, &port->tunes, &port->limits, &patience, &it);
+    return status == DOVECOUNTER_DONE || (refuse_change(port, status), false);
+}
+
+/* Whether they are active now. */
+bool has_tuned(const struct port *port) {
+    struct dovecounter_settings now;
+    struct dovecounter_signal_targets targets = port->tunes.targets;
+    if (dovecounter_settings(port->halves, port->half_count, &now) != DOVECOUNTER_DONE) return false;
+    for (unsigned lane = 0; lane < 8; lane++)
+        for (unsigned i = 0; i < SETTINGS; i++)
+            if (port->tuned_lanes >> lane & 1 && value_of(&targets, i, lane) != value_of(&now.active, i, lane))
+                return false;
+    return true;
+}
+
+/* As carry_out does. */
+unsigned provision_tuned(struct port *port) {
+    const struct dovecounter_patience patience = patience_for(port);
+    struct dovecounter_explicit it;
+    struct dovecounter_explicit_end end;
+    dovecounter_explicit_begin(port->plan.control, judge(port).taken, &port->tunes, &port->limits, &patience, &it);
+    dovecounter_explicit_run(&it, make_in_pieces, wait_on_lanes, port);
+    if (dovecounter_explicit_end(&it, &end) != DOVECOUNTER_DONE) return NO_ANSWER;
+    if (end.settings == DOVECOUNTER_EXPLICIT_SETTINGS_NOT_STAGED)
+        warnx("%s: %s", port->bus.name, outcome_sentences[DOVECOUNTER_SETTINGS_NOT_STAGED]);
+    if (end.settings == DOVECOUNTER_EXPLICIT_SETTINGS_NOT_ACTIVE)
+        warnx("%s: lane %u %s", port->bus.name, end.lane, outcome_sentences[DOVECOUNTER_SETTINGS_NOT_ACTIVE]);
+    if (end.settings != 0) return NO_ANSWER;
+    if (end.fault.code != 0) say_fault(port->bus.name, end.fault);
+    port->steps[PROVISION] = end.steps;
+    return end.fault.code;
 }
