@@ -60,7 +60,7 @@ module _ (advert : Advertised) (paths : List Path) (plan : IsPlan advert paths) 
     | inr (path, of, taken) ↦ let (k, below, here) = of.one in list_any-from_Any (takes advert lane) paths (k, path, below, here, taken)
   ]
 
-length_of : (advert : Advertised) (paths : List Path) → length (control_bytes advert paths) ≡ 8
+pub length_of : (advert : Advertised) (paths : List Path) → length (control_bytes advert paths) ≡ 8
 unfolding control_bytes
 length_of advert paths = length-map-range_with_len (control_byte advert paths) 1 8
 
@@ -70,20 +70,23 @@ still_admissible advert test paths plan = record {
   apart = AllPairs-filter (λ path other. are_apart advert path other ≡ true) test paths plan.apart;
 }
 
+-- a goal of such control bytes and lanes
+pub whole_by : (advert : Advertised) (paths : List Path) (goal : Goal) → IsPlan advert paths → goal.control ≡ control_bytes advert paths → goal.lanes ≡ plan_lanes advert paths → IsWhole goal
+whole_by advert paths goal of control lanes = record {
+  eight = ap (λ (control : List ℕ). length control) control ∙ length_of advert paths;
+  used = λ lane within inside.
+      subst (λ (control : List ℕ). IsInUse control lane) (sym control)
+      (taken_used advert paths of lane within (sym (lane_of_plan advert paths of lane within) ∙ ap (λ (lanes : Lanes). set.contains lanes lane) (sym lanes) ∙ inside));
+  taken = λ lane within used.
+      ap (λ (lanes : Lanes). set.contains lanes lane) lanes ∙ lane_of_plan advert paths of lane within
+      ∙ used_taken advert paths of lane within (subst (λ (control : List ℕ). IsInUse control lane) control used);
+}
+
 pub whole_goal : (wanted : Wanted) (image : Memory) (page : List ℕ) (goal : Goal) → HasGoal (advert_of wanted image) wanted page goal → IsWhole goal
 whole_goal wanted image page goal (plan, is) =
     let advert = advert_of wanted image in
     let paths = wanted_of advert wanted.down plan in
-    let of : IsPlan advert paths = plan_read (conventions_of wanted) image paths (still_admissible advert (stays_up advert wanted.down) plan is.first.candidate.best.admissible) in
-    record {
-      eight = ap (λ (control : List ℕ). length control) is.control ∙ length_of advert paths;
-      used = λ lane within inside.
-          subst (λ (control : List ℕ). IsInUse control lane) (sym is.control)
-          (taken_used advert paths of lane within (sym (lane_of_plan advert paths of lane within) ∙ ap (λ (lanes : Lanes). set.contains lanes lane) (sym is.lanes) ∙ inside));
-      taken = λ lane within used.
-          ap (λ (lanes : Lanes). set.contains lanes lane) is.lanes ∙ lane_of_plan advert paths of lane within
-          ∙ used_taken advert paths of lane within (subst (λ (control : List ℕ). IsInUse control lane) is.control used);
-    }
+    whole_by advert paths goal (plan_read (conventions_of wanted) image paths (still_admissible advert (stays_up advert wanted.down) plan is.first.candidate.best.admissible)) is.control is.lanes
 
 -- ---- a decision
 

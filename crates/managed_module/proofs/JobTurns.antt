@@ -168,21 +168,26 @@ list_ends None None e = (refl, refl)
 list_ends (Some because) None e = absurd cc
 
 -- what a list wants, where that is on its page already
-list_end : (selected : KnownPage) (needed : Option ℕ) (own wanted : Next (Option ProvisionFault)) → own ≡ wanted → next_on BankAndPage selected needed own ≡ End None → own ≡ End None
-list_end selected needed own (Do op) is e = absurd (let wrong : Do (page_first BankAndPage selected needed op) ≡ End None = sym (ap (next_on BankAndPage selected needed) is) ∙ e in cc)
-list_end selected needed own (Wait time) is e = absurd (let wrong : Wait time ≡ End None = sym (ap (next_on BankAndPage selected needed) is) ∙ e in cc)
-list_end selected needed own (End other) is e = is ∙ sym (ap (next_on BankAndPage selected needed) is) ∙ e
+list_end : (selected : KnownPage) (needed : Option ℕ) (own wanted : Next (Option ProvisionFault)) (end : Option ProvisionFault) → own ≡ wanted → next_on BankAndPage selected needed own ≡ End end → own ≡ End end
+list_end selected needed own (Do op) end is e = absurd (let wrong : Do (page_first BankAndPage selected needed op) ≡ End end = sym (ap (next_on BankAndPage selected needed) is) ∙ e in cc)
+list_end selected needed own (Wait time) end is e = absurd (let wrong : Wait time ≡ End end = sym (ap (next_on BankAndPage selected needed) is) ∙ e in cc)
+list_end selected needed own (End other) end is e = is ∙ sym (ap (next_on BankAndPage selected needed) is) ∙ e
 
--- the list has ended without a fault
-procedure_ends : (job : PatientProcedure) (spent : Spent (Timed (Option ProvisionFault))) → procedure_wants job ≡ End spent → fault_in spent.end ≡ None
-    → (job.conversation.conversation.conversation.fault ≡ None) × (slice_get (tasks_of job.conversation.conversation.conversation.work) job.conversation.conversation.conversation.met ≡ None)
-procedure_ends job spent e none =
+-- the list has ended in time
+pub procedure_ended : (job : PatientProcedure) (spent : Spent (Timed (Option ProvisionFault))) (end : Option ProvisionFault) → procedure_wants job ≡ End spent → spent.end ≡ Some (InTime end) → progress.wants job.conversation.conversation.conversation ≡ End end
+procedure_ended job spent end e in_time =
     let on = job.conversation.conversation in
     let list = on.conversation in
-    let pausing = within_ends job.steps job.limit (next_pausing job.conversation.due job.conversation.idle job.conversation.patience (wants_on paged_tasks on)) spent (InTime None) e (no_fault spent.end none) in
-    let paged : wants_on paged_tasks on ≡ End None = pausing_ends job.conversation.due job.conversation.idle job.conversation.patience (wants_on paged_tasks on) None pausing in
-    let own : progress.wants list ≡ End None = list_end on.selection (progress.page_by (hand list)) (progress.wants list) (progress.wants list) refl paged in
-    let ends = list_ends list.fault (hand list) own in
+    let pausing = within_ends job.steps job.limit (next_pausing job.conversation.due job.conversation.idle job.conversation.patience (wants_on paged_tasks on)) spent (InTime end) e in_time in
+    let paged : wants_on paged_tasks on ≡ End end = pausing_ends job.conversation.due job.conversation.idle job.conversation.patience (wants_on paged_tasks on) end pausing in
+    list_end on.selection (progress.page_by (hand list)) (progress.wants list) (progress.wants list) end refl paged
+
+-- without a fault
+pub procedure_ends : (job : PatientProcedure) (spent : Spent (Timed (Option ProvisionFault))) → procedure_wants job ≡ End spent → fault_in spent.end ≡ None
+    → (job.conversation.conversation.conversation.fault ≡ None) × (slice_get (tasks_of job.conversation.conversation.conversation.work) job.conversation.conversation.conversation.met ≡ None)
+procedure_ends job spent e none =
+    let list = job.conversation.conversation.conversation in
+    let ends = list_ends list.fault (hand list) (procedure_ended job spent None e (no_fault spent.end none)) in
     (ends.0, ap (λ (found : Option ProvisionFault). task_at (tasks_of list.work) list.met found) (sym ends.0) ∙ ends.1)
 
 -- so no apply is in progress
@@ -279,7 +284,7 @@ module _ (most budget : ℕ) (sim : SimModule) (op : Op) (reply : Reply) (has : 
   follows_leads wanted (jobs.Watching job) awake not on = (on.less, tt, on.fewer)
 
   -- provisioning has ended without a fault
-  provisioning_ended : (job : PatientProcedure) (goal : Goal) (spent : Spent (Timed (Option ProvisionFault))) → GoesOn most (jobs.Provisioning job goal) op reply after budget → procedure_wants (procedure_after job reply) ≡ End spent → fault_in spent.end ≡ None
+  pub provisioning_ended : (job : PatientProcedure) (goal : Goal) (spent : Spent (Timed (Option ProvisionFault))) → GoesOn most (jobs.Provisioning job goal) op reply after budget → procedure_wants (procedure_after job reply) ≡ End spent → fault_in spent.end ≡ None
       → Leads most (left (jobs.Provisioning job goal)) budget after (turns.On (activating goal (procedure_after job reply).conversation.patience) note.Provisioned)
   provisioning_ended job goal spent on e none =
       let list = (procedure_after job reply).conversation.conversation.conversation in

@@ -76,7 +76,7 @@ OnItsPage task sim = (page : ℕ) → page_of task ≡ Some page → Shows page 
 
 -- ---- judgements
 
-by_task : (P : Task → Type 0) (one task : Task) → ◌≡◌ {A = Option Task} (Some one) (Some task) → P one → P task
+pub by_task : (P : Task → Type 0) (one task : Task) → ◌≡◌ {A = Option Task} (Some one) (Some task) → P one → P task
 by_task P one task e p = let same : one ≡ task = cc in subst P same p
 
 ready_settles : (state : ModuleState) → judged_module (module_codes.code_of state) ≡ NotYet → ⊥
@@ -105,11 +105,11 @@ find_judged : (bytes : List ℕ) → judgement tasks.FindReady (Bytes (record { 
 unfolding judged
 find_judged bytes = refl
 
-deactivated_judged : (lanes : Lanes) (bytes : List ℕ) → judgement (tasks.AwaitDeactivated lanes) (Bytes (record { items = bytes })) ≡ judged_states lanes lanes Deactivated (codes_in bytes 8)
+pub deactivated_judged : (lanes : Lanes) (bytes : List ℕ) → judgement (tasks.AwaitDeactivated lanes) (Bytes (record { items = bytes })) ≡ judged_states lanes lanes Deactivated (codes_in bytes 8)
 unfolding judged
 deactivated_judged lanes bytes = refl
 
-activated_judged : (lanes : Lanes) (bytes : List ℕ) → judgement (tasks.AwaitActivated lanes) (Bytes (record { items = bytes })) ≡ judged_states every_lane lanes Activated (codes_in bytes 8)
+pub activated_judged : (lanes : Lanes) (bytes : List ℕ) → judgement (tasks.AwaitActivated lanes) (Bytes (record { items = bytes })) ≡ judged_states every_lane lanes Activated (codes_in bytes 8)
 unfolding judged
 activated_judged lanes bytes = refl
 
@@ -117,11 +117,11 @@ statuses_judged : (lanes : Lanes) (bytes : List ℕ) → judgement (tasks.AwaitA
 unfolding judged
 statuses_judged lanes bytes = refl
 
-staged_judged : (control bytes : List ℕ) → judgement (tasks.CheckStaged control) (Bytes (record { items = bytes })) ≡ met_unless StagedDiffers (differing_lane bytes control)
+pub staged_judged : (control bytes : List ℕ) → judgement (tasks.CheckStaged control) (Bytes (record { items = bytes })) ≡ met_unless StagedDiffers (differing_lane bytes control)
 unfolding judged
 staged_judged control bytes = refl
 
-active_judged : (control bytes : List ℕ) → judgement (tasks.CheckActive control) (Bytes (record { items = bytes })) ≡ met_unless ActiveDiffers (differing_lane bytes control)
+pub active_judged : (control bytes : List ℕ) → judgement (tasks.CheckActive control) (Bytes (record { items = bytes })) ≡ met_unless ActiveDiffers (differing_lane bytes control)
 unfolding judged
 active_judged control bytes = refl
 
@@ -144,10 +144,10 @@ decided_code status decided =
     let parts = and_parts (nat_le 1 (status_code_of status)) (nat_le (status_code_of status) 7) decided in
     decided_by (status_code_of status) (leb-true 1 (status_code_of status) parts.0) (leb-true (status_code_of status) 7 parts.1)
 
-abbrev status_codes : SimModule → List ℕ
+abbrev pub status_codes : SimModule → List ℕ
 status_codes sim = codes_in (pairs (status_code sim)) 8
 
-status_shown : (sim : SimModule) (lane : ℕ) → IsLane lane → at_lane (status_codes sim) lane ≡ status_code_of (lane_at sim lane).status % 16
+pub status_shown : (sim : SimModule) (lane : ℕ) → IsLane lane → at_lane (status_codes sim) lane ≡ status_code_of (lane_at sim lane).status % 16
 status_shown sim lane within = listed_code (status_code sim) (λ lane. omega arith) lane within
 
 rejected_settles : (codes : List ℕ) (found : Option ℕ) (has : Bool) → unless_rejected codes found (met_if has) ≡ NotYet → (found ≡ None) × (has ≡ false)
@@ -201,11 +201,11 @@ statuses_settle sim lanes decided e =
             at (inr rejected) off = absurd (let wrong : false ≡ true = sym off ∙ ap is_rejection (status_shown sim lane within) ∙ rejected in cc)
 
 -- a lane of the set is in no apply where the read of statuses is met
-has_it : (a b : Bool) → (not a || b) ≡ true → a ≡ true → b ≡ true
+pub has_it : (a b : Bool) → (not a || b) ≡ true → a ≡ true → b ≡ true
 has_it true b e on = e
 has_it false b e on = absurd cc
 
-statuses_end : (sim : SimModule) (lanes : Lanes) (lane : ℕ) → IsLane lane → set.contains lanes lane ≡ true → judged_statuses lanes (status_codes sim) ≡ Met → is_in_progress (lane_at sim lane) ≡ true → ⊥
+pub statuses_end : (sim : SimModule) (lanes : Lanes) (lane : ℕ) → IsLane lane → set.contains lanes lane ≡ true → judged_statuses lanes (status_codes sim) ≡ Met → is_in_progress (lane_at sim lane) ≡ true → ⊥
 statuses_end sim lanes lane (from, to) inside e on =
     let all = reserved_met (status_codes sim) (lowest_lane is_reserved_status lanes (status_codes sim)) (lowest_lane is_rejection lanes (status_codes sim)) (all_lanes_have 1 lanes (status_codes sim)) e in
     let one : (at_lane (status_codes sim) lane == 1) ≡ true =
@@ -218,7 +218,7 @@ statuses_end sim lanes lane (from, to) inside e on =
 -- ---- operations
 
 -- what a store makes of the module
-after_store : (sim : SimModule) (address : ℕ) (bytes : List ℕ) (next : SimModule) → HasHalves sim → stored_bytes sim address bytes ≡ next → (passed_on conduct (Store A0 address (record { items = bytes })) sim).1 ≡ next
+pub after_store : (sim : SimModule) (address : ℕ) (bytes : List ℕ) (next : SimModule) → HasHalves sim → stored_bytes sim address bytes ≡ next → (passed_on conduct (Store A0 address (record { items = bytes })) sim).1 ≡ next
 after_store sim address bytes next has is = stores_half sim address bytes has ∙ is
 
 -- no refusal says that an apply is in progress, and each ends the wait
@@ -239,7 +239,7 @@ unfolding refusal
 is_refusal sim mask lane =
     refusal_by (not (is_deactivated sim lane)) (is_staged sim lane && is_none (staged_app sim lane)) (is_staged sim lane && is_explicit sim lane) (is_staged sim lane && not (is_path_right sim lane)) (not (are_paths_within sim mask lane))
 
-abbrev made_by : Bool → Bool → Lane → ConfigStatus → Lane
+abbrev pub made_by : Bool → Bool → Lane → ConfigStatus → Lane
 made_by outside applicable lane status = if outside then dropped_lane lane else if applicable then begun_lane lane else refused_lane lane status
 
 applied_is : (sim : SimModule) (mask : Lanes) (lane : ℕ) → IsLane lane → lane_at (applied_all sim mask) lane ≡ made_by (not (set.contains mask lane)) (is_applicable sim mask) (lane_at sim lane) (unwrap_or (refusal sim mask lane) Rejected)
@@ -254,7 +254,7 @@ decides_by : (applicable : Bool) (lane : Lane) (status : ConfigStatus) (delay mo
 decides_by true lane status delay most refused few = inl (refl, few)
 decides_by false lane status delay most refused few = inr (refused.off, refl, refused.decided)
 
-not_empty : (mask : Lanes) (lane : ℕ) → set.contains mask lane ≡ true → is_empty mask ≡ true → ⊥
+pub not_empty : (mask : Lanes) (lane : ℕ) → set.contains mask lane ≡ true → is_empty mask ≡ true → ⊥
 not_empty mask lane inside empty =
     let none : set.contains mask lane ≡ false = ap (λ (lanes : Lanes). set.contains lanes lane) (empty_of_len mask (eqb-true _ _ empty)) ∙ contains-empty nat_cmp lane in
     let wrong : false ≡ true = sym none ∙ inside in cc
@@ -263,16 +263,16 @@ module _ (most : ℕ) (lanes : Lanes) (sim : SimModule) (steady : IsSteady most 
   abbrev mask : Lanes
   mask = lanes_in (byte_of lanes)
 
-  in_mask : (lane : ℕ) (inside : Bool) → IsLane lane → set.contains lanes lane ≡ inside → set.contains mask lane ≡ inside
+  pub in_mask : (lane : ℕ) (inside : Bool) → IsLane lane → set.contains lanes lane ≡ inside → set.contains mask lane ≡ inside
   in_mask lane inside within e = in_byte_of lanes lane within ∙ e
 
-  outside_is : (lane : ℕ) → IsLane lane → set.contains lanes lane ≡ false → lane_at (applied_all sim mask) lane ≡ lane_at sim lane
+  pub outside_is : (lane : ℕ) → IsLane lane → set.contains lanes lane ≡ false → lane_at (applied_all sim mask) lane ≡ lane_at sim lane
   outside_is lane within e =
       applied_is sim mask lane within
       ∙ ap (λ (inside : Bool). made_by (not inside) (is_applicable sim mask) (lane_at sim lane) (unwrap_or (refusal sim mask lane) Rejected)) (in_mask lane false within e)
       ∙ not_dropped (lane_at sim lane) (steady.none lane within)
 
-  inside_is : (lane : ℕ) → IsLane lane → set.contains lanes lane ≡ true → lane_at (applied_all sim mask) lane ≡ made_by false (is_applicable sim mask) (lane_at sim lane) (unwrap_or (refusal sim mask lane) Rejected)
+  pub inside_is : (lane : ℕ) → IsLane lane → set.contains lanes lane ≡ true → lane_at (applied_all sim mask) lane ≡ made_by false (is_applicable sim mask) (lane_at sim lane) (unwrap_or (refusal sim mask lane) Rejected)
   inside_is lane within e =
       applied_is sim mask lane within ∙ ap (λ (inside : Bool). made_by (not inside) (is_applicable sim mask) (lane_at sim lane) (unwrap_or (refusal sim mask lane) Rejected)) (in_mask lane true within e)
 
@@ -303,7 +303,7 @@ module _ (most : ℕ) (lanes : Lanes) (sim : SimModule) (steady : IsSteady most 
   applied_by_mask true e run = none_applied e
   applied_by_mask false e run = all_applied run
 
-  are_applied : CountersRun most (applied sim mask) → AreApplied most lanes most (applied sim mask)
+  pub are_applied : CountersRun most (applied sim mask) → AreApplied most lanes most (applied sim mask)
   unfolding applied
   are_applied run = applied_by_mask (is_empty mask) refl run
 
@@ -312,7 +312,7 @@ decided_none : (left ticks : ℕ) (lane : Lane) → Decides left ticks lane → 
 decided_none left ticks lane (inl (on, few)) off = absurd (off on)
 decided_none left ticks lane (inr (quiet, none, decided)) off = (none, quiet)
 
-steady_applied : (most : ℕ) (lanes : Lanes) (ticks : ℕ) (sim : SimModule) → AreApplied most lanes ticks sim → ((lane : ℕ) → IsLane lane → set.contains lanes lane ≡ true → is_in_progress (lane_at sim lane) ≡ true → ⊥) → IsSteady most sim
+pub steady_applied : (most : ℕ) (lanes : Lanes) (ticks : ℕ) (sim : SimModule) → AreApplied most lanes ticks sim → ((lane : ℕ) → IsLane lane → set.contains lanes lane ≡ true → is_in_progress (lane_at sim lane) ≡ true → ⊥) → IsSteady most sim
 steady_applied most lanes ticks sim are off = record {
   eight = are.eight;
   counters = are.counters;
@@ -348,24 +348,24 @@ module _ (most : ℕ) (sim : SimModule) (has : HasHalves sim) where
       steady_tick most mid (steady_left most sim mid (subst (Leaves sim) (sym (stores_half sim address bytes has)) same) (run_after (Store A0 address (record { items = bytes })) steady.counters) steady)
 
   -- what is read
-  ready_told : (reply : Reply) → reply ≡ reply_of sim (operation tasks.FindReady) → judgement tasks.FindReady reply ≡ judged_module (module_codes.code_of sim.state)
+  pub ready_told : (reply : Reply) → reply ≡ reply_of sim (operation tasks.FindReady) → judgement tasks.FindReady reply ≡ judged_module (module_codes.code_of sim.state)
   ready_told reply gives =
       let (page, is) = reads_half sim (first_byte CGlobalStatus) (byte_count CGlobalStatus) has in
       ap (judgement tasks.FindReady) (gives ∙ is) ∙ find_judged (map (shown_byte sim page) (range_with_len (first_byte CGlobalStatus) (byte_count CGlobalStatus))) ∙ ap judged_module (read_state sim page)
 
-  paths_told : (task : Task) (told : List ℕ → ReplyJudgement) → operation task ≡ Fetch A0 (first_byte CPathStates) (byte_count CPathStates) → ((bytes : List ℕ) → judgement task (Bytes (record { items = bytes })) ≡ told bytes) → Shows 0x11 sim
+  pub paths_told : (task : Task) (told : List ℕ → ReplyJudgement) → operation task ≡ Fetch A0 (first_byte CPathStates) (byte_count CPathStates) → ((bytes : List ℕ) → judgement task (Bytes (record { items = bytes })) ≡ told bytes) → Shows 0x11 sim
       → (reply : Reply) → reply ≡ reply_of sim (operation task) → judgement task reply ≡ told (pairs (path_code sim))
   paths_told task told is judges shows reply gives =
       let (page, reads) = reads_half sim (first_byte CPathStates) (byte_count CPathStates) has in
       ap (judgement task) (gives ∙ ap (reply_of sim) is ∙ reads) ∙ judges (map (shown_byte sim page) (range_with_len (first_byte CPathStates) (byte_count CPathStates))) ∙ ap told (shown_paths sim page shows)
 
-  statuses_told : (lanes : Lanes) → Shows 0x11 sim → (reply : Reply) → reply ≡ reply_of sim (operation (tasks.AwaitApplied lanes)) → judgement (tasks.AwaitApplied lanes) reply ≡ judged_statuses lanes (codes_in (pairs (status_code sim)) 8)
+  pub statuses_told : (lanes : Lanes) → Shows 0x11 sim → (reply : Reply) → reply ≡ reply_of sim (operation (tasks.AwaitApplied lanes)) → judgement (tasks.AwaitApplied lanes) reply ≡ judged_statuses lanes (codes_in (pairs (status_code sim)) 8)
   statuses_told lanes shows reply gives =
       let (page, reads) = reads_half sim (first_byte CConfigStatus) (byte_count CConfigStatus) has in
       ap (judgement (tasks.AwaitApplied lanes)) (gives ∙ reads) ∙ statuses_judged lanes (map (shown_byte sim page) (range_with_len (first_byte CConfigStatus) (byte_count CConfigStatus)))
       ∙ ap (λ (bytes : List ℕ). judged_statuses lanes (codes_in bytes 8)) (shown_statuses sim page shows)
 
-  done : (address : ℕ) (bytes : List ℕ) (reply : Reply) → reply ≡ reply_of sim (Store A0 address (record { items = bytes })) → reply ≡ Done
+  pub done : (address : ℕ) (bytes : List ℕ) (reply : Reply) → reply ≡ reply_of sim (Store A0 address (record { items = bytes })) → reply ≡ Done
   done address bytes reply gives = gives ∙ takes_store sim address bytes has
 
   -- ---- of provisioning

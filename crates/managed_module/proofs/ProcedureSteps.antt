@@ -95,11 +95,11 @@ task_apart (tasks.CheckActive control) covers = covers
 task_apart (tasks.AwaitActivated lanes) covers = covers
 
 -- no task reads or selects a page
-abbrev offset_of : Op → ℕ
+abbrev pub offset_of : Op → ℕ
 offset_of (Fetch dev offset count) = offset
 offset_of (Store dev offset bytes) = offset
 
-task_elsewhere : (task : Task) → offset_of (operation task) ≡ 126 → ⊥
+pub task_elsewhere : (task : Task) → offset_of (operation task) ≡ 126 → ⊥
 task_elsewhere tasks.FindReady e = omega (arith, e)
 task_elsewhere (tasks.Deinitialize bits) e = omega (arith, e)
 task_elsewhere (tasks.AwaitDeactivated lanes) e = omega (arith, e)
@@ -135,7 +135,7 @@ known_page selected (Some other) page none e = let same : other ≡ page = cc in
       let on : (number == other) ≡ true = sym (ap (λ (s : KnownPage). is_known s other) is) ∙ is_there (is_known selected other) none in
       is ∙ ap (λ (n : ℕ). Known n) (eqb-true number other on)
 
-told_same : (found : Option ℕ) (list : TaskList) → told_lacked (λ (list : TaskList) number. list) found list ≡ list
+pub told_same : (found : Option ℕ) (list : TaskList) → told_lacked (λ (list : TaskList) number. list) found list ≡ list
 told_same None list = refl
 told_same (Some number) list = refl
 

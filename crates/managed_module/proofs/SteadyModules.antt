@@ -148,10 +148,10 @@ pub apply_stored : (sim : SimModule) (bits : ℕ) → Shows 0x10 sim → stored_
 unfolding stored_byte
 apply_stored sim bits shows = ap (λ (on : Bool). if on then applied sim (lanes_in bits) else sim) (controls_mapped sim shows)
 
-not_128 : (address : ℕ) → first_byte CStagedControl ≤ address → (address == 128) ≡ false
+pub not_128 : (address : ℕ) → first_byte CStagedControl ≤ address → (address == 128) ≡ false
 not_128 address high = grind (arith, nat_tests)
 
-not_at_apply : (address : ℕ) → first_byte CStagedControl ≤ address → (address == first_byte CApplyDPInit) ≡ false
+pub not_at_apply : (address : ℕ) → first_byte CStagedControl ≤ address → (address == first_byte CApplyDPInit) ≡ false
 not_at_apply address high = grind (arith, nat_tests)
 
 module _ (P : SimModule → Type 0) (stages : (sim : SimModule) (lane byte : ℕ) → P sim → P (staged_at sim lane byte)) where
@@ -169,7 +169,7 @@ module _ (P : SimModule → Type 0) (stages : (sim : SimModule) (lane byte : ℕ
       subst (λ (low : Bool). P (if low then stored_low sim address byte else if is_mapped sim 0x10 then stored_high sim address byte else sim)) (sym (high_test address upper))
       (either P (is_mapped sim 0x10) (stored_high sim address byte) sim control p)
 
-  stage_bytes : (sim : SimModule) (address : ℕ) (bytes : List ℕ) → first_byte CStagedControl ≤ address → P sim → P (stored_bytes sim address bytes)
+  pub stage_bytes : (sim : SimModule) (address : ℕ) (bytes : List ℕ) → first_byte CStagedControl ≤ address → P sim → P (stored_bytes sim address bytes)
   stage_bytes sim address [] high p = p
   stage_bytes sim address (byte ∷ bytes) high p = stage_bytes (stored_byte sim address byte) (address + 1) bytes (omega (arith, high)) (stage_byte sim address byte high p)
 
