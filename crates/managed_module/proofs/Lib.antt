@@ -28,3 +28,16 @@ pub mod OwnTurns
 pub mod OwnJobs
 pub mod OwnSteps
 pub mod OwnStories
+pub mod StagedBytes
+pub mod PlanPhases
+pub mod PlanReplies
+pub mod PlanTaking
+pub mod PlanApplying
+pub mod PlanActivation
+pub mod PlanSteps
+pub mod PlanTime
+pub mod PlanNearer
+pub mod PlanJobs
+pub mod PlanTurns
+pub mod PlanStories
+pub mod PlanKept

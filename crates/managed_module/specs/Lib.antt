@@ -2,3 +2,4 @@ pub mod Managed
 pub mod Bounds
 pub mod Succeeds
 pub mod ModuleGoals
+pub mod ManagedPlans

@@ -3,6 +3,7 @@ ghost use Rattle.managed_module.specs.Bounds.{ComesUpWithin, NewIsSteady};
 ghost use Rattle.managed_module.specs.Managed.{ManagedComesUp};
 ghost use Rattle.managed_module.specs.ModuleGoals.{GoalsAreOwn};
 ghost use Rattle.managed_module.specs.Succeeds.{ComesUpSuited};
+ghost use Rattle.managed_module.specs.ManagedPlans.{PlansComeUp, PlansDontFail};
 
 /// A port at work on a simulated CMIS module, in whatever state, over a bus that refuses nothing, with pauses of any length: unless
 /// something fails or the module is left alone, it is up once more operations were made than 61, and 3 for each read of a state
@@ -35,4 +36,16 @@ pub fn a_suited_module_comes_up()
 /// if what is active at first is a plan.
 pub fn a_goal_is_of_the_module()
     ensures { GoalsAreOwn }
+{}
+
+/// A port that begins to provision a plan of what a ready module advertises, with kept paths that are active, makes no operation that
+/// fails before the module is up, but for a procedure that takes longer than it may, in milliseconds or in operations.
+pub fn a_plan_of_its_own_does_not_fail()
+    ensures { PlansDontFail }
+{}
+
+/// None does if a procedure may make as many operations as the module's delays give, and pause as often: so the module is up within
+/// that many.
+pub fn a_plan_of_its_own_comes_up()
+    ensures { PlansComeUp }
 {}
