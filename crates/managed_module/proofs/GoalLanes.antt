@@ -64,7 +64,7 @@ pub length_of : (advert : Advertised) (paths : List Path) → length (control_by
 unfolding control_bytes
 length_of advert paths = length-map-range_with_len (control_byte advert paths) 1 8
 
-still_admissible : (advert : Advertised) (test : Path → Bool) (paths : List Path) → IsAdmissible advert paths → IsAdmissible advert (filter test paths)
+pub still_admissible : (advert : Advertised) (test : Path → Bool) (paths : List Path) → IsAdmissible advert paths → IsAdmissible advert (filter test paths)
 still_admissible advert test paths plan = record {
   allowed = All-filter test (λ path. is_allowed advert path ≡ true) paths plan.allowed;
   apart = AllPairs-filter (λ path other. are_apart advert path other ≡ true) test paths plan.apart;

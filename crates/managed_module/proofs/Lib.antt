@@ -41,3 +41,4 @@ pub mod PlanJobs
 pub mod PlanTurns
 pub mod PlanStories
 pub mod PlanKept
+pub mod PlanGoals

@@ -34,7 +34,8 @@ use Rattle.port_manager.specs.Turns as turns
 use Rattle.sim_module.specs.declared.module.SimModule.{SimModule}
 use Rattle.sim_module.specs.Modules.{conduct}
 use Rattle.managed_module.specs.Managed.{HasHalves, IsCmisStage}
-use Rattle.managed_module.specs.Succeeds.{IsUpResult, AreWhole, IsAwaited, NoProcedureFails, Suits}
+use Rattle.managed_module.specs.ComingUp.{IsUpResult}
+use Rattle.managed_module.specs.Succeeds.{AreWhole, IsAwaited, NoProcedureFails, Suits}
 use Rattle.managed_module.proofs.BoundLaw.{same_request}
 use Rattle.managed_module.proofs.OwnAdverts.{IsPaged}
 use Rattle.managed_module.proofs.OwnHalves.{is_cmis}

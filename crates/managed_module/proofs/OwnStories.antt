@@ -25,7 +25,8 @@ use Rattle.sim_module.specs.declared.module.SimModule.{SimModule}
 use Rattle.sim_module.specs.Modules.{conduct}
 use Rattle.managed_module.specs.Bounds.{IsSteady, WantsAwake}
 use Rattle.managed_module.specs.Managed.{HasHalves, IsCmisStage, Manages}
-use Rattle.managed_module.specs.Succeeds.{HasComeUp, IsUpResult, AllSuit, AreWhole, ComesUpSuited, IsAwaited, NoProcedureFails, ProceduresSucceed, Suits, Works}
+use Rattle.managed_module.specs.ComingUp.{HasComeUp, IsUpResult}
+use Rattle.managed_module.specs.Succeeds.{AllSuit, AreWhole, ComesUpSuited, IsAwaited, NoProcedureFails, ProceduresSucceed, Suits, Works}
 use Rattle.managed_module.proofs.BoundLaw.{comes_up_within}
 use Rattle.managed_module.proofs.Halves.{halves_passed, halves_paused, halves_ticked}
 use Rattle.managed_module.proofs.OwnAdverts.{IsPaged, is_paged}

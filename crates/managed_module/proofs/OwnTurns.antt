@@ -10,7 +10,8 @@ use Rattle.applications.specs.Refusals.{advert_fault_under}
 use Rattle.applications.specs.Weights.{weight_at}
 use Rattle.plan_certificate.specs.Paths.{app_of, is_allowed}
 use Rattle.port_manager.specs.Goals.{conventions_of}
-use Rattle.managed_module.specs.Succeeds.{HasPath, IsNoProcedure, IsSpare, IsUpNote, Suits}
+use Rattle.managed_module.specs.ComingUp.{IsUpNote}
+use Rattle.managed_module.specs.Succeeds.{HasPath, IsNoProcedure, IsSpare, Suits}
 use Rattle.managed_module.proofs.OwnLanes.{KeepsLanes, lanes_paused}
 use Rattle.std.proofs.Common.{◌≡◌, ◌⊎◌, inl, inr, ℕ, ◌+◌, ◌*◌, ◌≤◌, Bool, true, false, List, [], ◌∷◌, Option, Some, None, refl, sym, ap, subst, ◌∙◌, arith}
 use Rattle.std.specs.FinMap as finmap

@@ -30,7 +30,8 @@ use Rattle.port_manager.proofs.TurnCases.{tasks_never}
 use Rattle.sim_module.specs.declared.module.SimModule.{SimModule}
 use Rattle.sim_module.specs.Modules.{conduct}
 use Rattle.sim_module.specs.Ticks.{ticked}
-use Rattle.managed_module.specs.ManagedPlans.{IsGoalFor, IsUpNote, TookTooLong}
+use Rattle.managed_module.specs.ComingUp.{IsUpNote}
+use Rattle.managed_module.specs.ManagedPlans.{IsGoalFor, TookTooLong}
 use Rattle.managed_module.proofs.PlanPhases.{Activates, Provisions, Rests, activates_tick, provisions_tick}
 use Rattle.managed_module.proofs.PlanSteps.{IsFine}
 use Rattle.port_manager.specs.declared.port.Stage.TheVariants as stages
@@ -80,6 +81,10 @@ begins_fine most conventions paths kept goal patience memory active sim fits res
   fits = fits;
   fine = record { same = refl; none = refl; at = rests };
 }
+
+-- a plan that is active already
+pub begins_active : (most : ℕ) (goal : Goal) (patience : Patience) (memory : Memory) (sim : SimModule) → Rests most memory goal.control sim → IsFineJob most (activating goal patience) sim
+begins_active most goal patience memory sim rests = record { memory = memory; active = goal.control; fine = record { same = refl; none = refl; at = rests } }
 
 fine_tick : (most : ℕ) (job : Job) (sim : SimModule) → IsFineJob most job sim → IsFineJob most job (ticked sim)
 fine_tick most (jobs.Reading job woken) sim fine = fine

@@ -36,7 +36,8 @@ use Rattle.sim_module.specs.Modules.{conduct}
 use Rattle.sim_liveness.proofs.OwnPlans.{plan_read}
 use Rattle.managed_module.specs.Bounds.{IsAsleep}
 use Rattle.managed_module.specs.Managed.{HasHalves, Manages}
-use Rattle.managed_module.specs.ManagedPlans.{Begins, HasComeUp, IsInTime, IsReadyFor, IsUndisturbed, IsUpResult, LastsFor, PlansComeUp, PlansDontFail, TookTooLong, most_made}
+use Rattle.managed_module.specs.ComingUp.{HasComeUp, IsUndisturbed, IsUpResult}
+use Rattle.managed_module.specs.ManagedPlans.{BeginsToProvision, IsInTime, IsReadyFor, LastsFor, PlansComeUp, PlansDontFail, TookTooLong, most_made}
 use Rattle.managed_module.proofs.GoalLanes.{whole_by}
 use Rattle.managed_module.proofs.Halves.{halves_passed, halves_paused, halves_ticked}
 use Rattle.managed_module.proofs.JobSteps.{reading_waits}
@@ -179,7 +180,7 @@ module _ (most : ℕ) (patience : Patience) (late : Type 0) (P : Outcome → Typ
 
 -- ---- the laws
 
-module _ (most : ℕ) (conventions : Conventions) (paths kept : List Path) (goal : Goal) (patience : Patience) (port : Port) (sim : SimModule) (ready : IsReadyFor most conventions paths kept goal sim) (begins : Begins goal patience port) where
+module _ (most : ℕ) (conventions : Conventions) (paths kept : List Path) (goal : Goal) (patience : Patience) (port : Port) (sim : SimModule) (ready : IsReadyFor most conventions paths kept goal sim) (begins : BeginsToProvision goal patience port) where
   at_rest : Rests most sim.image (active_bytes sim) sim
   at_rest = record {
     steady = ready.steady;

@@ -1,5 +1,6 @@
 pub mod Managed
 pub mod Bounds
+pub mod ComingUp
 pub mod Succeeds
 pub mod ModuleGoals
 pub mod ManagedPlans

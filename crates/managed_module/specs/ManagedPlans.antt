@@ -1,6 +1,6 @@
 -- That a port which begins to provision a plan of what a simulated module advertises brings it up, if it grants the time.
 -- (docs/module.md; this project's own)
-use Rattle.std.specs.Prelude.{◌≡◌, ◌⊎◌, ◌+◌, ◌*◌, ◌<◌, ◌≤◌, ℕ, true, List, [], ◌∷◌, All, Contains}
+use Rattle.std.specs.Prelude.{◌≡◌, ◌⊎◌, ◌+◌, ◌*◌, ◌<◌, ◌≤◌, ℕ, true, List, All, Contains}
 use Rattle.field_tables.specs.LaneSets.{IsLane}
 use Rattle.paged_memory.specs.Images.{Memory}
 use Rattle.conversations.specs.declared.pausing.Patience.{Patience}
@@ -20,20 +20,19 @@ use Rattle.port_manager.specs.declared.port.Outcome.TheVariants as outcome
 use Rattle.port_manager.specs.declared.port.Outstanding.TheVariants as outstanding
 use Rattle.port_manager.specs.declared.port.Port.{Port}
 use Rattle.port_manager.specs.declared.port.Stage.TheVariants as stages
-use Rattle.port_manager.specs.declared.turn.Note.{Note}
-use Rattle.port_manager.specs.declared.turn.Note.TheVariants as notes
 use Rattle.port_manager.specs.declared.turn.PortFault.{PortFault}
 use Rattle.port_manager.specs.declared.turn.PortFault.TheVariants as faults
 use Rattle.port_manager.specs.declared.turn.ProcedureFault.{ProcedureFault}
 use Rattle.port_manager.specs.declared.turn.ProcedureFault.TheVariants as why
 use Rattle.port_manager.specs.Jobs.{provisioning}
 use Rattle.port_manager.specs.Progress.{IsGoingOn, made_in}
-use Rattle.port_manager.specs.Stories.{Story, plug, pull, reconsider, acknowledge, ask, make, drop, hold, demand, hear}
+use Rattle.port_manager.specs.Stories.{Story}
 use Rattle.sim_module.specs.declared.module.SimModule.{SimModule}
 use Rattle.sim_module.specs.KeptPaths.{IsActivePath}
 use Rattle.sim_module.specs.Lanes.{active_bytes}
 use Rattle.sim_module.specs.OwnAdverts.{own_advert}
 use Rattle.managed_module.specs.Bounds.{IsSteady, until_activated, until_applied, until_deactivated}
+use Rattle.managed_module.specs.ComingUp.{HasComeUp, IsUndisturbed}
 use Rattle.managed_module.specs.Managed.{HasHalves, Manages}
 
 -- the goal is a plan of what this memory advertises; the paths that it keeps are active, with the plan's control bytes
@@ -55,7 +54,7 @@ pub record IsReadyFor (most : ℕ) (conventions : Conventions) (paths kept : Lis
   pub fits : IsGoalFor conventions paths kept goal sim.image (active_bytes sim)
 
 -- the port begins to provision it
-pub record Begins (goal : Goal) (patience : Patience) (port : Port) : Type 0 where
+pub record BeginsToProvision (goal : Goal) (patience : Patience) (port : Port) : Type 0 where
   pub stage : port.stage ≡ stages.Working (provisioning goal patience)
   pub free : port.outstanding ≡ outstanding.Nothing
 
@@ -83,20 +82,6 @@ IsInTime (outcome.Paused moment) = Unit {0}
 IsInTime (outcome.Failed because moment) = ¬ (TookTooLong because)
 IsInTime (outcome.Left reason) = Unit {0}
 
--- the module stays, nothing else is wanted, and this holds of each result
-abbrev pub IsUndisturbed : (Outcome → Type 0) → Story → Type 0
-IsUndisturbed P [] = Unit {0}
-IsUndisturbed P (plug now ∷ before) = ⊥
-IsUndisturbed P (pull ∷ before) = ⊥
-IsUndisturbed P (reconsider ∷ before) = ⊥
-IsUndisturbed P (hold held ∷ before) = ⊥
-IsUndisturbed P (demand request ∷ before) = ⊥
-IsUndisturbed P (acknowledge past ∷ before) = IsUndisturbed P before
-IsUndisturbed P (hear alive began ∷ before) = IsUndisturbed P before
-IsUndisturbed P (ask op moment ∷ before) = IsUndisturbed P before
-IsUndisturbed P (make op reply wanted now result ∷ before) = P result × IsUndisturbed P before
-IsUndisturbed P (drop ∷ before) = IsUndisturbed P before
-
 -- so many operations are made at most
 abbrev pub most_made : ℕ → ℕ
 most_made most = 32 + (until_deactivated most + (until_applied most + until_activated most))
@@ -108,45 +93,16 @@ pub record LastsFor (made : ℕ) (patience : Patience) : Type 0 where
 
 -- ---- what comes of it
 
-abbrev pub IsUpNote : Note → Type 0
-IsUpNote notes.Quiet = ⊥
-IsUpNote notes.Identified = ⊥
-IsUpNote notes.Woken = ⊥
-IsUpNote notes.Provisioned = ⊥
-IsUpNote notes.CameUp = Unit {0}
-IsUpNote notes.Held = ⊥
-
-abbrev pub IsUpResult : Outcome → Type 0
-IsUpResult outcome.Dropped = ⊥
-IsUpResult (outcome.Went note) = IsUpNote note
-IsUpResult (outcome.Paused moment) = ⊥
-IsUpResult (outcome.Failed because moment) = ⊥
-IsUpResult (outcome.Left reason) = ⊥
-
--- the module has come up
-abbrev pub HasComeUp : Story → Type 0
-HasComeUp [] = ⊥
-HasComeUp (plug now ∷ before) = HasComeUp before
-HasComeUp (pull ∷ before) = HasComeUp before
-HasComeUp (reconsider ∷ before) = HasComeUp before
-HasComeUp (hold held ∷ before) = HasComeUp before
-HasComeUp (demand request ∷ before) = HasComeUp before
-HasComeUp (acknowledge past ∷ before) = HasComeUp before
-HasComeUp (hear alive began ∷ before) = HasComeUp before
-HasComeUp (ask op moment ∷ before) = HasComeUp before
-HasComeUp (make op reply wanted now result ∷ before) = IsUpResult result ⊎ HasComeUp before
-HasComeUp (drop ∷ before) = HasComeUp before
-
 -- until it has, nothing fails but by taking too long
 abbrev pub PlansDontFail : Type 0
 PlansDontFail =
     (most : ℕ) (conventions : Conventions) (paths kept : List Path) (goal : Goal) (patience : Patience) (port later : Port) (sim after : SimModule) (story : Story)
-    → IsReadyFor most conventions paths kept goal sim → Begins goal patience port → Manages port sim story later after → IsUndisturbed IsInTime story
+    → IsReadyFor most conventions paths kept goal sim → BeginsToProvision goal patience port → Manages port sim story later after → IsUndisturbed IsInTime story
     → HasComeUp story ⊎ IsGoingOn story
 
 -- and nothing takes too long, if the patience lasts
 abbrev pub PlansComeUp : Type 0
 PlansComeUp =
     (most : ℕ) (conventions : Conventions) (paths kept : List Path) (goal : Goal) (patience : Patience) (port later : Port) (sim after : SimModule) (story : Story)
-    → IsReadyFor most conventions paths kept goal sim → Begins goal patience port → LastsFor (most_made most) patience → Manages port sim story later after
+    → IsReadyFor most conventions paths kept goal sim → BeginsToProvision goal patience port → LastsFor (most_made most) patience → Manages port sim story later after
     → IsUndisturbed (λ result. Unit {0}) story → most_made most < made_in story → HasComeUp story

@@ -28,7 +28,8 @@ use Rattle.sim_module.specs.Lanes.{active_bytes}
 use Rattle.sim_liveness.specs.Accepted.{read_by}
 use Rattle.managed_module.specs.Bounds.{IsSteady}
 use Rattle.managed_module.specs.Managed.{HasHalves}
-use Rattle.managed_module.specs.Succeeds.{AllSuit, AreWhole, HasComeUp, IsAwaited, ProceduresSucceed, Works}
+use Rattle.managed_module.specs.ComingUp.{HasComeUp}
+use Rattle.managed_module.specs.Succeeds.{AllSuit, AreWhole, IsAwaited, ProceduresSucceed, Works}
 
 -- the control bytes that are active are those of a plan
 pub record IsPlanned (conventions : Conventions) (sim : SimModule) : Type 0 where

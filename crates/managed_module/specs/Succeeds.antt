@@ -20,8 +20,6 @@ use Rattle.port_manager.specs.declared.deciding.Wanted.{Wanted}
 use Rattle.port_manager.specs.declared.port.Outcome.{Outcome}
 use Rattle.port_manager.specs.declared.port.Outcome.TheVariants as outcome
 use Rattle.port_manager.specs.declared.port.Port.{Port}
-use Rattle.port_manager.specs.declared.turn.Note.{Note}
-use Rattle.port_manager.specs.declared.turn.Note.TheVariants as notes
 use Rattle.port_manager.specs.declared.turn.PortFault.{PortFault}
 use Rattle.port_manager.specs.declared.turn.PortFault.TheVariants as faults
 use Rattle.port_manager.specs.Goals.{conventions_of}
@@ -33,6 +31,7 @@ use Rattle.sim_module.specs.declared.module.SimModule.{SimModule}
 use Rattle.sim_module.specs.Lanes.{lane_at}
 use Rattle.sim_liveness.specs.Accepted.{read_by}
 use Rattle.managed_module.specs.Bounds.{IsSteady, most_waits}
+use Rattle.managed_module.specs.ComingUp.{HasComeUp, IsUndisturbed}
 use Rattle.managed_module.specs.Managed.{Answered, HasHalves}
 
 -- ---- the module
@@ -100,53 +99,14 @@ NoProcedureFails (outcome.Paused moment) = Unit {0}
 NoProcedureFails (outcome.Failed fault moment) = IsNoProcedure fault
 NoProcedureFails (outcome.Left reason) = Unit {0}
 
--- the module stays, no other weights are wanted, and neither provisioning nor activation fails
+-- the module stays, nothing else is asked for, and neither provisioning nor activation fails
 abbrev pub ProceduresSucceed : Story → Type 0
-ProceduresSucceed [] = Unit {0}
-ProceduresSucceed (plug now ∷ before) = ⊥
-ProceduresSucceed (pull ∷ before) = ⊥
-ProceduresSucceed (reconsider ∷ before) = ⊥
-ProceduresSucceed (hold held ∷ before) = ⊥
-ProceduresSucceed (demand request ∷ before) = ⊥
-ProceduresSucceed (acknowledge past ∷ before) = ProceduresSucceed before
-ProceduresSucceed (hear alive began ∷ before) = ProceduresSucceed before
-ProceduresSucceed (ask op moment ∷ before) = ProceduresSucceed before
-ProceduresSucceed (make op reply wanted now result ∷ before) = NoProcedureFails result × ProceduresSucceed before
-ProceduresSucceed (drop ∷ before) = ProceduresSucceed before
+ProceduresSucceed story = IsUndisturbed NoProcedureFails story
 
 -- a port and a module become others by a story, whatever was read
 abbrev pub Works : Port → SimModule → Story → Port → SimModule → Type 0
 Works port sim [] later after = (later ≡ port) × (after ≡ sim)
 Works port sim (event ∷ before) later after = (between : Port) × (sim_between : SimModule) × Works port sim before between sim_between × Becomes between event later × Answered event sim_between after
-
-abbrev pub IsUpNote : Note → Type 0
-IsUpNote notes.Quiet = ⊥
-IsUpNote notes.Identified = ⊥
-IsUpNote notes.Woken = ⊥
-IsUpNote notes.Provisioned = ⊥
-IsUpNote notes.CameUp = Unit {0}
-IsUpNote notes.Held = ⊥
-
-abbrev pub IsUpResult : Outcome → Type 0
-IsUpResult outcome.Dropped = ⊥
-IsUpResult (outcome.Went note) = IsUpNote note
-IsUpResult (outcome.Paused moment) = ⊥
-IsUpResult (outcome.Failed fault moment) = ⊥
-IsUpResult (outcome.Left reason) = ⊥
-
--- the module has come up
-abbrev pub HasComeUp : Story → Type 0
-HasComeUp [] = ⊥
-HasComeUp (plug now ∷ before) = HasComeUp before
-HasComeUp (pull ∷ before) = HasComeUp before
-HasComeUp (reconsider ∷ before) = HasComeUp before
-HasComeUp (hold held ∷ before) = HasComeUp before
-HasComeUp (demand request ∷ before) = HasComeUp before
-HasComeUp (acknowledge past ∷ before) = HasComeUp before
-HasComeUp (hear alive began ∷ before) = HasComeUp before
-HasComeUp (ask op moment ∷ before) = HasComeUp before
-HasComeUp (make op reply wanted now result ∷ before) = IsUpResult result ⊎ HasComeUp before
-HasComeUp (drop ∷ before) = HasComeUp before
 
 -- the module has come up once so many operations were made since the plug, unless provisioning or activation fails: neither does a
 -- reading fail, nor is it woken up in vain, nor left alone
