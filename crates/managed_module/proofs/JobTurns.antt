@@ -232,7 +232,7 @@ reads_few : (most : ℕ) (woken : Bool) (less : ℕ) → reading_waits most woke
 reads_few most true less few = few
 reads_few most false less few = omega (arith, few)
 
-activating_at : (most : ℕ) (goal : Goal) (patience : Patience) (after : SimModule) (less : ℕ) → IsWhole goal → IsSteady most after → until_activated most ≤ less → JobAt most (activating goal patience) after less
+pub activating_at : (most : ℕ) (goal : Goal) (patience : Patience) (after : SimModule) (less : ℕ) → IsWhole goal → IsSteady most after → until_activated most ≤ less → JobAt most (activating goal patience) after less
 activating_at most goal patience after less whole steady few = (refl, whole, steady.counters, (λ page e. absurd cc), (steady, few))
 
 decided_leads : (most done budget : ℕ) (after : SimModule) (woken : Bool) (patience : Patience) (decision : Decision) → IsJudgedWhole decision → (less : ℕ) → IsSteady most after → reading_waits most woken ≤ less → less ≤ budget

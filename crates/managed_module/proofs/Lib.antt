@@ -11,6 +11,7 @@ pub mod JobSteps
 pub mod GoalLanes
 pub mod JobTurns
 pub mod BoundLaw
+pub mod OwnProcedures
 pub mod OwnPatience
 pub mod OwnLanes
 pub mod OwnWaking

@@ -90,6 +90,20 @@ named_goal : (wanted : Wanted) (page : List ℕ) (goal other : Goal) → named (
 named_goal wanted page goal other e =
     named_by (has_no_plan wanted goal) (has_all page goal.control) (are_up page goal.control goal.lanes) (may_activate page goal.lanes wanted.may_take_down) (may_provision page goal.outside wanted.may_take_down) goal other e
 
+-- lanes are activated straight away where page 11h shows the control bytes of all
+activates_by : (none all up activate provision : Bool) (goal other : Goal) → chosen_by none all up activate provision goal ≡ Activate other → (all ≡ true) × (goal ≡ other)
+activates_by true all up activate provision goal other e = absurd cc
+activates_by false true true activate provision goal other e = absurd cc
+activates_by false true false true provision goal other e = (refl, let same : Activate goal ≡ Activate other = e in cc)
+activates_by false true false false provision goal other e = absurd cc
+activates_by false false up activate true goal other e = absurd cc
+activates_by false false up activate false goal other e = absurd cc
+
+activates_all : (wanted : Wanted) (page : List ℕ) (goal other : Goal) → judged_by wanted page goal ≡ Activate other → has_all page other.control ≡ true
+activates_all wanted page goal other e =
+    let by = activates_by (has_no_plan wanted goal) (has_all page goal.control) (are_up page goal.control goal.lanes) (may_activate page goal.lanes wanted.may_take_down) (may_provision page goal.outside wanted.may_take_down) goal other e in
+    subst (λ (goal : Goal). has_all page goal.control ≡ true) by.1 by.0
+
 -- ---- a decision
 
 module _ (sim : SimModule) (wanted : Wanted) (suits : Suits sim wanted) (image : Memory) (whole : IsWholeImage sim.image image) (lanes : HasLanes image sim) (decision : Decision) where
@@ -98,6 +112,7 @@ module _ (sim : SimModule) (wanted : Wanted) (suits : Suits sim wanted) (image :
     pub work : IsWork decision
     pub ready : number image fields.CModuleState ≡ 3
     pub goals : (goal : Goal) → named decision ≡ Some goal → HasGoal (with_active (active_in image) (read_by (conventions_of wanted) sim)) wanted lanes.page goal
+    pub all : (goal : Goal) → decision ≡ Activate goal → has_all lanes.page goal.control ≡ true
 
   -- or the module isn't ready yet
   abbrev pub IsGood : Type 0
@@ -119,6 +134,7 @@ module _ (sim : SimModule) (wanted : Wanted) (suits : Suits sim wanted) (image :
       inl (record {
         ready = ready;
         work = subst IsWork (sym is) (judged_work wanted page goal (has_a_plan sim wanted (active_in image) page goal suits.plan own) (each_may page shown));
+        all = λ other e. subst (λ (page : List ℕ). has_all page other.control ≡ true) (sym shown) (activates_all wanted page goal other (sym is ∙ e));
         goals = λ other e.
             subst (λ (page : List ℕ). HasGoal (with_active (active_in image) (read_by (conventions_of wanted) sim)) wanted page other) (sym shown)
             (subst (HasGoal (with_active (active_in image) (read_by (conventions_of wanted) sim)) wanted page) (named_goal wanted page goal other (ap named (sym is) ∙ e)) own);

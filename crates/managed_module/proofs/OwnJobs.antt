@@ -5,7 +5,7 @@ use Rattle.applications.specs.Advertised.{Advertised, with_active, advertised_un
 use Rattle.plan_certificate.specs.Plans.{IsAdmissible}
 use Rattle.control_sets.specs.ControlBytes.{control_bytes}
 use Rattle.port_manager.specs.declared.turn.Note.TheVariants as notes
-use Rattle.port_manager.specs.Goals.{HasGoal, at_lane, conventions_of}
+use Rattle.port_manager.specs.Goals.{HasGoal, active_at, at_lane, conventions_of}
 use Rattle.sim_liveness.specs.Accepted.{read_by}
 use Rattle.managed_module.specs.ModuleGoals.{IsOwnGoal, IsPlanned}
 use Rattle.managed_module.proofs.GoalLanes.{named}
@@ -15,7 +15,7 @@ use Rattle.managed_module.proofs.OwnLanes.{HasLanes, KeepsLanes, lanes_after}
 use Rattle.managed_module.proofs.OwnReplies.{harmless}
 use Rattle.managed_module.proofs.OwnWaking.{waking_lanes, IsOwnWaking, begun_waking, waking_begins, waking_turns}
 use Rattle.managed_module.proofs.ProcedureSteps.{harmless_leaves}
-use Rattle.std.proofs.Common.{◌≡◌, inl, inr, ℕ, ◌≤◌, Bool, true, false, List, Option, Some, None, refl, sym, ap, subst, ◌∙◌, arith}
+use Rattle.std.proofs.Common.{◌≡◌, ◌⊎◌, inl, inr, ℕ, ◌≤◌, Bool, true, false, List, Option, Some, None, refl, sym, ap, subst, ◌∙◌, arith}
 use Rattle.bus_model.specs.declared.operation.Op.{Op}
 use Rattle.bus_model.specs.declared.operation.Reply.{Reply}
 use Rattle.bus_model.specs.Operations.{Answers}
@@ -38,38 +38,85 @@ use Rattle.port_manager.specs.declared.job.Job.TheVariants as jobs
 use Rattle.port_manager.specs.declared.turn.ProcedureFault.{ProcedureFault}
 use Rattle.port_manager.specs.Jobs.{asked, paged_halves, reading_after, reading_wants, waking_after, procedure_after, procedure_wants, paged_tasks}
 use Rattle.port_manager.specs.Patients.{Patient, after_on, pause_after as pause_of_patient, wants_on}
-use Rattle.port_manager.specs.Turns.{GoesTo, IsRead, IsReadingTurn, IsTurn, Turn, activated, decided, fault_in, provisioned}
+use Rattle.port_manager.specs.Turns.{GoesTo, IsRead, IsReadingTurn, IsTurn, Turn, activated, decided, fault_in, going, provisioned}
 use Rattle.port_manager.proofs.PatientLaws.{never_waits, paged_never}
 use Rattle.port_manager.proofs.TurnCases.{halves_never}
 use Rattle.sim_module.specs.declared.module.SimModule.{SimModule}
 use Rattle.sim_module.specs.Modules.{conduct}
 use Rattle.managed_module.specs.Bounds.{IsSteady}
 use Rattle.managed_module.specs.Managed.{HasHalves}
-use Rattle.managed_module.specs.Succeeds.{AreWhole, IsAwaited, Suits}
+use Rattle.managed_module.specs.ComingUp.{IsUpNote}
+use Rattle.managed_module.specs.SuitedModules.{IsProvisionable}
+use Rattle.managed_module.specs.Succeeds.{AreWhole, IsAwaited, IsNoProcedure, Suits}
 use Rattle.managed_module.proofs.Halves.{halves_passed, halves_ticked}
 use Rattle.managed_module.proofs.JobTurns.{ends_or_goes}
 use Rattle.managed_module.proofs.OwnAdverts.{IsPaged}
 use Rattle.managed_module.proofs.OwnDecisions.{IsGood, IsWholeImage, IsWork, decides, patience_same}
 use Rattle.managed_module.proofs.OwnHalves.{IsOwn}
 use Rattle.managed_module.proofs.OwnReading.{IsOwnReading}
-use Rattle.managed_module.proofs.OwnReadingEnds.{ends, goes_on, image_kept}
+use Rattle.managed_module.proofs.OwnReadingEnds.{advert_kept, ends, goes_on, image_kept}
+use Rattle.managed_module.proofs.OwnProcedures.{IsOnWay, all_active, begins_activating, begins_provisioning, way_turns}
+use Rattle.managed_module.proofs.PlanJobs.{WellTurn}
+use Rattle.port_manager.specs.Turns as turns
+use Rattle.sim_module.specs.Lanes.{active_bytes}
+use Rattle.sim_module.specs.OwnAdverts.{own_advert}
+use Rattle.field_tables.specs.LaneSets.{IsLane}
 use Rattle.managed_module.proofs.OwnTasks.{module_after, reply_of}
-use Rattle.managed_module.proofs.OwnTurns.{OwnJob, OwnTurn, going_own, not_begun, reading_begins, suits_now}
+use Rattle.managed_module.proofs.OwnTurns.{OwnJob, OwnTurn, going_own, is_identified, not_begun, reading_begins, suits_now}
+
+-- ---- turns of provisioning and activation
+
+abbrev IsProcedure : Job → Type 0
+IsProcedure (jobs.Reading job woken) = ⊥
+IsProcedure (jobs.Waking job) = ⊥
+IsProcedure (jobs.Sleeping job) = ⊥
+IsProcedure (jobs.Provisioning job goal) = Unit {0}
+IsProcedure (jobs.Activating job goal) = Unit {0}
+IsProcedure (jobs.Watching job) = ⊥
+
+-- the module has come up, or one of the two goes on, or fails
+abbrev ProcedureTurn : Turn → Type 0
+ProcedureTurn (turns.On job note) = IsUpNote note ⊎ (IsProcedure job × (is_identified note ≡ false) × (¬ (IsUpNote note)))
+ProcedureTurn (turns.Paused job time) = IsProcedure job
+ProcedureTurn (turns.Failed fault) = ¬ (IsNoProcedure fault)
+ProcedureTurn (turns.Left reason) = ⊥
+
+going_turn : (pause : Option ℕ) (job : Job) → IsProcedure job → ProcedureTurn (going pause job)
+going_turn None job is = inr (is, refl, λ up. up)
+going_turn (Some time) job is = is
+
+provisioned_turn : (goal : Goal) (patience : Patience) (because : Option ProcedureFault) → ProcedureTurn (provisioned goal patience because)
+provisioned_turn goal patience None = inr (tt, refl, λ up. up)
+provisioned_turn goal patience (Some because) = λ none. none
+
+activated_turn : (goal : Goal) (patience : Patience) (because : Option ProcedureFault) → ProcedureTurn (activated goal patience because)
+activated_turn goal patience None = inl tt
+activated_turn goal patience (Some because) = λ none. none
+
+later_by : {E : Type 0} (next : Next (Spent E)) (pause : Option ℕ) (job : Job) (turn : Turn) (made : Option E → Turn) → IsProcedure job → ((end : Option E) → ProcedureTurn (made end)) → GoesTo next pause job (λ end turn. turn ≡ made end) turn
+    → ProcedureTurn turn
+later_by (Do op) pause job turn made holds ends is = subst ProcedureTurn (sym is) (going_turn pause job holds)
+later_by (Wait time) pause job turn made holds ends is = subst ProcedureTurn (sym is) (going_turn pause job holds)
+later_by (End spent) pause job turn made holds ends is = subst ProcedureTurn (sym is) (ends spent.end)
 
 -- ---- one operation
 
-module _ (most : ℕ) (sim : SimModule) (has : HasHalves sim) (whole : AreWhole sim.image) (paged : IsPaged sim.image) (awaited : IsAwaited most sim.image) (wanted : Wanted) (first : SimModule) (same_image : sim.image ≡ first.image) (suits : Suits first wanted)
-    (op : Op) (reply : Reply) (answers : Answers op reply) (gives : reply ≡ reply_of sim op) where
+module _ (most : ℕ) (sim : SimModule) (has : HasHalves sim) (whole : AreWhole sim.image) (paged : IsPaged sim.image) (awaited : IsAwaited most sim.image) (wanted : Wanted) (first : SimModule) (same_image : sim.image ≡ first.image) (same_advert : sim.advert ≡ first.advert)
+    (suits : Suits first wanted) (op : Op) (reply : Reply) (answers : Answers op reply) (gives : reply ≡ reply_of sim op) where
   abbrev after : SimModule
   after = module_after sim op
 
-  work_own : (woken : Bool) (patience : Patience) (decision : Decision) → IsWork decision → ((goal : Goal) → named decision ≡ Some goal → IsPlanned (conventions_of wanted) first → IsOwnGoal most wanted after goal) → OwnTurn most wanted first after (decided woken patience decision)
-  work_own woken patience (Leave reason) work goals = absurd work
-  work_own woken patience Wake work goals = absurd work
-  work_own woken patience Sleep work goals = absurd work
-  work_own woken patience (Hold goal) work goals = inl tt
-  work_own woken patience (Activate goal) work goals = inr (tt, λ e. goals goal refl)
-  work_own woken patience (Provision goal) work goals = inr (tt, λ e. goals goal refl)
+  own_after : IsProvisionable most first → after.advert ≡ own_advert after.image
+  own_after may = advert_kept op sim ∙ same_advert ∙ may.own ∙ ap own_advert (sym (image_kept op sim ∙ same_image))
+
+  work_own : (woken : Bool) (patience : Patience) → patience ≡ patience_for first.image → (decision : Decision) → IsWork decision → ((goal : Goal) → named decision ≡ Some goal → IsPlanned (conventions_of wanted) first → IsOwnGoal most wanted after goal)
+      → ((goal : Goal) → decision ≡ Activate goal → IsOwnGoal most wanted after goal → active_bytes after ≡ goal.control) → OwnTurn most wanted first after (decided woken patience decision)
+  work_own woken patience same (Leave reason) work goals active = absurd work
+  work_own woken patience same Wake work goals active = absurd work
+  work_own woken patience same Sleep work goals active = absurd work
+  work_own woken patience same (Hold goal) work goals active = inl tt
+  work_own woken patience same (Activate goal) work goals active = inr ((λ may. begins_activating most wanted after goal (goals goal refl (may.planned wanted suits)) (own_after may) first patience same (active goal refl (goals goal refl (may.planned wanted suits)))), λ e. goals goal refl)
+  work_own woken patience same (Provision goal) work goals active = inr ((λ may. begins_provisioning most wanted after goal (goals goal refl (may.planned wanted suits)) (own_after may) first patience same), λ e. goals goal refl)
 
   -- the control bytes that are active stay those of a plan
   planned_after : KeepsLanes first after → IsPlanned (conventions_of wanted) first → IsPlanned (conventions_of wanted) after
@@ -108,12 +155,16 @@ module _ (most : ℕ) (sim : SimModule) (has : HasHalves sim) (whole : AreWhole 
     image_whole : 5 ≤ halves.settled → IsWholeImage sim.image halves.image
     image_whole all = record { lower = own.lower (omega (arith, all)); first = own.first (omega (arith, all)); second = own.second (omega (arith, all)); lanes = own.lanes all }
 
+    -- page 11h shows what is active
+    shows_after : (lanes : HasLanes halves.image sim) (lane : ℕ) → IsLane lane → active_at lanes.page lane ≡ at_lane (active_bytes after) lane
+    shows_after lanes lane within = lanes.shows.active lane within ∙ ap (λ (bytes : List ℕ). at_lane bytes lane) (spares.active ∙ sym spares_on.active)
+
     good_own : (decision : Decision) (all : 5 ≤ halves.settled) (lanes : HasLanes halves.image sim) → IsGood sim wanted suits_here halves.image (image_whole all) lanes decision → OwnTurn most wanted first after (decided woken (patience_for halves.image) decision)
-    good_own decision all lanes (inl w) = work_own woken (patience_for halves.image) decision w.work (λ goal is planned.
+    good_own decision all lanes (inl w) = work_own woken (patience_for halves.image) (patience_same sim.image halves.image (image_whole all) ∙ ap patience_for same_image) decision w.work (λ goal is planned.
         let advert : read_by (conventions_of wanted) sim ≡ read_by (conventions_of wanted) after = ap (advertised_under (conventions_of wanted)) (sym (image_kept op sim)) in
         let has_goal = subst (λ (advert : Advertised). HasGoal (with_active (active_in halves.image) advert) wanted lanes.page goal) advert (w.goals goal is) in
         own_goal most wanted after (active_in halves.image) lanes.page goal has_goal (planned_after spares_on planned)
-        (λ lane within. lanes.shows.active lane within ∙ ap (λ (bytes : List ℕ). at_lane bytes lane) (spares.active ∙ sym spares_on.active)) (halves_ticked (passed_on conduct op sim).1 (halves_passed op sim has)) now.steady (now.tells.ready (omega (arith, all)) w.ready).0)
+        (shows_after lanes) (halves_ticked (passed_on conduct op sim).1 (halves_passed op sim has)) now.steady (now.tells.ready (omega (arith, all)) w.ready).0) (λ goal is own. all_active most wanted after goal own lanes.page (shows_after lanes) (w.all goal is))
     good_own decision all lanes (inr (wakes, not_ready)) =
         subst (λ (decision : Decision). OwnTurn most wanted first after (decided woken (patience_for halves.image) decision)) (sym wakes)
         (wakes_own woken (patience_for halves.image) (patience_same sim.image halves.image (image_whole all)) now.steady spares_on (λ is. not_ready (now.tells.read is (omega (arith, all)))))
@@ -136,21 +187,29 @@ module _ (most : ℕ) (sim : SimModule) (has : HasHalves sim) (whole : AreWhole 
       waking_turns most sim has job w op reply asks answers gives (OwnTurn most wanted first after)
       (λ now. going_own most wanted first after (pause_of_patient power_wants change_after job reply) (jobs.Waking (waking_after job reply)) (now, kept)) (λ steady awake. inr (reading_begins most first true after steady (λ is. awake) kept, not_begun notes.Woken refl)) turn is
 
-  -- ---- what fails later
+  -- ---- provisioning and activation
 
-  provisioned_own : (goal : Goal) (patience : Patience) (because : Option ProcedureFault) → OwnTurn most wanted first after (provisioned goal patience because)
-  provisioned_own goal patience None = inr (tt, not_begun notes.Provisioned refl)
-  provisioned_own goal patience (Some because) = λ early. early
+  own_by : (job : Job) → IsProcedure job → (IsProvisionable most first → IsOnWay most first job after) → OwnJob most first job after
+  own_by (jobs.Reading job woken) is way = absurd is
+  own_by (jobs.Waking job) is way = absurd is
+  own_by (jobs.Sleeping job) is way = absurd is
+  own_by (jobs.Provisioning job goal) is way = way
+  own_by (jobs.Activating job goal) is way = way
+  own_by (jobs.Watching job) is way = absurd is
 
-  activated_own : (goal : Goal) (patience : Patience) (because : Option ProcedureFault) → OwnTurn most wanted first after (activated goal patience because)
-  activated_own goal patience None = inl tt
-  activated_own goal patience (Some because) = λ early. early
+  -- such a turn goes well, if the module is provisionable
+  both : (turn : Turn) → ProcedureTurn turn → (IsProvisionable most first → WellTurn ⊥ (λ job. IsOnWay most first job after) turn) → OwnTurn most wanted first after turn
+  both (turns.On job note) (inl up) well = inl up
+  both (turns.On job note) (inr (is, off, low)) well = inr (own_by job is (λ may. goes (well may)), not_begun note off) where
+    goes : IsUpNote note ⊎ IsOnWay most first job after → IsOnWay most first job after
+    goes (inl up) = absurd (low up)
+    goes (inr way) = way
+  both (turns.Paused job time) is well = own_by job is well
+  both (turns.Failed fault) fails well = (fails, λ may. (well may).1)
+  both (turns.Left reason) left well = left
 
-  later_by : {E : Type 0} (next : Next (Spent E)) (pause : Option ℕ) (job : Job) (turn : Turn) (made : Option E → Turn) → OwnJob most first job after → ((end : Option E) → OwnTurn most wanted first after (made end))
-      → GoesTo next pause job (λ end turn. turn ≡ made end) turn → OwnTurn most wanted first after turn
-  later_by (Do op) pause job turn made holds ends is = subst (OwnTurn most wanted first after) (sym is) (going_own most wanted first after pause job holds)
-  later_by (Wait time) pause job turn made holds ends is = subst (OwnTurn most wanted first after) (sym is) (going_own most wanted first after pause job holds)
-  later_by (End spent) pause job turn made holds ends is = subst (OwnTurn most wanted first after) (sym is) (ends spent.end)
+  procedure_own : (job : Job) (turn : Turn) → (IsProvisionable most first → IsOnWay most first job sim) → asked job ≡ Some op → ProcedureTurn turn → IsTurn wanted job reply turn → OwnTurn most wanted first after turn
+  procedure_own job turn holds asks procedure is = both turn procedure (λ may. way_turns most first sim op reply has answers gives may.lasts wanted job turn (holds may) asks is)
 
   pub turn_own : (job : Job) (turn : Turn) → OwnJob most first job sim → asked job ≡ Some op → IsTurn wanted job reply turn → OwnTurn most wanted first after turn
   turn_own (jobs.Reading job woken) turn holds asks is = reading_turns woken job holds.0 holds.1 asks turn is
@@ -158,10 +217,12 @@ module _ (most : ℕ) (sim : SimModule) (has : HasHalves sim) (whole : AreWhole 
   turn_own (jobs.Sleeping job) turn holds asks is = absurd holds
   turn_own (jobs.Provisioning job goal) turn holds asks is =
       let next = procedure_after job reply in
-      later_by (procedure_wants next) (pause_of_patient (wants_on paged_tasks) (after_on paged_tasks) job reply) (jobs.Provisioning next goal) turn (λ end. provisioned goal next.conversation.patience (fault_in end)) tt
-      (λ end. provisioned_own goal next.conversation.patience (fault_in end)) is
+      let procedure = later_by (procedure_wants next) (pause_of_patient (wants_on paged_tasks) (after_on paged_tasks) job reply) (jobs.Provisioning next goal) turn (λ end. provisioned goal next.conversation.patience (fault_in end)) tt
+      (λ end. provisioned_turn goal next.conversation.patience (fault_in end)) is in
+      procedure_own (jobs.Provisioning job goal) turn holds asks procedure is
   turn_own (jobs.Activating job goal) turn holds asks is =
       let next = procedure_after job reply in
-      later_by (procedure_wants next) (pause_of_patient (wants_on paged_tasks) (after_on paged_tasks) job reply) (jobs.Activating next goal) turn (λ end. activated goal next.conversation.patience (fault_in end)) tt
-      (λ end. activated_own goal next.conversation.patience (fault_in end)) is
+      let procedure = later_by (procedure_wants next) (pause_of_patient (wants_on paged_tasks) (after_on paged_tasks) job reply) (jobs.Activating next goal) turn (λ end. activated goal next.conversation.patience (fault_in end)) tt
+      (λ end. activated_turn goal next.conversation.patience (fault_in end)) is in
+      procedure_own (jobs.Activating job goal) turn holds asks procedure is
   turn_own (jobs.Watching job) turn holds asks is = absurd holds

@@ -7,6 +7,7 @@ use Rattle.port_manager.proofs.TurnCases.{halves_never}
 use Rattle.port_manager.proofs.PageProgress.{gained, some_left}
 use Rattle.sim_module.specs.declared.fixed.Fixed.{Fixed}
 use Rattle.sim_module.proofs.UnchangingParts.{events_leave_fixed}
+use Rattle.managed_module.proofs.PlanPhases.{fixed_passed}
 use Rattle.managed_module.proofs.JobSteps.{steady_harmless}
 use Rattle.managed_module.proofs.OwnLanes.{HasLanes}
 use Rattle.managed_module.proofs.OwnPatience.{ends_in_time, time_advanced}
@@ -52,6 +53,14 @@ image_kept (Store dev offset bytes) sim = ap (λ (fixed : Fixed). fixed.image) (
 pub image_paused : (count : ℕ) (sim : SimModule) → (ticked_times conduct count sim).image ≡ sim.image
 image_paused zero sim = refl
 image_paused (suc count) sim = ap (λ (fixed : Fixed). fixed.image) (events_leave_fixed.tick (ticked_times conduct count sim)) ∙ image_paused count sim
+
+-- what it goes by stays too
+pub advert_kept : (op : Op) (sim : SimModule) → (module_after sim op).advert ≡ sim.advert
+advert_kept op sim = ap (λ (fixed : Fixed). fixed.advert) (events_leave_fixed.tick (passed_on conduct op sim).1 ∙ fixed_passed op sim)
+
+pub advert_paused : (count : ℕ) (sim : SimModule) → (ticked_times conduct count sim).advert ≡ sim.advert
+advert_paused zero sim = refl
+advert_paused (suc count) sim = ap (λ (fixed : Fixed). fixed.advert) (events_leave_fixed.tick (ticked_times conduct count sim)) ∙ advert_paused count sim
 
 module _ (most : ℕ) (sim : SimModule) (has : HasHalves sim) (whole : AreWhole sim.image) (paged : IsPaged sim.image) (woken : Bool) (job : Patient (OnPage Halves)) (r : IsOwnReading most woken job sim)
     (op : Op) (reply : Reply) (asked : op_of (reading_wants job) ≡ Some op) (answers : Answers op reply) (gives : reply ≡ reply_of sim op) where

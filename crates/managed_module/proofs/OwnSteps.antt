@@ -36,6 +36,7 @@ use Rattle.sim_module.specs.Modules.{conduct}
 use Rattle.managed_module.specs.Managed.{HasHalves, IsCmisStage}
 use Rattle.managed_module.specs.ComingUp.{IsUpResult}
 use Rattle.managed_module.specs.Succeeds.{AreWhole, IsAwaited, NoProcedureFails, Suits}
+use Rattle.managed_module.specs.SuitedModules.{IsProvisionable}
 use Rattle.managed_module.proofs.BoundLaw.{same_request}
 use Rattle.managed_module.proofs.OwnAdverts.{IsPaged}
 use Rattle.managed_module.proofs.OwnHalves.{is_cmis}
@@ -92,6 +93,10 @@ stage_paused most first (stages.Working job) count sim own = own_paused most fir
 
 -- ---- one operation
 
+-- neither provisioning nor activation fails, or the module is provisionable
+abbrev pub IsSpared : ℕ → SimModule → Outcome → Type 0
+IsSpared most first result = NoProcedureFails result ⊎ IsProvisionable most first
+
 pub record IsStep (most : ℕ) (wanted : Wanted) (first : SimModule) (result : Outcome) (port : Port) (sim : SimModule) : Type 0 where
   pub begun : result ≡ outcomes.Went notes.Identified → IfWorking port.stage (IsBegun most wanted first sim)
   pub goes : IsGoing result
@@ -116,14 +121,15 @@ same_note note other e = cc
 abbrev pub IsUpOrStep : ℕ → Wanted → SimModule → Outcome → Port → SimModule → Type 0
 IsUpOrStep most wanted first result port sim = IsUpResult result ⊎ IsStep most wanted first result port sim
 
-turned_step : (most : ℕ) (wanted : Wanted) (first : SimModule) (port : Port) (turn : Turn) (now : ℕ) (after : SimModule) → port.request ≡ Wake → IsFresh port.outstanding → OwnTurn most wanted first after turn → NoProcedureFails (outcome_of port turn now)
+turned_step : (most : ℕ) (wanted : Wanted) (first : SimModule) (port : Port) (turn : Turn) (now : ℕ) (after : SimModule) → port.request ≡ Wake → IsFresh port.outstanding → OwnTurn most wanted first after turn → IsSpared most first (outcome_of port turn now)
     → IsUpOrStep most wanted first (outcome_of port turn now) (turned port turn now) after
 turned_step most wanted first port (turns.On job note) now after wake fresh (inl up) early = inl up
 turned_step most wanted first port (turns.On job note) now after wake fresh (inr own) early =
     inr (record { begun = λ e. own.1 (same_note note notes.Identified e); goes = tt; own = own.0; request = same_request port.request note wake; fresh = fresh })
 turned_step most wanted first port (turns.Paused job time) now after wake fresh own early =
     inr (record { begun = λ e. absurd (not_went (outcome_of port (turns.Paused job time) now) refl e); goes = tt; own = own; request = wake; fresh = fresh })
-turned_step most wanted first port (turns.Failed fault) now after wake fresh own early = absurd (own early)
+turned_step most wanted first port (turns.Failed fault) now after wake fresh own (inl early) = absurd (own.0 early)
+turned_step most wanted first port (turns.Failed fault) now after wake fresh own (inr may) = absurd (own.1 may)
 turned_step most wanted first port (turns.Left reason) now after wake fresh own early = absurd own
 
 noted_outcome : (port : Port) (found : Option Op) (reply : Reply) (turn : Turn) (now : ℕ) → outcome_of (noting (answered port) found reply now) turn now ≡ outcome_of port turn now
@@ -132,8 +138,8 @@ noted_outcome port found reply (turns.Paused job time) now = refl
 noted_outcome port found reply (turns.Failed fault) now = refl
 noted_outcome port found reply (turns.Left reason) now = refl
 
-module _ (most : ℕ) (sim : SimModule) (has : HasHalves sim) (whole : AreWhole sim.image) (paged : IsPaged sim.image) (awaited : IsAwaited most sim.image) (wanted : Wanted) (first : SimModule) (same_image : sim.image ≡ first.image) (suits : Suits first wanted)
-    (op : Op) (reply : Reply) (answers : Answers op reply) (gives : reply ≡ reply_of sim op) (port later : Port) (now : ℕ) (result : Outcome) (wake : port.request ≡ Wake) (early : NoProcedureFails result) where
+module _ (most : ℕ) (sim : SimModule) (has : HasHalves sim) (whole : AreWhole sim.image) (paged : IsPaged sim.image) (awaited : IsAwaited most sim.image) (wanted : Wanted) (first : SimModule) (same_image : sim.image ≡ first.image) (same_advert : sim.advert ≡ first.advert)
+    (suits : Suits first wanted) (op : Op) (reply : Reply) (answers : Answers op reply) (gives : reply ≡ reply_of sim op) (port later : Port) (now : ℕ) (result : Outcome) (wake : port.request ≡ Wake) (early : IsSpared most first result) where
   abbrev after : SimModule
   after = module_after sim op
 
@@ -144,9 +150,9 @@ module _ (most : ℕ) (sim : SimModule) (has : HasHalves sim) (whole : AreWhole 
       let same : granted port.request wanted ≡ wanted = ap (λ (request : Request). granted request wanted) wake ∙ granted_same wanted in
       let is : result ≡ outcome_of noted turn now = outcome ∙ sym (noted_outcome port (asked job) reply turn now) in
       let turned_own : OwnTurn most wanted first after turn =
-      turn_own most sim has whole paged awaited wanted first same_image suits op reply answers gives job turn own asks (subst (λ (wanted : Wanted). IsTurn wanted job reply turn) same leads) in
+      turn_own most sim has whole paged awaited wanted first same_image same_advert suits op reply answers gives job turn own asks (subst (λ (wanted : Wanted). IsTurn wanted job reply turn) same leads) in
       subst (λ (later : Port). IsUpOrStep most wanted first result later after) (sym becomes)
-      (subst (λ (result : Outcome). IsUpOrStep most wanted first result (turned noted turn now) after) (sym is) (turned_step most wanted first noted turn now after wake tt turned_own (subst NoProcedureFails is early)))
+      (subst (λ (result : Outcome). IsUpOrStep most wanted first result (turned noted turn now) after) (sym is) (turned_step most wanted first noted turn now after wake tt turned_own (subst (IsSpared most first) is early)))
 
   pub stage_step : (stage : Stage) → OwnStage most first stage sim → asked_in stage ≡ Some op → IsTurnedIn stage port reply wanted now result later → IsUpOrStep most wanted first result later after
   stage_step stages.Absent own asks is = absurd own

@@ -12,6 +12,8 @@ use Rattle.plan_certificate.specs.Paths.{app_of, is_allowed}
 use Rattle.port_manager.specs.Goals.{conventions_of}
 use Rattle.managed_module.specs.ComingUp.{IsUpNote}
 use Rattle.managed_module.specs.Succeeds.{HasPath, IsNoProcedure, IsSpare, Suits}
+use Rattle.managed_module.specs.SuitedModules.{IsProvisionable}
+use Rattle.managed_module.proofs.OwnProcedures.{IsOnWay, way_paused}
 use Rattle.managed_module.proofs.OwnLanes.{KeepsLanes, lanes_paused}
 use Rattle.std.proofs.Common.{◌≡◌, ◌⊎◌, inl, inr, ℕ, ◌+◌, ◌*◌, ◌≤◌, Bool, true, false, List, [], ◌∷◌, Option, Some, None, refl, sym, ap, subst, ◌∙◌, arith}
 use Rattle.std.specs.FinMap as finmap
@@ -39,21 +41,21 @@ use Rattle.managed_module.proofs.OwnReading.{IsOwnReading, left_to_read, reading
 use Rattle.managed_module.proofs.OwnWaking.{IsOwnWaking, waking_paused}
 use Rattle.managed_module.proofs.Procedures.{IsAwake}
 
--- lanes that were in no path at first are in none before the first store to lanes
+-- lanes that were in no path at first are in none before the first store to lanes; then provisioning and activation go well
 abbrev pub OwnJob : ℕ → SimModule → Job → SimModule → Type 0
 OwnJob most first (jobs.Reading job woken) sim = IsOwnReading most woken job sim × KeepsLanes first sim
 OwnJob most first (jobs.Waking job) sim = IsOwnWaking most job sim × KeepsLanes first sim
 OwnJob most first (jobs.Sleeping job) sim = ⊥
-OwnJob most first (jobs.Provisioning job goal) sim = Unit {0}
-OwnJob most first (jobs.Activating job goal) sim = Unit {0}
+OwnJob most first (jobs.Provisioning job goal) sim = IsProvisionable most first → IsOnWay most first (jobs.Provisioning job goal) sim
+OwnJob most first (jobs.Activating job goal) sim = IsProvisionable most first → IsOnWay most first (jobs.Activating job goal) sim
 OwnJob most first (jobs.Watching job) sim = ⊥
 
 pub own_paused : (most : ℕ) (first : SimModule) (job : Job) (count : ℕ) (sim : SimModule) → OwnJob most first job sim → OwnJob most first job (ticked_times conduct count sim)
 own_paused most first (jobs.Reading job woken) count sim own = (reading_paused most woken job count sim own.0, lanes_paused most first count sim own.0.steady own.1)
 own_paused most first (jobs.Waking job) count sim own = (waking_paused most job count sim own.0, lanes_paused most first count sim own.0.steady own.1)
 own_paused most first (jobs.Sleeping job) count sim own = own
-own_paused most first (jobs.Provisioning job goal) count sim own = tt
-own_paused most first (jobs.Activating job goal) count sim own = tt
+own_paused most first (jobs.Provisioning job goal) count sim own = λ may. way_paused most first (jobs.Provisioning job goal) count sim (own may)
+own_paused most first (jobs.Activating job goal) count sim own = λ may. way_paused most first (jobs.Activating job goal) count sim (own may)
 own_paused most first (jobs.Watching job) count sim own = own
 
 abbrev pub is_identified : Note → Bool
@@ -73,11 +75,11 @@ IsBegun most wanted first after (jobs.Provisioning job goal) = IsPlanned (conven
 IsBegun most wanted first after (jobs.Activating job goal) = IsPlanned (conventions_of wanted) first → IsOwnGoal most wanted after goal
 IsBegun most wanted first after (jobs.Watching job) = Unit {0}
 
--- the module has come up, or it goes on, or provisioning or activation fails
+-- the module has come up, or it goes on, or provisioning or activation fails, which they don't if it is provisionable
 abbrev pub OwnTurn : ℕ → Wanted → SimModule → SimModule → Turn → Type 0
 OwnTurn most wanted first after (turns.On job note) = IsUpNote note ⊎ (OwnJob most first job after × (note ≡ notes.Identified → IsBegun most wanted first after job))
 OwnTurn most wanted first after (turns.Paused job time) = OwnJob most first job after
-OwnTurn most wanted first after (turns.Failed fault) = ¬ (IsNoProcedure fault)
+OwnTurn most wanted first after (turns.Failed fault) = (¬ (IsNoProcedure fault)) × (¬ (IsProvisionable most first))
 OwnTurn most wanted first after (turns.Left reason) = ⊥
 
 pub not_begun : {P : Type 0} (note : Note) → is_identified note ≡ false → note ≡ notes.Identified → P

@@ -21,7 +21,7 @@ use Rattle.port_manager.specs.declared.port.Port.{Port}
 use Rattle.port_manager.specs.declared.port.Stage.{Stage}
 use Rattle.port_manager.specs.declared.port.Stage.TheVariants as stages
 use Rattle.port_manager.specs.declared.turn.PortFault.{PortFault}
-use Rattle.port_manager.specs.Jobs.{IsReplyTo, asked, provisioning}
+use Rattle.port_manager.specs.Jobs.{IsReplyTo, activating, asked, provisioning}
 use Rattle.port_manager.specs.Ports.{again, IsAwaitedBy, IsTakenBy, IsTurnedIn, answered, asked_in, awaited, noting, outcome_of, turned}
 use Rattle.port_manager.specs.Progress.{IsGoing, IsGoingOn, made_in}
 use Rattle.port_manager.specs.Requests.{granted}
@@ -40,9 +40,10 @@ use Rattle.managed_module.specs.ComingUp.{HasComeUp, IsUndisturbed, IsUpResult}
 use Rattle.managed_module.specs.ManagedPlans.{BeginsToProvision, IsInTime, IsReadyFor, LastsFor, PlansComeUp, PlansDontFail, TookTooLong, most_made}
 use Rattle.managed_module.proofs.GoalLanes.{whole_by}
 use Rattle.managed_module.proofs.Halves.{halves_passed, halves_paused, halves_ticked}
-use Rattle.managed_module.proofs.JobSteps.{reading_waits}
+use Rattle.managed_module.proofs.JobSteps.{IsWhole, reading_waits}
+use Rattle.managed_module.proofs.JobTurns.{activating_at}
 use Rattle.managed_module.proofs.OwnTasks.{module_after, reply_of}
-use Rattle.managed_module.proofs.PlanJobs.{GoesWell, IsTimedJob, IsTimely, WellTurn, at_any_time, begins_fine, goes_paused, timely}
+use Rattle.managed_module.proofs.PlanJobs.{GoesWell, IsTimedJob, IsTimely, WellTurn, at_any_time, begins_active, begins_fine, goes_paused, timely}
 use Rattle.managed_module.proofs.PlanPhases.{Rests}
 use Rattle.managed_module.proofs.PlanTime.{through}
 use Rattle.managed_module.proofs.PlanTurns.{left_some, turn_well}
@@ -180,7 +181,7 @@ module _ (most : ℕ) (patience : Patience) (late : Type 0) (P : Outcome → Typ
 
 -- ---- the laws
 
-module _ (most : ℕ) (conventions : Conventions) (paths kept : List Path) (goal : Goal) (patience : Patience) (port : Port) (sim : SimModule) (ready : IsReadyFor most conventions paths kept goal sim) (begins : BeginsToProvision goal patience port) where
+module _ (most : ℕ) (conventions : Conventions) (paths kept : List Path) (goal : Goal) (patience : Patience) (sim : SimModule) (ready : IsReadyFor most conventions paths kept goal sim) where
   at_rest : Rests most sim.image (active_bytes sim) sim
   at_rest = record {
     steady = ready.steady;
@@ -189,30 +190,49 @@ module _ (most : ℕ) (conventions : Conventions) (paths kept : List Path) (goal
     active = refl;
   }
 
-  on_its_way : IsOnItsWay most patience 0 port sim
-  on_its_way =
+  whole : IsWhole goal
+  whole = whole_by (advertised_under conventions sim.image) paths goal (plan_read conventions sim.image paths ready.fits.plan) ready.fits.control ready.fits.lanes
+
+  pub provisions_first : GoesWell most (most_made most) patience 0 (provisioning goal patience) sim
+  provisions_first =
       let many : left (provisioning goal patience) ≡ 32 = refl in
       record {
-        halves = ready.halves;
-        good = subst (λ (s : Stage). GoodStage most patience 0 s sim) (sym begins.stage) (record {
-          linked = λ opened. absurd (let same : false ≡ true = opened in cc);
-          fine = begins_fine most conventions paths kept goal patience sim.image (active_bytes sim) sim ready.fits at_rest;
-          less = reading_waits most true;
-          at = (refl, whole_by (advertised_under conventions sim.image) paths goal (plan_read conventions sim.image paths ready.fits.plan) ready.fits.control ready.fits.lanes, ready.steady.counters, (λ page e. absurd cc), (ready.steady, omega arith));
-          few = omega (arith, many);
-          time = record { steps = omega arith; limit = refl; idle = omega arith; patience = refl };
-        });
-        fresh = inl begins.free;
+        linked = λ opened. absurd (let same : false ≡ true = opened in cc);
+        fine = begins_fine most conventions paths kept goal patience sim.image (active_bytes sim) sim ready.fits at_rest;
+        less = reading_waits most true;
+        at = (refl, whole, ready.steady.counters, (λ page e. absurd cc), (ready.steady, omega arith));
+        few = omega (arith, many);
+        time = record { steps = omega arith; limit = refl; idle = omega arith; patience = refl };
       }
+
+  -- the plan is active already
+  pub activates_first : active_bytes sim ≡ goal.control → GoesWell most (most_made most) patience 0 (activating goal patience) sim
+  activates_first active =
+      let ten : left (activating goal patience) ≡ 10 = refl in
+      record {
+        linked = λ opened. absurd (let same : false ≡ true = opened in cc);
+        fine = begins_active most goal patience sim.image sim (record { steady = at_rest.steady; awake = at_rest.awake; memory = at_rest.memory; active = active });
+        less = reading_waits most true;
+        at = activating_at most goal patience sim (reading_waits most true) whole ready.steady (omega arith);
+        few = omega (arith, ten);
+        time = record { steps = omega arith; limit = refl; idle = omega arith; patience = refl };
+      }
+
+  on_its_way : (port : Port) → BeginsToProvision goal patience port → IsOnItsWay most patience 0 port sim
+  on_its_way port begins = record {
+    halves = ready.halves;
+    good = subst (λ (s : Stage). GoodStage most patience 0 s sim) (sym begins.stage) provisions_first;
+    fresh = inl begins.free;
+  }
 
 pub plans_dont_fail : PlansDontFail
 plans_dont_fail most conventions paths kept goal patience port later sim after story ready begins ran calm =
-    by (runs_well most patience (Unit {0}) IsInTime (λ because moment in_time took over. in_time took) (λ made few job reply time. at_any_time job reply) port sim (on_its_way most conventions paths kept goal patience port sim ready begins) later after story ran calm) where
+    by (runs_well most patience (Unit {0}) IsInTime (λ because moment in_time took over. in_time took) (λ made few job reply time. at_any_time job reply) port sim (on_its_way most conventions paths kept goal patience sim ready port begins) later after story ran calm) where
       by : HasComeUp story ⊎ (IsGoingOn story × IsOnItsWay most patience (made_in story) later after) → HasComeUp story ⊎ IsGoingOn story
       by (inl up) = inl up
       by (inr (goes, at)) = inr goes
 
-in_time_by : (most : ℕ) (patience : Patience) → LastsFor (most_made most) patience → (made : ℕ) → made + 1 ≤ most_made most → (job : Job) (reply : Reply) → IsTimedJob patience made job → IsTimely ⊥ job reply
+pub in_time_by : (most : ℕ) (patience : Patience) → LastsFor (most_made most) patience → (made : ℕ) → made + 1 ≤ most_made most → (job : Job) (reply : Reply) → IsTimedJob patience made job → IsTimely ⊥ job reply
 in_time_by most patience lasts made few job reply time =
     let fewer : made ≤ most_made most = omega (arith, few) in
     let less = mul-le-mul_right patience.pause fewer in
@@ -220,7 +240,7 @@ in_time_by most patience lasts made few job reply time =
 
 pub plans_come_up : PlansComeUp
 plans_come_up most conventions paths kept goal patience port later sim after story ready begins lasts ran calm many =
-    by (runs_well most patience ⊥ (λ result. Unit {0}) (λ because moment p took over. over) (in_time_by most patience lasts) port sim (on_its_way most conventions paths kept goal patience port sim ready begins) later after story ran calm) where
+    by (runs_well most patience ⊥ (λ result. Unit {0}) (λ because moment p took over. over) (in_time_by most patience lasts) port sim (on_its_way most conventions paths kept goal patience sim ready port begins) later after story ran calm) where
       by : HasComeUp story ⊎ (IsGoingOn story × IsOnItsWay most patience (made_in story) later after) → HasComeUp story
       by (inl up) = up
       by (inr (goes, at)) = absurd (omega (arith, few_made most patience (made_in story) later.stage after at.good, many))

@@ -4,3 +4,4 @@ pub mod ComingUp
 pub mod Succeeds
 pub mod ModuleGoals
 pub mod ManagedPlans
+pub mod SuitedModules
