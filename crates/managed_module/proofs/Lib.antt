@@ -29,6 +29,7 @@ pub mod OwnTurns
 pub mod OwnJobs
 pub mod OwnSteps
 pub mod OwnStories
+pub mod NewProvisionable
 pub mod StagedBytes
 pub mod PlanPhases
 pub mod PlanReplies

@@ -3,7 +3,7 @@ ghost use Rattle.managed_module.specs.Bounds.{ComesUpWithin, NewIsSteady};
 ghost use Rattle.managed_module.specs.Managed.{ManagedComesUp};
 ghost use Rattle.managed_module.specs.ModuleGoals.{GoalsAreOwn};
 ghost use Rattle.managed_module.specs.Succeeds.{ComesUpSuited};
-ghost use Rattle.managed_module.specs.SuitedModules.{SuitedHasComeUp};
+ghost use Rattle.managed_module.specs.SuitedModules.{NewIsProvisionable, SuitedHasComeUp};
 ghost use Rattle.managed_module.specs.ManagedPlans.{PlansComeUp, PlansDontFail};
 
 /// A port at work on a simulated CMIS module, in whatever state, over a bus that refuses nothing, with pauses of any length: unless
@@ -52,8 +52,14 @@ pub fn a_plan_of_its_own_comes_up()
 {}
 
 /// Both together: a module that suits what is wanted has come up within the number of operations of `waiting_ends_by_the_delays`, with no
-/// premise that anything succeeds. The module goes by what it advertises, as a new one does; the port waits for as many pauses as
-/// provisioning and activation may make operations; and the control bytes that are active at first are those of a plan.
+/// premise that anything succeeds. The module goes by what it advertises, as a new one does; the port waits for as many pauses in a row as
+/// provisioning and activation may make operations, 36 and 7 for each tick of the longest delay; and the control bytes that are active at
+/// first are those of a plan.
 pub fn a_suited_module_has_come_up()
     ensures { SuitedHasComeUp }
+{}
+
+/// A new module in which no path is active meets these premises, if the port waits for so many pauses.
+pub fn a_new_module_is_provisionable()
+    ensures { NewIsProvisionable }
 {}
