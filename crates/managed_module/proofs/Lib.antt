@@ -42,5 +42,3 @@ pub mod PlanNearer
 pub mod PlanJobs
 pub mod PlanTurns
 pub mod PlanStories
-pub mod PlanKept
-pub mod PlanGoals

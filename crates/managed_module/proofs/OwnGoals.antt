@@ -1,11 +1,10 @@
 -- The goal that a port takes for a module is a plan of what the module advertises, and its kept paths are active with their control bytes:
 -- if the control bytes that are active are those of a plan.
-use Rattle.std.proofs.Common.{◌≡◌, ◌⊎◌, inl, inr, ℕ, ◌-◌, ◌≤◌, ◌||◌, not, Bool, true, false, List, None, filter, get_or, All, Contains, refl, sym, ap, subst, ◌∙◌, arith}
+use Rattle.std.proofs.Common.{◌≡◌, ◌⊎◌, inl, inr, ℕ, ◌-◌, ◌≤◌, ◌||◌, not, true, List, None, filter, get_or, All, Contains, refl, sym, ap, subst, ◌∙◌, arith}
 use Rattle.std.specs.FinSet as set
 use Rattle.std.proofs.lemmas.Bool.{and_parts, eqb-true}
 use Rattle.std.proofs.lemmas.List.Elements.{All-filter, Contains-get_or, filter_passes}
 use Rattle.std.proofs.lemmas.List.Folds.{Any-from_list_any}
-use Rattle.std.proofs.lemmas.List.Kept.{AllPairs-filter}
 use Rattle.field_tables.specs.LaneSets.{IsLane, Lanes}
 use Rattle.field_tables.proofs.TrueTests.{in_range}
 use Rattle.applications.specs.declared.active.ActiveSet.{ActiveSet}
@@ -31,6 +30,8 @@ use Rattle.sim_module.specs.KeptPaths.{IsActivePath}
 use Rattle.sim_module.specs.Lanes.{active_bytes}
 use Rattle.sim_liveness.specs.Accepted.{read_by}
 use Rattle.module_states.specs.declared.state.ModuleState.TheVariants.{Ready}
+use Rattle.managed_module.proofs.GoalLanes.{still_admissible}
+use Rattle.managed_module.proofs.OwnTasks.{has_it}
 use Rattle.managed_module.specs.Bounds.{IsSteady}
 use Rattle.managed_module.specs.Managed.{HasHalves}
 use Rattle.managed_module.specs.ModuleGoals.{IsOwnGoal, IsPlanned}
@@ -86,10 +87,7 @@ lane_up : (page control : List ℕ) (lanes : Lanes) (lane : ℕ) → IsLane lane
 lane_up page control lanes lane (from, to) up inside =
     let all : (not (set.contains lanes lane) || is_up page control lane) ≡ true = in_range (λ lane. not (set.contains lanes lane) || is_up page control lane) 1 8 lane up from (omega (arith, to)) in
     let one : is_up page control lane ≡ true = has_it (set.contains lanes lane) (is_up page control lane) all inside in
-    eqb-true (active_at page lane) (at_lane control lane) (and_parts (is_activated page lane) (is_active page control lane) one).1 where
-      has_it : (a b : Bool) → (not a || b) ≡ true → a ≡ true → b ≡ true
-      has_it true b e on = e
-      has_it false b e on = absurd cc
+    eqb-true (active_at page lane) (at_lane control lane) (and_parts (is_activated page lane) (is_active page control lane) one).1
 
 -- a lane of a kept path has its control byte
 kept_bytes : (advert : Advertised) (paths : List Path) (page control : List ℕ) (lane : ℕ) → IsLane lane → is_taken advert (filter (is_kept advert page control) paths) lane ≡ true → active_at page lane ≡ at_lane control lane
@@ -146,10 +144,7 @@ own_goal most wanted sim active page goal (plan, is) planned shows has steady re
     let control : goal.control ≡ control_bytes advert paths =
     is.control ∙ control_same active advert (wanted_of (with_active active advert) wanted.down plan) ∙ ap (control_bytes advert) (wanted_same active advert wanted.down plan) in
     let admissible : IsAdmissible advert plan = admissible_same active advert plan is.first.candidate.best.admissible in
-    let still : IsAdmissible advert paths = record {
-      allowed = All-filter (stays_up advert wanted.down) (λ path. is_allowed advert path ≡ true) plan admissible.allowed;
-      apart = AllPairs-filter (λ path other. are_apart advert path other ≡ true) (stays_up advert wanted.down) plan admissible.apart;
-    } in
+    let still : IsAdmissible advert paths = still_admissible advert (stays_up advert wanted.down) plan admissible in
     let keeps = is_kept advert page (control_bytes advert paths) in
     let inside : All (Contains paths) (filter keeps paths) = All-filter keeps (Contains paths) paths (λ k d below. Contains-get_or paths k d below) in
     record {
