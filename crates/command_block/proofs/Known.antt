@@ -11,7 +11,7 @@ use Rattle.conversations.specs.Events.{Events, steps_of}
 use Rattle.conversations.specs.Wanted.{IfDo}
 use Rattle.command_block.specs.declared.attempt.Attempt.{Attempt}
 use Rattle.command_block.specs.declared.attempt.Phase.{Phase}
-use Rattle.command_block.specs.declared.attempt.Phase.TheVariants.{Delayed, Idle, Filling, Triggering, Resting, Awaiting, Counting, Reading}
+use Rattle.command_block.specs.declared.attempt.Phase.TheVariants.{Delayed, Idle, Filling, Triggering, Resting, Awaiting, Counting, Reading, Checking}
 use Rattle.command_block.specs.declared.attempt.Timing.{Timing}
 use Rattle.command_block.specs.declared.judgement.Judgement.{Judgement}
 use Rattle.command_block.specs.declared.judgement.Judgement.TheVariants.{On, Again, Ends}
@@ -19,7 +19,7 @@ use Rattle.command_block.specs.declared.message.Message.{Message}
 use Rattle.command_block.specs.declared.outcome.Outcome.{Outcome}
 use Rattle.command_block.specs.AttemptEvents.{EachIsWanted, EndsAttempt, GoesOnAttempt, HasCome, IsInPhase, IsTold, IsTriggered, RestsAfterTrigger, attempt_after}
 use Rattle.command_block.specs.Attempts.{History, IsAttempt, IsFilled, IsHeaded, IsPreparing, NoTrigger}
-use Rattle.command_block.specs.Operations.{head, piece, read_status, trigger}
+use Rattle.command_block.specs.Operations.{head, piece, read_back, read_status, trigger}
 use Rattle.command_block.specs.Phases.{filling, given_up, judged, known, known_by, next_at, outcome_after, phase_after, rested, taken, wants, wants_by}
 use Rattle.command_block.proofs.Told.{After, carried_sent, told}
 
@@ -43,26 +43,32 @@ module _ (message : Message) where
   preparing_none [] at = tt
   preparing_none (step ∷ before) (is, at) = (none step read_status is (λ e. omega (arith, e)), preparing_none before at)
 
-  filled_none : (at : ℕ) (h : History) → IsFilled message at h → NoTrigger message h
-  filled_none at [] now = absurd now
-  filled_none at (step ∷ before) (inl (tried, now)) = (none step (filling message at) tried.0 (filling_other at), filled_none at before now)
-  filled_none at (step ∷ before) (inr (inl (zero, (status, few, read), now))) = (none step read_status read.0 (λ e. omega (arith, e)), preparing_none before now)
-  filled_none at (step ∷ before) (inr (inr (earlier, is, less, taken, now))) = (none step (piece message earlier) taken.0 (λ e. omega (arith, e)), filled_none earlier before now)
+  filled_none : (doubted : Bool) (at : ℕ) (h : History) → IsFilled message doubted at h → NoTrigger message h
+  filled_none true at [] now = absurd now
+  filled_none false at [] now = absurd now
+  filled_none true at (step ∷ before) (inl (tried, now)) = (none step (filling message at) tried.0 (filling_other at), filled_none false at before now)
+  filled_none true at (step ∷ before) (inr (unread, now)) = (none step (read_back message at) unread.0 (λ e. omega (arith, e)), filled_none true at before now)
+  filled_none false at (step ∷ before) (inl (zero, (status, few, read), now)) = (none step read_status read.0 (λ e. omega (arith, e)), preparing_none before now)
+  filled_none false at (step ∷ before) (inr (inl (zero, tried, now))) = (none step (filling message at) tried.0 (filling_other at), filled_none false at before now)
+  filled_none false at (step ∷ before) (inr (inr (inl (earlier, is, less, taken, now)))) = (none step (piece message earlier) taken.0 (λ e. omega (arith, e)), filled_none false earlier before now)
+  filled_none false at (step ∷ before) (inr (inr (inr (inl (gives, now))))) = (none step (read_back message at) gives.0 (λ e. omega (arith, e)), filled_none true at before now)
+  filled_none false at (step ∷ before) (inr (inr (inr (inr (zero, (earlier, bytes, other, gives, now)))))) = (none step (read_back message earlier) gives.0 (λ e. omega (arith, e)), filled_none true earlier before now)
 
   -- nothing before the header tells the module to carry the message out, so it is told once at most
   pub headed_none : (h : History) → IsHeaded message h → NoTrigger message h
   headed_none [] now = absurd now
-  headed_none (step ∷ before) (taken, (at, all, now)) = (none step (head message) taken.0 (λ e. omega (arith, e)), filled_none at before now)
+  headed_none (step ∷ before) (taken, (at, all, now)) = (none step (head message) taken.0 (λ e. omega (arith, e)), filled_none false at before now)
 
   gives_up : (phase : Phase) (h : History) → IsInPhase message phase h → IsAttempt message h (given_up phase)
   gives_up Delayed h at = preparing_none h at
   gives_up Idle h at = preparing_none h at
-  gives_up (Filling from) h at = filled_none from h at
+  gives_up (Filling from) h at = filled_none false from h at
   gives_up Triggering h at = headed_none h at
   gives_up Resting h at = inl at
   gives_up Awaiting h at = inl at
   gives_up Counting h at = inl (carried_sent message h at.0)
   gives_up (Reading count check) h at = inl (carried_sent message h at.0)
+  gives_up (Checking from) h at = filled_none true from h at
 
   pub knows : (phase : Phase) (outcome : Option Outcome) (h : History) → HasCome message phase outcome h → IsAttempt message h (known_by phase outcome)
   knows phase None h at = gives_up phase h at
@@ -91,6 +97,7 @@ module _ (message : Message) where
     waited_by Awaiting None h at = at
     waited_by Counting None h at = at
     waited_by (Reading count check) None h at = at
+    waited_by (Checking from) None h at = at
 
     first_by : (b : Bool) → IsInPhase message (cond b Idle Delayed) []
     first_by true = tt
@@ -128,7 +135,7 @@ module _ (message : Message) where
 
     -- ---- the rest after the id was taken
 
-    trigger_at : (phase : Phase) (step : Step) → next_at message timing phase ≡ Do step.op → step.op ≡ trigger message → phase ≡ Triggering
+    pub trigger_at : (phase : Phase) (step : Step) → next_at message timing phase ≡ Do step.op → step.op ≡ trigger message → phase ≡ Triggering
     trigger_at Delayed step asks is = absurd cc
     trigger_at Idle step asks is = absurd (let off : offset_of step.op ≡ 0 = cc in let e : 0 ≡ 128 = sym off ∙ ap (λ (o : Op). offset_of o) is in omega (arith, e))
     trigger_at (Filling at) step asks is = let op : step.op ≡ filling message at = cc in absurd (none step (filling message at) op (filling_other at) is)
@@ -137,6 +144,7 @@ module _ (message : Message) where
     trigger_at Awaiting step asks is = absurd (let off : offset_of step.op ≡ 0 = cc in let e : 0 ≡ 128 = sym off ∙ ap (λ (o : Op). offset_of o) is in omega (arith, e))
     trigger_at Counting step asks is = let off : offset_of step.op ≡ 0 = cc in absurd (let e : 0 ≡ 128 = sym off ∙ ap (λ (o : Op). offset_of o) is in omega (arith, e))
     trigger_at (Reading count check) step asks is = let off : offset_of step.op ≡ 0 = cc in absurd (let e : 0 ≡ 128 = sym off ∙ ap (λ (o : Op). offset_of o) is in omega (arith, e))
+    trigger_at (Checking at) step asks is = let off : offset_of step.op ≡ 0 = cc in absurd (let e : 0 ≡ 128 = sym off ∙ ap (λ (o : Op). offset_of o) is in omega (arith, e))
 
     abbrev Rests : Attempt → Type 0
     Rests attempt = wants attempt ≡ Wait timing.rest

@@ -1,12 +1,14 @@
 -- What a reply says brings an attempt from the phase that it was in to the one that it is in then, or to its end.
-use Rattle.std.proofs.Common.{◌≡◌, ℕ, ◌+◌, ◌<◌, ◌≤◌, ◌==◌, ◌&&◌, nat_le, nat_lt, Bool, true, false, cond, List, [], ◌∷◌, length, refl, sym, subst, ap, inl, inr, ◌∙◌}
+use Rattle.std.proofs.Common.{◌≡◌, ℕ, ◌+◌, ◌<◌, ◌≤◌, ◌==◌, ◌&&◌, nat_le, nat_lt, Bool, true, false, cond, List, [], ◌∷◌, length, take, refl, sym, subst, ap, inl, inr, ◌∙◌}
 use Rattle.std.specs.Prelude.{sum}
-use Rattle.std.proofs.lemmas.Bool.{and_parts, cond_both, eqb-true, leb-true, le-ltb, lt-ltb, ltb-true, ltb-false}
+use Rattle.std.specs.Str.{bytes_eq}
+use Rattle.std.proofs.lemmas.Bool.{and_parts, cond_both, eqb-true, leb-true, le-ltb, lt-ltb, ltb-true, ltb-false, true≢false}
+use Rattle.std.proofs.lemmas.Slice.Eq.{bytes_eq-Decides}
 use Rattle.bus_model.specs.declared.operation.Reply.{Reply}
 use Rattle.bus_model.specs.declared.operation.Reply.TheVariants as replies
 use Rattle.bus_model.specs.declared.operation.Step.{Step}
 use Rattle.command_block.specs.declared.attempt.Phase.{Phase}
-use Rattle.command_block.specs.declared.attempt.Phase.TheVariants.{Delayed, Idle, Filling, Triggering, Resting, Awaiting, Counting, Reading}
+use Rattle.command_block.specs.declared.attempt.Phase.TheVariants.{Delayed, Idle, Filling, Triggering, Resting, Awaiting, Counting, Reading, Checking}
 use Rattle.command_block.specs.declared.attempt.Timing.{Timing}
 use Rattle.command_block.specs.declared.judgement.Judgement.{Judgement}
 use Rattle.command_block.specs.declared.judgement.Judgement.TheVariants.{On, Again, Ends}
@@ -14,9 +16,9 @@ use Rattle.command_block.specs.declared.message.Message.{Message}
 use Rattle.command_block.specs.declared.outcome.Outcome.TheVariants.{Succeeded, Failed}
 use Rattle.conversations.specs.declared.next.Next.TheVariants.{Do}
 use Rattle.command_block.specs.Messages.{complement}
-use Rattle.command_block.specs.Operations.{head, piece, read_count, read_reply, read_status, trigger}
-use Rattle.command_block.specs.Phases.{after_bytes, after_count, after_idle, after_piece, after_status, filling, judged, next_at}
-use Rattle.command_block.specs.Attempts.{History, IsAttempt, IsCarriedOut, IsRead, IsSent}
+use Rattle.command_block.specs.Operations.{head, piece, read_back, read_count, read_reply, read_status, trigger}
+use Rattle.command_block.specs.Phases.{after_back, after_bytes, after_count, after_idle, after_piece, after_status, doubted, filling, judged, next_at}
+use Rattle.command_block.specs.Attempts.{History, IsAttempt, IsCarriedOut, IsNoBytes, IsNotAccepted, IsRead, IsSent}
 use Rattle.command_block.specs.AttemptEvents.{IsInPhase}
 
 pub carried_sent : (message : Message) (h : History) → IsCarriedOut message h → IsSent message h
@@ -35,7 +37,7 @@ module _ (message : Message) (h : History) where
   idle step is at [] was = (is, at)
   idle step is at (s ∷ []) was =
       cond_both (nat_lt s 128) (On (Filling 0)) Again (After Idle step)
-      (λ e. inr (inl (refl, (s, ltb-true s 128 e, (is, was)), at)))
+      (λ e. inl (refl, (s, ltb-true s 128 e, (is, was)), at))
       (λ e. (is, at))
   idle step is at (s ∷ t ∷ rest) was = (is, at)
 
@@ -49,8 +51,22 @@ module _ (message : Message) (h : History) where
       → After (Filling at) step (after_piece (length message.body.items) at)
   filled at step is done now =
       cond_both (nat_lt at (length message.body.items)) (On (Filling (at + 8))) (On Triggering) (After (Filling at) step)
-      (λ e. let less = ltb-true at (length message.body.items) e in inr (inr (at, refl, less, (is ∙ piece_op at less, done), now)))
+      (λ e. let less = ltb-true at (length message.body.items) e in inr (inr (inl (at, refl, less, (is ∙ piece_op at less, done), now))))
       (λ e. let less = ltb-false at (length message.body.items) e in ((is ∙ head_op at less, done), (at, less, now)))
+
+  -- what was stored before the first piece needs no reading back
+  doubts : (at : ℕ) (step : Step) → IsNotAccepted (filling message at) step → IsInPhase message (Filling at) h → After (Filling at) step (doubted at)
+  doubts at step tried now =
+      cond_both (at == 0) Again (On (Checking at)) (After (Filling at) step)
+      (λ e. inr (inl (eqb-true at 0 e, tried, now)))
+      (λ e. inl (tried, now))
+
+  back : (at : ℕ) (step : Step) → step.op ≡ read_back message at → IsInPhase message (Checking at) h → (bytes : List ℕ) → step.reply ≡ replies.Bytes (record { items = bytes })
+      → After (Checking at) step (after_back message.body.items at bytes)
+  back at step is now bytes was =
+      cond_both (bytes_eq bytes (take at message.body.items)) (On (Filling at)) (On (Filling 0)) (After (Checking at) step)
+      (λ e. inr (inr (inr (inl ((is, was ∙ ap (λ (l : List ℕ). replies.Bytes (record { items = l })) ((bytes_eq-Decides bytes (take at message.body.items)).0 e)), now)))))
+      (λ e. inr (inr (inr (inr (refl, (at, bytes, (λ same. true≢false (sym ((bytes_eq-Decides bytes (take at message.body.items)).1 same) ∙ e)), (is, was), now))))))
 
   failed : (step : Step) → step.op ≡ read_status → IsInPhase message Awaiting h → (s : ℕ) → step.reply ≡ replies.Bytes (record { items = s ∷ [] })
       → After Awaiting step (cond (nat_le 64 s && nat_lt s 128) (Ends (Failed s)) Again)
@@ -100,9 +116,9 @@ module _ (message : Message) (h : History) where
     by replies.Refused was = let is : step.op ≡ read_status = cc in (is, at)
   told timing (Filling from) step asks at = by step.reply refl where
     by : (reply : Reply) → step.reply ≡ reply → After (Filling from) step (judged message (Filling from) reply)
-    by (replies.Bytes bytes) was = let is : step.op ≡ filling message from = cc in inl ((is, λ e. absurd cc), at)
+    by (replies.Bytes bytes) was = let is : step.op ≡ filling message from = cc in doubts from step (is, λ e. absurd cc) at
     by replies.Done was = let is : step.op ≡ filling message from = cc in filled from step is was at
-    by replies.Refused was = let is : step.op ≡ filling message from = cc in inl ((is, λ e. absurd cc), at)
+    by replies.Refused was = let is : step.op ≡ filling message from = cc in doubts from step (is, λ e. absurd cc) at
   told timing Triggering step asks at = by step.reply refl where
     by : (reply : Reply) → step.reply ≡ reply → After Triggering step (judged message Triggering reply)
     by (replies.Bytes bytes) was = let is : step.op ≡ trigger message = cc in inr ((is, λ e. absurd cc), at)
@@ -123,3 +139,8 @@ module _ (message : Message) (h : History) where
     by (replies.Bytes bytes) was = let is : step.op ≡ read_reply count = cc in reading count check step is at bytes.items was
     by replies.Done was = let is : step.op ≡ read_reply count = cc in (inl (subst IsRead (sym is) tt, at.0), at.1, at.2, at.3, inr at.4)
     by replies.Refused was = let is : step.op ≡ read_reply count = cc in (inl (subst IsRead (sym is) tt, at.0), at.1, at.2, at.3, inr at.4)
+  told timing (Checking from) step asks at = by step.reply refl where
+    by : (reply : Reply) → step.reply ≡ reply → After (Checking from) step (judged message (Checking from) reply)
+    by (replies.Bytes bytes) was = let is : step.op ≡ read_back message from = cc in back from step is at bytes.items was
+    by replies.Done was = let is : step.op ≡ read_back message from = cc in inr ((is, subst IsNoBytes (sym was) tt), at)
+    by replies.Refused was = let is : step.op ≡ read_back message from = cc in inr ((is, subst IsNoBytes (sym was) tt), at)

@@ -1,5 +1,5 @@
 -- How far an attempt has come, by its own events with the newest first. (this project's own)
-use Rattle.std.specs.Prelude.{◌≡◌, ◌≤◌, ◌<◌, [], ◌∷◌, Option, Some, None, true}
+use Rattle.std.specs.Prelude.{◌≡◌, ◌≤◌, ◌<◌, [], ◌∷◌, Option, Some, None, false, true}
 use Rattle.bus_model.specs.declared.operation.Reply.TheVariants.{Done}
 use Rattle.bus_model.specs.Operations.{Answers}
 use Rattle.conversations.specs.declared.event.Event.TheVariants.{Made, Waited, Lacked, Asked}
@@ -7,7 +7,7 @@ use Rattle.conversations.specs.declared.next.Next.TheVariants.{Do, Wait}
 use Rattle.conversations.specs.Events.{Events, steps_of}
 use Rattle.command_block.specs.declared.attempt.Attempt.{Attempt}
 use Rattle.command_block.specs.declared.attempt.Phase.{Phase}
-use Rattle.command_block.specs.declared.attempt.Phase.TheVariants.{Delayed, Idle, Filling, Triggering, Resting, Awaiting, Counting, Reading}
+use Rattle.command_block.specs.declared.attempt.Phase.TheVariants.{Delayed, Idle, Filling, Triggering, Resting, Awaiting, Counting, Reading, Checking}
 use Rattle.command_block.specs.declared.attempt.Timing.{Timing}
 use Rattle.command_block.specs.declared.message.Message.{Message}
 use Rattle.command_block.specs.declared.outcome.Outcome.{Outcome}
@@ -43,13 +43,14 @@ pub record IsTold (own : Events) (attempt : Attempt) : Type 0 where
 abbrev pub IsInPhase : Message → Phase → History → Type 0
 IsInPhase message Delayed history = IsPreparing history
 IsInPhase message Idle history = IsPreparing history
-IsInPhase message (Filling at) history = IsFilled message at history
+IsInPhase message (Filling at) history = IsFilled message false at history
 IsInPhase message Triggering history = IsHeaded message history
 IsInPhase message Resting history = IsSent message history
 IsInPhase message Awaiting history = IsSent message history
 IsInPhase message Counting history = IsCarriedOut message history × (message.replies ≡ true)
 IsInPhase message (Reading count check) history =
     IsCarriedOut message history × (message.replies ≡ true) × (0 < count) × (count ≤ 120) × Stands (Gives read_count (count ∷ check ∷ [])) history
+IsInPhase message (Checking at) history = IsFilled message true at history
 
 abbrev pub HasCome : Message → Phase → Option Outcome → History → Type 0
 HasCome message phase None history = IsInPhase message phase history

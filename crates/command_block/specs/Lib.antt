@@ -6,3 +6,5 @@ pub mod AttemptEvents
 pub mod Deliveries
 pub mod Turns
 pub mod Advertised
+pub mod KnownBlocks
+pub mod Rounds

@@ -13,6 +13,10 @@ read_status = Fetch A0 37 1
 abbrev pub piece : Message → ℕ → Op
 piece message at = Store A0 (136 + at) (record { items = slice_range message.body.items at (min (at + 8) (length message.body.items)) })
 
+-- what was stored of the body below this byte
+abbrev pub read_back : Message → ℕ → Op
+read_back message at = Fetch A0 136 (max 1 (min at (length message.body.items)))
+
 -- no extended payload, the length of the body, and the check code; the length and the check code of the reply are cleared
 abbrev pub head : Message → Op
 head message = Store A0 130 (record { items = 0 ∷ 0 ∷ length message.body.items ∷ check_code message ∷ 0 ∷ 0 ∷ [] })

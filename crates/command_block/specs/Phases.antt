@@ -1,6 +1,7 @@
 -- What an attempt does in each phase, and what the reply to that says. (OIF-CMIS-05.0, "CDB Messaging"; CdbStatus1, byte 37
 -- of the lower memory: bit 7 tells busy, 01h success, bit 6 failure)
-use Rattle.std.specs.Prelude.{ℕ, ◌+◌, ◌==◌, ◌&&◌, nat_le, nat_lt, Bool, List, [], ◌∷◌, length, Option, Some, None, if◌then◌else◌, sum}
+use Rattle.std.specs.Prelude.{ℕ, ◌+◌, ◌==◌, ◌&&◌, nat_le, nat_lt, Bool, List, [], ◌∷◌, length, take, Option, Some, None, if◌then◌else◌, sum}
+use Rattle.std.specs.Str.{bytes_eq}
 use Rattle.bus_model.specs.declared.operation.Op.{Op}
 use Rattle.bus_model.specs.declared.operation.Reply.{Reply}
 use Rattle.bus_model.specs.declared.operation.Reply.TheVariants as replies
@@ -8,7 +9,7 @@ use Rattle.conversations.specs.declared.next.Next.{Next}
 use Rattle.conversations.specs.declared.next.Next.TheVariants.{Do, Wait, End}
 use Rattle.command_block.specs.declared.attempt.Attempt.{Attempt}
 use Rattle.command_block.specs.declared.attempt.Phase.{Phase}
-use Rattle.command_block.specs.declared.attempt.Phase.TheVariants.{Delayed, Idle, Filling, Triggering, Resting, Awaiting, Counting, Reading}
+use Rattle.command_block.specs.declared.attempt.Phase.TheVariants.{Delayed, Idle, Filling, Triggering, Resting, Awaiting, Counting, Reading, Checking}
 use Rattle.command_block.specs.declared.attempt.Timing.{Timing}
 use Rattle.command_block.specs.declared.judgement.Judgement.{Judgement}
 use Rattle.command_block.specs.declared.judgement.Judgement.TheVariants.{On, Again, Ends}
@@ -16,7 +17,7 @@ use Rattle.command_block.specs.declared.message.Message.{Message}
 use Rattle.command_block.specs.declared.outcome.Outcome.{Outcome}
 use Rattle.command_block.specs.declared.outcome.Outcome.TheVariants.{Succeeded, Failed, Unsent, Unknown}
 use Rattle.command_block.specs.Messages.{complement}
-use Rattle.command_block.specs.Operations.{head, piece, read_count, read_reply, read_status, trigger}
+use Rattle.command_block.specs.Operations.{head, piece, read_back, read_count, read_reply, read_status, trigger}
 
 -- ---- what is wanted
 
@@ -33,6 +34,7 @@ next_at message timing Resting = Wait timing.rest
 next_at message timing Awaiting = Do read_status
 next_at message timing Counting = Do read_count
 next_at message timing (Reading count check) = Do (read_reply count)
+next_at message timing (Checking at) = Do (read_back message at)
 
 abbrev pub wants_by : Attempt → Option Outcome → Next Outcome
 wants_by attempt None = next_at attempt.message attempt.timing attempt.phase
@@ -51,6 +53,7 @@ page_at Resting = None
 page_at Awaiting = None
 page_at Counting = Some 159
 page_at (Reading count check) = Some 159
+page_at (Checking at) = Some 159
 
 abbrev pub page_by : Phase → Option Outcome → Option ℕ
 page_by phase None = page_at phase
@@ -69,7 +72,12 @@ if_done message (Filling at) = after_piece (length message.body.items) at
 if_done message Triggering = On Resting
 if_done message _ = Again
 
+-- a module that refuses may have reset itself, so what was stored of the body is read back before more is
+abbrev pub doubted : ℕ → Judgement
+doubted at = if at == 0 then Again else On (Checking at)
+
 abbrev pub if_refused : Phase → Judgement
+if_refused (Filling at) = doubted at
 if_refused Triggering = Ends Unknown
 if_refused _ = Again
 
@@ -94,15 +102,20 @@ after_count _ = Again
 abbrev pub after_bytes : ℕ → List ℕ → Judgement
 after_bytes check bytes = if nat_le (length bytes) 128 && complement (sum bytes) == check then Ends (Succeeded (record { items = bytes })) else On Resting
 
+-- the module has the body below this byte, or the body is stored anew
+abbrev pub after_back : List ℕ → ℕ → List ℕ → Judgement
+after_back body at bytes = if bytes_eq bytes (take at body) then On (Filling at) else On (Filling 0)
+
 abbrev pub if_bytes : Message → Phase → List ℕ → Judgement
 if_bytes message Delayed bytes = Again
 if_bytes message Idle bytes = after_idle bytes
-if_bytes message (Filling at) bytes = Again
+if_bytes message (Filling at) bytes = doubted at
 if_bytes message Triggering bytes = Ends Unknown
 if_bytes message Resting bytes = Again
 if_bytes message Awaiting bytes = after_status message.replies bytes
 if_bytes message Counting bytes = after_count bytes
 if_bytes message (Reading count check) bytes = after_bytes check bytes
+if_bytes message (Checking at) bytes = after_back message.body.items at bytes
 
 abbrev pub judged : Message → Phase → Reply → Judgement
 judged message phase (replies.Bytes bytes) = if_bytes message phase bytes.items
@@ -151,6 +164,7 @@ given_up Resting = Unknown
 given_up Awaiting = Unknown
 given_up Counting = Unknown
 given_up (Reading count check) = Unknown
+given_up (Checking at) = Unsent
 
 abbrev pub known_by : Phase → Option Outcome → Outcome
 known_by phase None = given_up phase

@@ -6,7 +6,7 @@ ghost use Rattle.command_block.specs.Phases as spec;
 
 use crate::judgement::{Judgement, judged};
 use crate::message::Message;
-use crate::operations::{head, piece, read_count, read_reply, read_status, trigger};
+use crate::operations::{head, piece, read_back, read_count, read_reply, read_status, trigger};
 use crate::outcome::Outcome;
 use bus_model::{Op, Reply};
 use conversations::{Conversation, NeedsPages, Next};
@@ -44,6 +44,8 @@ pub enum Phase {
     Counting,
     /// The reply is to be read.
     Reading { count: u8, check: u8 },
+    /// A store was refused once the body was stored up to this byte: that is to be read back before the next.
+    Checking { at: u8 },
 }
 
 /// An attempt to have a message carried out.
@@ -103,6 +105,7 @@ impl Attempt {
             Phase::Resting => Next::Wait(self.timing.rest),
             Phase::Counting => Next::Do(read_count()),
             Phase::Reading { count, .. } => Next::Do(read_reply(count)),
+            Phase::Checking { at } => Next::Do(read_back(&self.message, at)),
         }
     }
 
@@ -194,7 +197,11 @@ impl NeedsPages for Attempt {
         match (&self.outcome, self.phase) {
             (
                 None,
-                Phase::Filling { .. } | Phase::Triggering | Phase::Counting | Phase::Reading { .. },
+                Phase::Filling { .. }
+                | Phase::Triggering
+                | Phase::Counting
+                | Phase::Reading { .. }
+                | Phase::Checking { .. },
             ) => Some(PAGE),
             _ => None,
         }

@@ -55,8 +55,20 @@ fn if_refused(phase: Phase) -> Judgement
     ensures { result ≡ spec.if_refused phase }
 {
     match phase {
+        Phase::Filling { at } => doubted(at),
         Phase::Triggering => Judgement::Ends(Outcome::Unknown),
         _ => Judgement::Again,
+    }
+}
+
+// The module may have reset itself, so what was stored of the body is read back first.
+fn doubted(at: u8) -> Judgement
+    ensures { result ≡ spec.doubted at }
+{
+    if at == 0 {
+        Judgement::Again
+    } else {
+        Judgement::On(Phase::Checking { at })
     }
 }
 
@@ -65,9 +77,11 @@ fn if_bytes(message: &Message, phase: Phase, bytes: &[u8]) -> Judgement
 {
     match phase {
         Phase::Idle => after_idle(bytes),
+        Phase::Filling { at } => doubted(at),
         Phase::Awaiting => after_status(message.replies, bytes),
         Phase::Counting => after_count(bytes),
         Phase::Reading { check, .. } => after_bytes(check, bytes),
+        Phase::Checking { at } => after_back(message.body.as_slice(), at, bytes),
         Phase::Triggering => Judgement::Ends(Outcome::Unknown),
         _ => Judgement::Again,
     }
@@ -128,5 +142,17 @@ fn after_bytes(check: u8, bytes: &[u8]) -> Judgement
         Judgement::Ends(Outcome::Succeeded(ArrayVec::try_from(bytes).unwrap()))
     } else {
         Judgement::On(Phase::Resting)
+    }
+}
+
+// The module has the body before this byte, or the body is stored anew.
+fn after_back(body: &[u8], at: u8, bytes: &[u8]) -> Judgement
+    ensures { result ≡ spec.after_back body.now at bytes.now }
+{
+    let stored = &body[..usize::from(at).min(body.len())];
+    if bytes == stored {
+        Judgement::On(Phase::Filling { at })
+    } else {
+        Judgement::On(Phase::Filling { at: 0 })
     }
 }

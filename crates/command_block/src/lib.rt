@@ -5,6 +5,7 @@ mod advertised;
 mod attempt;
 mod delivery;
 mod judgement;
+pub mod laws;
 mod message;
 mod operations;
 mod outcome;

@@ -36,6 +36,19 @@ pub fn piece(message: &Message, at: u8) -> Op
     }
 }
 
+/// What was stored of the body before this byte.
+pub fn read_back(message: &Message, at: u8) -> Op
+    ensures operation { result ≡ spec.read_back message.now at }
+    ensures shape { IsWellShaped result }
+{
+    let count = usize::from(at).min(message.body.len()).max(1);
+    Op::Fetch {
+        dev: Dev::A0,
+        offset: 136,
+        count: count as u8,
+    }
+}
+
 /// The lengths and the check code; the reply's are cleared.
 pub fn head(message: &Message) -> Op
     ensures operation { result ≡ spec.head message.now }

@@ -8,7 +8,7 @@ use Rattle.command_block.specs.declared.message.Message.{Message}
 use Rattle.command_block.specs.declared.outcome.Outcome.{Outcome}
 use Rattle.command_block.specs.declared.outcome.Outcome.TheVariants.{Succeeded, Failed, Unsent, Unknown}
 use Rattle.command_block.specs.Attempts.{Gives, History, IsAttempt, IsCarriedOut, IsFilled, IsHeaded, IsPreparing, IsRead, IsSent, NoTrigger, Replies, ShowsFailure, Stands}
-use Rattle.command_block.specs.Operations.{head, piece, read_count, read_reply, read_status, trigger}
+use Rattle.command_block.specs.Operations.{head, piece, read_back, read_count, read_reply, read_status, trigger}
 use Rattle.command_block.specs.Phases.{filling}
 use Rattle.command_block.proofs.Told.{carried_sent}
 use Rattle.conversations.specs.Events.{Events, steps_of}
@@ -64,24 +64,35 @@ module _ (sent : Message) where
   count_apart : (step : Step) (bytes : List ℕ) → step.op ≡ read_status → Gives read_count bytes step → ⊥
   count_apart step bytes is gives = let e : 37 ≡ 134 = ap (λ (o : Op). fetched_at o) (sym is ∙ gives.0) in omega (arith, e)
 
+  back_apart : (at : ℕ) (step : Step) (bytes : List ℕ) → step.op ≡ read_back sent at → Gives read_count bytes step → ⊥
+  back_apart at step bytes is gives = let e : 136 ≡ 134 = ap (λ (o : Op). fetched_at o) (sym is ∙ gives.0) in omega (arith, e)
+
   preparing_none : (bytes : List ℕ) (h : History) → IsPreparing h → Stands (Gives read_count bytes) h → ⊥
   preparing_none bytes [] at stands = stands
   preparing_none bytes (step ∷ before) (is, at) (inl gives) = count_apart step bytes is gives
   preparing_none bytes (step ∷ before) (is, at) (inr stands) = preparing_none bytes before at stands
 
-  filled_none : (bytes : List ℕ) (at : ℕ) (h : History) → IsFilled sent at h → Stands (Gives read_count bytes) h → ⊥
-  filled_none bytes at [] now stands = stands
-  filled_none bytes at (step ∷ before) (inl (tried, now)) (inl gives) = not_both step read_count (filling sent at) tt (filling_stores at) gives.0 tried.0
-  filled_none bytes at (step ∷ before) (inl (tried, now)) (inr stands) = filled_none bytes at before now stands
-  filled_none bytes at (step ∷ before) (inr (inl (first, (status, few, read), now))) (inl gives) = count_apart step bytes read.0 gives
-  filled_none bytes at (step ∷ before) (inr (inl (first, idle, now))) (inr stands) = preparing_none bytes before now stands
-  filled_none bytes at (step ∷ before) (inr (inr (earlier, is, less, taken, now))) (inl gives) = not_both step read_count (piece sent earlier) tt (λ read. read) gives.0 taken.0
-  filled_none bytes at (step ∷ before) (inr (inr (earlier, is, less, taken, now))) (inr stands) = filled_none bytes earlier before now stands
+  filled_none : (bytes : List ℕ) (doubted : Bool) (at : ℕ) (h : History) → IsFilled sent doubted at h → Stands (Gives read_count bytes) h → ⊥
+  filled_none bytes doubted at [] now stands = stands
+  filled_none bytes true at (step ∷ before) (inl (tried, now)) (inl gives) = not_both step read_count (filling sent at) tt (filling_stores at) gives.0 tried.0
+  filled_none bytes true at (step ∷ before) (inl (tried, now)) (inr stands) = filled_none bytes false at before now stands
+  filled_none bytes true at (step ∷ before) (inr (unread, now)) (inl gives) = back_apart at step bytes unread.0 gives
+  filled_none bytes true at (step ∷ before) (inr (unread, now)) (inr stands) = filled_none bytes true at before now stands
+  filled_none bytes false at (step ∷ before) (inl (first, (status, few, read), now)) (inl gives) = count_apart step bytes read.0 gives
+  filled_none bytes false at (step ∷ before) (inl (first, idle, now)) (inr stands) = preparing_none bytes before now stands
+  filled_none bytes false at (step ∷ before) (inr (inl (first, tried, now))) (inl gives) = not_both step read_count (filling sent at) tt (filling_stores at) gives.0 tried.0
+  filled_none bytes false at (step ∷ before) (inr (inl (first, tried, now))) (inr stands) = filled_none bytes false at before now stands
+  filled_none bytes false at (step ∷ before) (inr (inr (inl (earlier, is, less, taken, now)))) (inl gives) = not_both step read_count (piece sent earlier) tt (λ read. read) gives.0 taken.0
+  filled_none bytes false at (step ∷ before) (inr (inr (inl (earlier, is, less, taken, now)))) (inr stands) = filled_none bytes false earlier before now stands
+  filled_none bytes false at (step ∷ before) (inr (inr (inr (inl (back, now))))) (inl gives) = back_apart at step bytes back.0 gives
+  filled_none bytes false at (step ∷ before) (inr (inr (inr (inl (back, now))))) (inr stands) = filled_none bytes true at before now stands
+  filled_none bytes false at (step ∷ before) (inr (inr (inr (inr (first, (earlier, other, differs, back, now)))))) (inl gives) = back_apart earlier step bytes back.0 gives
+  filled_none bytes false at (step ∷ before) (inr (inr (inr (inr (first, (earlier, other, differs, back, now)))))) (inr stands) = filled_none bytes true earlier before now stands
 
   headed_none : (bytes : List ℕ) (h : History) → IsHeaded sent h → Stands (Gives read_count bytes) h → ⊥
   headed_none bytes [] now stands = stands
   headed_none bytes (step ∷ before) (taken, rest) (inl gives) = not_both step read_count (head sent) tt (λ read. read) gives.0 taken.0
-  headed_none bytes (step ∷ before) (taken, (at, all, now)) (inr stands) = filled_none bytes at before now stands
+  headed_none bytes (step ∷ before) (taken, (at, all, now)) (inr stands) = filled_none bytes false at before now stands
 
   -- ---- what is shown is of this message
 

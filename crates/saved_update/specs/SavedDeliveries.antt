@@ -2,7 +2,7 @@
 use Rattle.std.specs.Prelude.{◌≡◌, ◌==◌, ◌&&◌, ◌++◌, ℕ, nat_le, Bool, true, List, drop, length, take, replicate, Option, Some, None, if◌then◌else◌}
 use Rattle.command_block.specs.declared.attempt.Attempt.{Attempt}
 use Rattle.command_block.specs.declared.attempt.Phase.{Phase}
-use Rattle.command_block.specs.declared.attempt.Phase.TheVariants.{Delayed, Idle, Filling, Triggering, Resting, Awaiting, Counting, Reading}
+use Rattle.command_block.specs.declared.attempt.Phase.TheVariants.{Delayed, Idle, Filling, Triggering, Resting, Awaiting, Counting, Reading, Checking}
 use Rattle.command_block.specs.declared.delivery.Delivery.{Delivery}
 use Rattle.command_block.specs.declared.message.Message.{Message}
 use Rattle.command_block.specs.declared.outcome.Outcome.{Outcome}
@@ -30,7 +30,8 @@ phase_in number at check =
     else (if number == 4 then Resting
     else (if number == 5 then Awaiting
     else (if number == 6 then Counting
-    else Reading at check))))))
+    else (if number == 7 then Reading at check
+    else Checking at)))))))
 
 abbrev pub outcome_by : ℕ → ℕ → ℕ → List ℕ → Option Outcome
 outcome_by number status count reply =

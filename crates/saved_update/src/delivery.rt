@@ -55,7 +55,8 @@ fn phase_in(number: u8, at: u8, check: u8) -> Phase
         4 => Phase::Resting,
         5 => Phase::Awaiting,
         6 => Phase::Counting,
-        _ => Phase::Reading { count: at, check },
+        7 => Phase::Reading { count: at, check },
+        _ => Phase::Checking { at },
     }
 }
 
@@ -237,5 +238,6 @@ fn numbers_of_phase(phase: Phase) -> (u8, u8, u8)
         Phase::Awaiting => (5, 0, 0),
         Phase::Counting => (6, 0, 0),
         Phase::Reading { count, check } => (7, count, check),
+        Phase::Checking { at } => (8, at, 0),
     }
 }

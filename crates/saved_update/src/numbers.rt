@@ -18,9 +18,9 @@ pub struct SavedDelivery {
     pub idle: u32,
     /// How many operations were made.
     pub steps: u16,
-    /// 0 to 7, in their order.
+    /// 0 to 8, in their order.
     pub phase: u8,
-    /// The byte from which on the body is stored next, or how long the reply is.
+    /// The byte from which on the body is stored next, or up to which it is read back, or how long the reply is.
     pub at: u8,
     /// The check code of the reply.
     pub check: u8,

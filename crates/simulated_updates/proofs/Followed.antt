@@ -46,7 +46,7 @@ use Rattle.firmware_update.proofs.OnBus.{delivery_does, delivery_waits, none_doe
 use Rattle.firmware_update.proofs.Told as tells
 use Rattle.firmware_laws.specs.AtTheBus.{ComesOnBus, StandsAfter}
 use Rattle.simulated_updates.specs.declared.chance.Chance.{Chance}
-use Rattle.simulated_updates.specs.Modules.{Module, befallen, has_page, is_deaf, status_shown, stepped, stored, stored_reply, storing}
+use Rattle.simulated_updates.specs.Modules.{Module, befallen, has_page, is_deaf, payload, status_shown, stepped, stored, stored_reply, storing}
 use Rattle.simulated_updates.specs.OnTheBus.{Becomes, MayStep}
 use Rattle.simulated_updates.specs.Performed.{conduct}
 use Rattle.simulated_updates.proofs.Courses.{happens, unpaged, unpaused}
@@ -60,8 +60,8 @@ same_bytes : (one two : List ℕ) → ◌≡◌ {A = Option (List ℕ)} (Some on
 same_bytes one two e = cc
 
 read_by : (a b c d : Bool) (offset count : ℕ) (m : Module) (bytes : List ℕ)
-    → (offset == 37 && count == 1) ≡ a → (offset == 126 && count == 2) ≡ b → (has_page m && (offset == 134 && count == 2)) ≡ c → (has_page m && (offset == 136 && nat_le count (length m.reply))) ≡ d
-    → cond a (Some (status_shown m ∷ [])) (cond b (Some (0 ∷ m.page ∷ [])) (cond c (Some (length m.reply ∷ complement (sum m.reply) ∷ [])) (cond d (Some (take count m.reply)) None))) ≡ Some bytes
+    → (offset == 37 && count == 1) ≡ a → (offset == 126 && count == 2) ≡ b → (has_page m && (offset == 134 && count == 2)) ≡ c → (has_page m && (offset == 136 && nat_le count (length (payload m)))) ≡ d
+    → cond a (Some (status_shown m ∷ [])) (cond b (Some (0 ∷ m.page ∷ [])) (cond c (Some (length m.reply ∷ complement (sum m.reply) ∷ [])) (cond d (Some (take count (payload m))) None))) ≡ Some bytes
     → length bytes ≡ count
 read_by true b c d offset count m bytes is_a is_b is_c is_d e =
     let one = eqb-true count 1 (and_parts (offset == 37) (count == 1) is_a).1 in
@@ -73,8 +73,8 @@ read_by false false true d offset count m bytes is_a is_b is_c is_d e =
     let two = eqb-true count 2 (and_parts (offset == 134) (count == 2) (and_parts (has_page m) (offset == 134 && count == 2) is_c).1).1 in
     ap (λ (l : List ℕ). length l) (sym (same_bytes (length m.reply ∷ complement (sum m.reply) ∷ []) bytes e)) ∙ sym two
 read_by false false false true offset count m bytes is_a is_b is_c is_d e =
-    let few = leb-true count (length m.reply) (and_parts (offset == 136) (nat_le count (length m.reply)) (and_parts (has_page m) (offset == 136 && nat_le count (length m.reply)) is_d).1).1 in
-    ap (λ (l : List ℕ). length l) (sym (same_bytes (take count m.reply) bytes e)) ∙ length-take-le count m.reply few
+    let few = leb-true count (length (payload m)) (and_parts (offset == 136) (nat_le count (length (payload m))) (and_parts (has_page m) (offset == 136 && nat_le count (length (payload m))) is_d).1).1 in
+    ap (λ (l : List ℕ). length l) (sym (same_bytes (take count (payload m)) bytes e)) ∙ length-take-le count (payload m) few
 read_by false false false false offset count m bytes is_a is_b is_c is_d e = absurd cc
 
 fetch_answers : (offset count : ℕ) (old : Module) (reply : Reply) (new : Module) → Read offset count old (reply, new) → Answers (Fetch A0 offset count) reply

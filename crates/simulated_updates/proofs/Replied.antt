@@ -10,14 +10,14 @@ use Rattle.bus_model.specs.declared.operation.Reply.{Reply}
 use Rattle.bus_model.specs.Operations.{Answers}
 use Rattle.command_block.specs.declared.attempt.Attempt.{Attempt}
 use Rattle.command_block.specs.declared.attempt.Phase.{Phase}
-use Rattle.command_block.specs.declared.attempt.Phase.TheVariants.{Delayed, Idle, Filling, Triggering, Resting, Awaiting, Counting, Reading}
+use Rattle.command_block.specs.declared.attempt.Phase.TheVariants.{Delayed, Idle, Filling, Triggering, Resting, Awaiting, Counting, Reading, Checking}
 use Rattle.command_block.specs.declared.attempt.Timing.{Timing}
 use Rattle.command_block.specs.declared.delivery.Delivery.{Delivery}
 use Rattle.command_block.specs.declared.message.Message.{Message}
 use Rattle.command_block.specs.declared.outcome.Outcome.{Outcome}
 use Rattle.command_block.specs.AttemptEvents.{IsTold}
 use Rattle.command_block.specs.Deliveries.{Paged, Patient, ToldPaged, ToldPatient, attempt_in, delivery_after, delivery_wants, needed_after, paged_after, paged_wants, patient_after, patient_wants, terms_of}
-use Rattle.command_block.specs.Operations.{head, piece}
+use Rattle.command_block.specs.Operations.{head, piece, read_back}
 use Rattle.command_block.specs.Phases.{filling, known, lacking, next_at, page_of, taken, wants, wants_by}
 use Rattle.command_block.proofs.Delivered.{do_within}
 use Rattle.conversations.specs.declared.event.Event.TheVariants.{Lacked}
@@ -68,6 +68,8 @@ apart_at by sent timing Awaiting op e = let is : Fetch A0 37 1 ≡ op = cc in su
 apart_at by sent timing Counting op e = let is : Fetch A0 134 2 ≡ op = cc in subst (IsApart by) is (apart_fetch by 134 2 refl refl refl)
 apart_at by sent timing (Reading count check) op e =
     let is : Fetch A0 136 (max 1 (min count 120)) ≡ op = cc in subst (IsApart by) is (apart_fetch by 136 (max 1 (min count 120)) refl refl refl)
+apart_at by sent timing (Checking at) op e =
+    let is : read_back sent at ≡ op = cc in subst (IsApart by) is (apart_fetch by 136 (max 1 (min at (length sent.body.items))) refl refl refl)
 
 apart_by : (by : PageAddressing) (attempt : Attempt) (outcome : Option Outcome) (op : Op) → wants_by attempt outcome ≡ Do op → IsApart by op
 apart_by by attempt None op e = apart_at by attempt.message attempt.timing attempt.phase op e

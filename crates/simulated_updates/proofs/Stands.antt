@@ -1,6 +1,7 @@
 -- An attempt on the simulated module: how that stands after each of its own events.
 use Rattle.std.proofs.Common.{◌≡◌, ◌≢◌, ◌⊎◌, ℕ, ◌+◌, ◌-◌, ◌*◌, ◌/◌, ◌%◌, ◌<◌, ◌≤◌, nat_lt, nat_le, ◌==◌, ◌&&◌, ◌++◌, Bool, true, false, cond, List, [], ◌∷◌, length, take, Option, Some, None, refl, sym, subst, ap, inl, inr, ◌∙◌, arith}
 use Rattle.std.specs.Prelude.{max, min, sum, drop, slice_range}
+use Rattle.std.specs.Str.{bytes_eq}
 use Rattle.std.proofs.lemmas.Bool.{cond_both, le-ltb, lt-ltb, ltb-true, ltb-false}
 use Rattle.std.proofs.lemmas.List.{take_all, take_at, take_min, take-take, take-append-drop, length-take, length-take-le}
 use Rattle.std.proofs.Math.Seq.{take-append-add}
@@ -11,7 +12,7 @@ use Rattle.bus_model.specs.declared.operation.Reply.TheVariants.{Bytes, Done, Re
 use Rattle.bus_model.specs.declared.operation.Step.{Step}
 use Rattle.command_block.specs.declared.attempt.Attempt.{Attempt}
 use Rattle.command_block.specs.declared.attempt.Phase.{Phase}
-use Rattle.command_block.specs.declared.attempt.Phase.TheVariants.{Delayed, Idle, Filling, Triggering, Resting, Awaiting, Counting, Reading}
+use Rattle.command_block.specs.declared.attempt.Phase.TheVariants.{Delayed, Idle, Filling, Triggering, Resting, Awaiting, Counting, Reading, Checking}
 use Rattle.command_block.specs.declared.attempt.Timing.{Timing}
 use Rattle.command_block.specs.declared.judgement.Judgement.{Judgement}
 use Rattle.command_block.specs.declared.judgement.Judgement.TheVariants.{On, Again, Ends}
@@ -21,8 +22,8 @@ use Rattle.command_block.specs.declared.outcome.Outcome.TheVariants.{Succeeded, 
 use Rattle.command_block.specs.AttemptEvents.{EachIsWanted, attempt_after}
 use Rattle.command_block.specs.Attempts.{History}
 use Rattle.command_block.specs.Messages.{complement}
-use Rattle.command_block.specs.Operations.{head, piece, read_count, read_reply, read_status, trigger}
-use Rattle.command_block.specs.Phases.{after_bytes, after_count, after_idle, after_piece, after_status, filling, judged, next_at, outcome_after, phase_after, phase_rested, wants_by}
+use Rattle.command_block.specs.Operations.{head, piece, read_back, read_count, read_reply, read_status, trigger}
+use Rattle.command_block.specs.Phases.{after_bytes, after_count, after_idle, after_piece, after_status, doubted, filling, judged, next_at, outcome_after, phase_after, phase_rested, wants_by}
 use Rattle.conversations.specs.declared.event.Event.TheVariants.{Made, Waited, Lacked, Asked}
 use Rattle.conversations.specs.declared.next.Next.TheVariants.{Do}
 use Rattle.conversations.specs.Events.{Events, steps_of}
@@ -99,6 +100,7 @@ module _ (sent : Message) (start : Module) where
   Known h m Awaiting = WasTaken h m
   Known h m Counting = WasTaken h m
   Known h m (Reading count check) = WasTaken h m
+  Known h m (Checking at) = Untaken h m × HasBody sent.body.items at m
 
   abbrev pub KnownBy : History → Module → Phase → Option Outcome → Type 0
   KnownBy h m phase None = Known h m phase
@@ -132,6 +134,7 @@ module _ (sent : Message) (start : Module) where
   known_on h old new Awaiting drift known = taken_on h old new drift known
   known_on h old new Counting drift known = taken_on h old new drift known
   known_on h old new (Reading count check) drift known = taken_on h old new drift known
+  known_on h old new (Checking at) drift known = (untaken_on h old new drift known.0, body_drifts sent.body.items at old new drift known.1)
 
   either_on : (h : History) (old new : Module) → Drifts old new → Untaken h old ⊎ WasTaken h old → Untaken h new ⊎ WasTaken h new
   either_on h old new drift (inl none) = inl (untaken_on h old new drift none)
@@ -168,10 +171,19 @@ module _ (sent : Message) (start : Module) where
 
   -- while the body and the header are stored
 
+  doubts : (h : History) (new : Module) (at : ℕ) → Untaken h new × HasBody sent.body.items at new → After h new (Filling at) (doubted at)
+  doubts h new at known = cond_both (at == 0) Again (On (Checking at)) (After h new (Filling at)) (λ e. known) (λ e. known)
+
   again : (h : History) (new : Module) (at : ℕ) → Untaken h new × HasBody sent.body.items at new → (reply : Reply) → reply ≢ Done → After h new (Filling at) (judged sent (Filling at) reply)
-  again h new at known (Bytes bytes) other = known
+  again h new at known (Bytes bytes) other = doubts h new at known
   again h new at known Done other = absurd (other refl)
-  again h new at known Refused other = known
+  again h new at known Refused other = doubts h new at known
+
+  back_judged : (h : History) (new : Module) (at : ℕ) → Untaken h new × HasBody sent.body.items at new → (reply : Reply) → After h new (Checking at) (judged sent (Checking at) reply)
+  back_judged h new at known (Bytes bytes) =
+      cond_both (bytes_eq bytes.items (take at sent.body.items)) (On (Filling at)) (On (Filling 0)) (After h new (Checking at)) (λ e. known) (λ e. (known.0, inl refl))
+  back_judged h new at known Done = known
+  back_judged h new at known Refused = known
 
   done_judged : (h : History) (new : Module) (at : ℕ) (reply : Reply) → reply ≡ Done → After h new (Filling at) (after_piece (length sent.body.items) at) → After h new (Filling at) (judged sent (Filling at) reply)
   done_judged h new at reply is after = subst (λ (r : Reply). After h new (Filling at) (judged sent (Filling at) r)) (sym is) after
@@ -276,6 +288,7 @@ module _ (sent : Message) (start : Module) where
   IsLate Awaiting = Unit {0}
   IsLate Counting = Unit {0}
   IsLate (Reading count check) = Unit {0}
+  IsLate (Checking at) = ⊥
 
   abbrev IsLateStill : Judgement → Type 0
   IsLateStill (On later) = IsLate later
@@ -291,6 +304,7 @@ module _ (sent : Message) (start : Module) where
   late_known h new Awaiting late was = was
   late_known h new Counting late was = was
   late_known h new (Reading count check) late was = was
+  late_known h new (Checking at) late was = absurd late
 
   late_after : (h : History) (new : Module) (phase : Phase) (j : Judgement) → IsLate phase → IsLateStill j → WasTaken h new → After h new phase j
   late_after h new phase (On later) late still was = late_known h new later still was
@@ -381,6 +395,12 @@ module _ (sent : Message) (start : Module) where
       let read_so = by_step (Read 136 (max 1 (min count 120)) old) chance (read_reply count) step.op old step.reply new is e (read_step chance 136 (max 1 (min count 120)) old) in
       late_after (step ∷ h) new (Reading count check) (judged sent (Reading count check) step.reply) tt (reading_late count check step.reply)
       (read_on h step (read_reply count) old new 136 (max 1 (min count 120)) is known read_so (λ answer shown. reply_shown_own count answer old (step.reply, new) shown read_so))
+  told timing (Checking at) h step old new asks known (chance, e) =
+      let is : step.op ≡ read_back sent at = cc in
+      let count = max 1 (min at (length sent.body.items)) in
+      let (mid, drift, came, same) = by_step (Read 136 count old) chance (read_back sent at) step.op old step.reply new is e (read_step chance 136 count old) in
+      let to : Drifts old new = subst (λ (m : Module). Drifts old m) (sym same) drift in
+      back_judged (step ∷ h) new at (untaken_more h step (read_back sent at) old new is (λ f. omega (arith, f)) known.0 to.endures, body_drifts sent.body.items at old new to known.1) step.reply
 
   -- ---- all events
 
@@ -398,6 +418,7 @@ module _ (sent : Message) (start : Module) where
   loosely h new Awaiting known = inr known
   loosely h new Counting known = inr known
   loosely h new (Reading count check) known = inr known
+  loosely h new (Checking at) known = inl known.0
 
   either : (h : History) (new : Module) (phase : Phase) (outcome : Option Outcome) → KnownBy h new phase outcome → Untaken h new ⊎ WasTaken h new
   either h new phase None known = loosely h new phase known
@@ -412,6 +433,7 @@ module _ (sent : Message) (start : Module) where
   rests h new Awaiting known = known
   rests h new Counting known = known
   rests h new (Reading count check) known = known
+  rests h new (Checking at) known = known
 
   rests_by : (h : History) (new : Module) (phase : Phase) (outcome : Option Outcome) → KnownBy h new phase outcome → KnownBy h new (phase_rested phase) outcome
   rests_by h new phase None known = rests h new phase known

@@ -9,7 +9,7 @@ use Rattle.bus_model.specs.declared.operation.Reply.{Reply}
 use Rattle.bus_model.specs.declared.operation.Reply.TheVariants.{Bytes, Done, Refused}
 use Rattle.command_block.specs.Messages.{complement}
 use Rattle.simulated_updates.specs.declared.chance.Chance.{Chance}
-use Rattle.simulated_updates.specs.Modules.{Module, Stored, befallen, fetching, has_page, is_deaf, read, read_reply, status_shown, stepped, store_body, store_id, store_page, stored, stored_reply, storing, taken}
+use Rattle.simulated_updates.specs.Modules.{Module, Stored, befallen, fetching, has_page, is_deaf, payload, read, read_reply, status_shown, stepped, store_body, store_id, store_page, stored, stored_reply, storing, taken}
 use Rattle.simulated_updates.proofs.Drifts.{Drifts, befallen_drifts}
 
 abbrev Turn : Type 0
@@ -62,14 +62,14 @@ module _ (chance : Chance) (offset : ℕ) (bytes : ArrayVec ℕ) (old : Module) 
 
 -- a piece of a body is stored behind those before it
 abbrev pub AddsPiece : ℕ → List ℕ → Module → Module → Type 0
-AddsPiece at given m new = (at ≤ length m.body) × (new ≡ record m { body = take at m.body ++ given })
+AddsPiece at given m new = (at ≤ length m.body) × (new ≡ record m { body = take at m.body ++ given; reply = [] })
 
 pub piece_step : (chance : Chance) (at : ℕ) (bytes : ArrayVec ℕ) (old : Module)
     → ByStore chance (136 + at) bytes old (AddsPiece at) (stepped chance (Store A0 (136 + at) bytes) old)
 piece_step chance at bytes old = by_store chance (136 + at) bytes old (AddsPiece at) does where
   body : (given : List ℕ) (m : Module) → (((store_body at given m).0 ≡ true) × AddsPiece at given m (store_body at given m).1) ⊎ (((store_body at given m).0 ≡ false) × ((store_body at given m).1 ≡ m))
   body given m =
-      cond_both (nat_le at (length m.body)) (true, record m { body = take at m.body ++ given }) (false, m) (λ (r : Stored). ((r.0 ≡ true) × AddsPiece at given m r.1) ⊎ ((r.0 ≡ false) × (r.1 ≡ m)))
+      cond_both (nat_le at (length m.body)) (true, record m { body = take at m.body ++ given; reply = [] }) (false, m) (λ (r : Stored). ((r.0 ≡ true) × AddsPiece at given m r.1) ⊎ ((r.0 ≡ false) × (r.1 ≡ m)))
       (λ e. inl (refl, (leb-true at (length m.body) e, refl))) (λ e. inr (refl, refl))
 
   page : (given : List ℕ) (m : Module) → (((store_page chance (136 + at) given m).0 ≡ true) × AddsPiece at given m (store_page chance (136 + at) given m).1) ⊎ (((store_page chance (136 + at) given m).0 ≡ false) × ((store_page chance (136 + at) given m).1 ≡ m))
@@ -142,7 +142,7 @@ read_step chance offset count old =
 pub reads_status : (m : Module) → read 37 1 m ≡ Some (status_shown m ∷ [])
 reads_status m = refl
 
-count_by : (there : Bool) (m : Module) (bytes : List ℕ) → cond (there && true) (Some (length m.reply ∷ complement (sum m.reply) ∷ [])) (cond (there && false) (Some (take 2 m.reply)) None) ≡ Some bytes
+count_by : (there : Bool) (m : Module) (bytes : List ℕ) → cond (there && true) (Some (length m.reply ∷ complement (sum m.reply) ∷ [])) (cond (there && false) (Some (take 2 (payload m))) None) ≡ Some bytes
     → bytes ≡ length m.reply ∷ complement (sum m.reply) ∷ []
 count_by true m bytes e = cc
 count_by false m bytes e = absurd cc
@@ -150,12 +150,23 @@ count_by false m bytes e = absurd cc
 pub reads_count : (m : Module) (bytes : List ℕ) → read 134 2 m ≡ Some bytes → bytes ≡ length m.reply ∷ complement (sum m.reply) ∷ []
 reads_count m bytes e = count_by (has_page m) m bytes e
 
-reply_by : (there few : Bool) (count : ℕ) (m : Module) (bytes : List ℕ) → nat_le count (length m.reply) ≡ few
-    → cond (there && false) (Some (length m.reply ∷ complement (sum m.reply) ∷ [])) (cond (there && few) (Some (take count m.reply)) None) ≡ Some bytes
-    → (bytes ≡ take count m.reply) × (count ≤ length m.reply)
-reply_by true true count m bytes is e = (cc, leb-true count (length m.reply) is)
+reply_by : (there few : Bool) (count : ℕ) (m : Module) (bytes : List ℕ) → nat_le count (length (payload m)) ≡ few
+    → cond (there && false) (Some (length m.reply ∷ complement (sum m.reply) ∷ [])) (cond (there && few) (Some (take count (payload m))) None) ≡ Some bytes
+    → (bytes ≡ take count (payload m)) × (count ≤ length (payload m))
+reply_by true true count m bytes is e = (cc, leb-true count (length (payload m)) is)
 reply_by true false count m bytes is e = absurd cc
 reply_by false few count m bytes is e = absurd cc
 
-pub reads_reply : (count : ℕ) (m : Module) (bytes : List ℕ) → read 136 count m ≡ Some bytes → (bytes ≡ take count m.reply) × (count ≤ length m.reply)
-reads_reply count m bytes e = reply_by (has_page m) (nat_le count (length m.reply)) count m bytes refl e
+empty : (l : List ℕ) → length l ≡ 0 → l ≡ []
+empty [] e = refl
+empty (x ∷ l) e = absurd (omega (arith, e))
+
+-- once the body is gone
+payload_is : (m : Module) → m.body ≡ [] → payload m ≡ m.reply
+payload_is m none =
+    cond_both (length m.reply == 0) m.body m.reply (λ (l : List ℕ). l ≡ m.reply) (λ e. none ∙ sym (empty m.reply (eqb-true (length m.reply) 0 e))) (λ e. refl)
+
+pub reads_reply : (count : ℕ) (m : Module) (bytes : List ℕ) → m.body ≡ [] → read 136 count m ≡ Some bytes → (bytes ≡ take count m.reply) × (count ≤ length m.reply)
+reads_reply count m bytes none e =
+    subst (λ (l : List ℕ). (bytes ≡ take count l) × (count ≤ length l)) (payload_is m none)
+    (reply_by (has_page m) (nat_le count (length (payload m))) count m bytes refl e)

@@ -75,19 +75,21 @@ conduct_shown sent (suc (suc (suc (suc more)))) f = tt
 abbrev pub ShowsReply : Option Outcome → List ℕ → Type 0
 ShowsReply outcome shown = (shown ≡ []) ⊎ ((reply : ArrayVec ℕ) × (outcome ≡ Some (Succeeded reply)) × (shown ≡ reply.items) × (length reply.items ≤ 120))
 
--- the status and the reply are of this answer
+-- the status and the reply are of this answer, and the reply stands in place of the body
 pub record IsShown (answer : Answer) (m : Module) : Type 0 where
+  pub body : m.body ≡ []
   pub status : IsFinal m.status → (outcome : Outcome) × (answer.outcome ≡ Some outcome) × ShowsStatus outcome m.status
   pub reply : ShowsReply answer.outcome m.reply
 
 fresh_shown : (answer : Answer) (m : Module) → IsFresh m → IsShown answer m
-fresh_shown answer m fresh = record { status = λ final. absurd (none final); reply = inl fresh.reply } where
+fresh_shown answer m fresh = record { body = fresh.body; status = λ final. absurd (none final); reply = inl fresh.reply } where
   none : IsFinal m.status → ⊥
   none (inl one) = let e : 0 ≡ 1 = sym fresh.status ∙ one in omega (arith, e)
   none (inr (least, most)) = let e = fresh.status in omega (arith, least, e)
 
 shown_by : (answer : Answer) (old new : Module) → Keeps old new ⊎ IsFresh new → IsShown answer old → IsShown answer new
 shown_by answer old new (inl keeps) shown = record {
+  body = keeps.body ∙ shown.body;
   status = subst (λ (n : ℕ). IsFinal n → (outcome : Outcome) × (answer.outcome ≡ Some outcome) × ShowsStatus outcome n) (sym keeps.status) shown.status;
   reply = subst (λ (l : List ℕ). ShowsReply answer.outcome l) (sym keeps.reply) shown.reply;
 }
@@ -109,11 +111,11 @@ pub record Answered (answer : Answer) (new : Module) : Type 0 where
 answered_by : (busy : ℕ) (outcome : Option Outcome) (f : Firmware) (m : Module) → IsOutcome outcome → Answered (record { outcome = outcome; after = f }) (answers busy outcome f m)
 answered_by busy (Some (Succeeded reply)) f m is = record {
   rests = inl (Succeeded reply, refl, inl refl);
-  shown = record { status = λ final. (Succeeded reply, refl, refl); reply = inr (reply, refl, refl, is) };
+  shown = record { body = refl; status = λ final. (Succeeded reply, refl, refl); reply = inr (reply, refl, refl, is) };
 }
 answered_by busy (Some (Failed code)) f m is = record {
   rests = inl (Failed code, refl, inl refl);
-  shown = record { status = λ final. (Failed code, refl, (refl, is)); reply = inl refl };
+  shown = record { body = refl; status = λ final. (Failed code, refl, (refl, is)); reply = inl refl };
 }
 answered_by busy (Some Unsent) f m is = absurd is
 answered_by busy (Some Unknown) f m is = absurd is
@@ -272,7 +274,7 @@ module _ (answer : Answer) (mid : Module) (shown : IsShown answer mid) where
     by own bytes is (inl refused) gives = absurd (let e : Refused ≡ Bytes (record { items = bytes }) = sym refused ∙ gives.1 in cc)
     by own bytes is (inr (got, came_so, was)) gives =
         let same : got ≡ bytes = one_of got bytes (sym came_so ∙ gives.1) in
-        let at = reads_reply (max 1 (min asked 120)) mid got was in
+        let at = reads_reply (max 1 (min asked 120)) mid got shown.body was in
         of own bytes (max 1 (min asked 120)) is (sym same ∙ at.0) at.1 (ap (λ (o : Op). counted o) gives.0) shown.reply
 
 pub status_shown_own : (answer : Answer) (old : Module) (turn : Reply × Module) → IsShown answer old → Read 37 1 old turn → ShowsItsOwn answer (record { op = operations.read_status; reply = turn.0 })

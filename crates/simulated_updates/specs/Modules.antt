@@ -78,10 +78,10 @@ fated Carried id body firmware = performed id body firmware
 fated Fails id body firmware = failing failed firmware
 fated (CutShort done) id body firmware = cut_short done (performed id body firmware) firmware
 
--- what it shows is that of this message from now on; it is busy for so long first
+-- what it shows is that of this message from now on, in place of the body; it is busy for so long first
 abbrev pub shows : ℕ → ℕ → List ℕ → Firmware → Module → Module
 shows busy status reply firmware m =
-    record { firmware = firmware; page = m.page; head = m.head; body = m.body; status = status; reply = reply; busy = busy; background = m.background }
+    record { firmware = firmware; page = m.page; head = m.head; body = []; status = status; reply = reply; busy = busy; background = m.background }
 
 abbrev pub answers : ℕ → Option Outcome → Firmware → Module → Module
 answers busy (Some (Succeeded reply)) firmware m = shows busy 1 reply.items firmware m
@@ -108,12 +108,16 @@ status_shown m = if is_busy m then 131 else m.status
 abbrev pub has_page : Module → Bool
 has_page m = m.page == 159 && not (is_busy m)
 
+-- from byte 136 on: the reply, or the body as far as it was stored
+abbrev pub payload : Module → List ℕ
+payload m = if length m.reply == 0 then m.body else m.reply
+
 abbrev pub read : ℕ → ℕ → Module → Option (List ℕ)
 read offset count m =
     if offset == 37 && count == 1 then Some (status_shown m ∷ [])
     else (if offset == 126 && count == 2 then Some (0 ∷ m.page ∷ [])
     else (if has_page m && (offset == 134 && count == 2) then Some (length m.reply ∷ complement (sum m.reply) ∷ [])
-    else (if has_page m && (offset == 136 && nat_le count (length m.reply)) then Some (take count m.reply) else None)))
+    else (if has_page m && (offset == 136 && nat_le count (length (payload m))) then Some (take count (payload m)) else None)))
 
 -- ---- what a store makes of it, and whether it is taken
 
@@ -133,9 +137,9 @@ store_id chance bytes m = (false, m)
 abbrev pub store_head : List ℕ → Module → Stored
 store_head bytes m = (true, record m { head = bytes; reply = [] })
 
--- behind what was stored before
+-- behind what was stored before; no reply is there any more
 abbrev pub store_body : ℕ → List ℕ → Module → Stored
-store_body at bytes m = if nat_le at (length m.body) then (true, record m { body = take at m.body ++ bytes }) else (false, m)
+store_body at bytes m = if nat_le at (length m.body) then (true, record m { body = take at m.body ++ bytes; reply = [] }) else (false, m)
 
 abbrev pub store_page : Chance → ℕ → List ℕ → Module → Stored
 store_page chance offset bytes m =

@@ -158,6 +158,7 @@ impl SimulatedModule {
         ensures bytes { option_map (λ bytes. bytes.items) result ≡ spec.read offset count (module_of self.now) }
         ensures count { IfSome result (λ bytes. length bytes.items ≡ count) }
     {
+        let payload = self.payload();
         if offset == 37 && count == 1 {
             Some(one(self.status_shown()))
         } else if offset == 126 && count == 2 {
@@ -165,11 +166,23 @@ impl SimulatedModule {
         } else if self.has_page() && (offset == 134 && count == 2) {
             let reply = self.reply.as_slice();
             Some(two(reply.len() as u8, check_code(reply)))
-        } else if self.has_page() && (offset == 136 && usize::from(count) <= self.reply.len()) {
-            let bytes = &self.reply.as_slice()[..usize::from(count)];
+        } else if self.has_page() && (offset == 136 && usize::from(count) <= payload.len()) {
+            let bytes = &payload[..usize::from(count)];
             Some(ArrayVec::try_from(bytes).unwrap())
         } else {
             None
+        }
+    }
+
+    // The reply, or the body as far as it was stored.
+    fn payload(&self) -> &[u8]
+        ensures payload { result.now ≡ spec.payload (module_of self.now) }
+        ensures few { length result.now ≤ 128 }
+    {
+        if self.reply.is_empty() {
+            self.body.as_slice()
+        } else {
+            self.reply.as_slice()
         }
     }
 
@@ -250,6 +263,7 @@ impl SimulatedModule {
         if at <= self.body.len() {
             self.body.truncate(at);
             self.body.try_extend_from_slice(bytes).unwrap();
+            self.reply.clear();
             true
         } else {
             false
@@ -321,10 +335,11 @@ impl SimulatedModule {
         }
     }
 
-    // What it shows is that of this message from now on.
+    // What it shows is that of this message from now on, in place of the body.
     fn show(&mut self, busy: u32, outcome: &Outcome)
         ensures { module_of self.new ≡ spec.answers busy (Some outcome.now) (firmware_of self.old.firmware) (module_of self.old) }
     {
+        self.body.clear();
         self.reply.clear();
         self.busy = busy;
         match outcome {
