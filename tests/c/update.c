@@ -92,7 +92,7 @@ static void try_ends(void) {
     }
     begin_module(9);
     cut = 200;
-    end_so("power lost amid a block", 0, DOVECOUNTER_UPDATE_REFUSED, 0x45, DOVECOUNTER_FIRMWARE_ABORTED);
+    end_so("power lost amid a block", 0, DOVECOUNTER_UPDATE_REFUSED, 0x47, DOVECOUNTER_FIRMWARE_ABORTED);
 }
 
 static void try_commands(void) {
