@@ -242,7 +242,7 @@ bool begin_tuned(struct port *port) {
     if (status != DOVECOUNTER_DONE) return refuse_by(port, status), false;
     port->tuned_lanes &= port->plan.lanes;
     port->tunes = wanted(port, &found), port->limits = found.limits;
-    for (unsigned lane = 0; lane < 8; lane++) port->plan.control[lane] |= port->tuned_lanes >> lane & 1;
+    for (unsigned lane = 0; lane < 8; lane++) port->plan.control[lane] |= (uint8_t)(port->tuned_lanes >> lane & 1);
     status = dovecounter_explicit_begin(port->plan.control, 0, &port->tunes, &port->limits, &patience, &it);
     return status == DOVECOUNTER_DONE || (refuse_change(port, status), false);
 }
