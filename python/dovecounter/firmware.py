@@ -14,9 +14,6 @@ from .reports import Patience
 
 _ADVERTISED = slice(163 - 128, 167 - 128)
 
-_next = library.function("update_next")
-_reply = library.function("update_reply")
-_end = library.function("update_end")
 _progress = library.function("update_progress")
 _banks = library.function("banks")
 _command_block = library.function("command_block")
@@ -130,6 +127,8 @@ class Banks:
 class _OfFirmware(Procedure):
     """A procedure about firmware: its own numbers, and the file that goes with them."""
 
+    _calls = library.Calls("update_")
+
     def __init__(self, begin: Callable[..., None], file: bytes, *words: int) -> None:
         super().__init__(Patience())
         self._saved = library.Update()
@@ -139,16 +138,12 @@ class _OfFirmware(Procedure):
     def _made(self) -> int:
         return int(self._saved.delivery.steps)
 
-    def _ask(self, found: library.Operation) -> int:
-        return int(_next(byref(self._saved), self._file, len(self._file), byref(found)))
-
-    def _take(self, outcome: int, data: bytes) -> int:
-        words = (self._file, len(self._file), outcome, data, len(data))
-        return int(_reply(byref(self._saved), *words))
+    def _kept(self) -> Tuple[Any, ...]:
+        return self._file, len(self._file)
 
     def _has_ended(self) -> None:
         ending = library.UpdateEnding()
-        _expect_done(_end(byref(self._saved), self._file, len(self._file), byref(ending)))
+        self._put_end(ending)
         if ending.fault:
             known = FirmwareKnown(ending.known) if ending.known else None
             raise FirmwareFault(FirmwareFailure(ending.fault), ending.status, known)
@@ -181,7 +176,7 @@ class FirmwareUpdate(_OfFirmware):
 
     def _come(self) -> library.UpdateProgress:
         found = library.UpdateProgress()
-        _expect_done(_progress(byref(self._saved), self._file, len(self._file), byref(found)))
+        library.expect_done(_progress(byref(self._saved), *self._kept(), byref(found)))
         return found
 
 
@@ -245,8 +240,3 @@ class FirmwarePassword(_OfFirmware):
 def _bank_of(found: library.Bank) -> Bank:
     version = (found.major, found.minor, found.build) if found.has_version else None
     return Bank(bool(found.runs), bool(found.committed), bool(found.valid), version)
-
-
-def _expect_done(status: int) -> None:
-    if status:
-        raise AssertionError(f"the library answered status {status}")

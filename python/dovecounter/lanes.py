@@ -8,15 +8,12 @@ from typing import Optional, Sequence
 
 from . import library
 from .faults import look_at, look_at_choice, look_at_type
-from .procedures import Procedure
+from .procedures import _OfNumbers
 from .reports import Patience
 
 _OVERDUE = 8
 
 _begin = library.function("lane_begin")
-_next = library.function("lane_next")
-_reply = library.function("lane_reply")
-_end = library.function("lane_end")
 
 
 class LaneControl(Enum):
@@ -77,11 +74,13 @@ class LaneFault(Exception):
         return self.end.outcome.name.lower().replace("_", " ") + (up and f": {up} up")
 
 
-class LaneChange(Procedure):
+class LaneChange(_OfNumbers):
     """Sets one control of page 10h for the lanes of a byte, or clears it, and leaves all other lanes'
     bits alone. If data paths are up that it would disturb, it stores nothing, unless `permitted` has
     their host lanes. `media_paths` has the host lanes of each media lane's data path: all eight
     where you don't know them. Raises a LaneFault while it is iterated, which has its end."""
+
+    _calls = library.Calls("lane_")
 
     def __init__(
         self,
@@ -108,28 +107,14 @@ class LaneChange(Procedure):
         self._saved = library.ChangingLanes()
         self.end: Optional[LaneEnd] = None
         """how it ended; None before"""
-        _expect_done(_begin(byref(change), byref(self._patience), byref(self._saved)))
-
-    def _made(self) -> int:
-        return int(self._saved.steps)
-
-    def _ask(self, found: library.Operation) -> int:
-        return int(_next(byref(self._saved), byref(found)))
-
-    def _take(self, outcome: int, data: bytes) -> int:
-        return int(_reply(byref(self._saved), outcome, data, len(data)))
+        library.expect_done(_begin(byref(change), byref(self._patience), byref(self._saved)))
 
     def _has_ended(self) -> None:
         found = library.LaneEnd()
-        _expect_done(_end(byref(self._saved), byref(found)))
+        self._put_end(found)
         outcome = LaneOutcome(found.outcome)
         self.end = LaneEnd(outcome, found.byte, found.lanes, found.stores)
         if outcome is LaneOutcome.OVERDUE:
             raise TimeoutError(library.text("fault", _OVERDUE))
         if outcome not in (LaneOutcome.UNCHANGED, LaneOutcome.CHANGED):
             raise LaneFault(self.end)
-
-
-def _expect_done(status: int) -> None:
-    if status:
-        raise AssertionError(f"the library answered status {status}")

@@ -686,6 +686,21 @@ def function(name: str) -> Callable[..., Any]:
     return found  # type: ignore[no-any-return]
 
 
+class Calls:
+    """The functions that go on with one kind of procedure, by what their names begin with."""
+
+    def __init__(self, kind: str) -> None:
+        self.next = function(f"{kind}next")
+        self.reply = function(f"{kind}reply")
+        self.end = function(f"{kind}end")
+
+
+def expect_done(status: int) -> None:
+    """Raises AssertionError for a status that no caller of this package can bring about."""
+    if status:
+        raise AssertionError(f"the library answered status {status}")
+
+
 def text(kind: str, number: int) -> str:
     """What the library says of a number: of a status, of a fault of procedures, or of the reason of
     a verdict."""

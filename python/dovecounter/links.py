@@ -10,7 +10,7 @@ from . import library
 from .capabilities import Loopback, Pattern
 from .faults import look_at, look_at_choice, look_at_type
 from .observables import Amount, Side
-from .procedures import Procedure
+from .procedures import _OfNumbers
 from .reports import Patience
 
 _OVERDUE = 8
@@ -18,10 +18,7 @@ _NO_PATTERN = 255
 _RATIO, _COUNTS, _NOISE = 1, 2, 4
 
 _begin = library.function("link_test_begin")
-_next = library.function("link_test_next")
-_reply = library.function("link_test_reply")
 _stop = library.function("link_test_stop")
-_end = library.function("link_test_end")
 _changes = library.function("link_test_changes")
 _results = library.function("link_results")
 
@@ -141,12 +138,14 @@ def _lane_of(found: Any) -> LinkLane:
     )
 
 
-class LinkTest(Procedure):
+class LinkTest(_OfNumbers):
     """Makes a pattern on the lanes of a byte, checks one there, loops lanes back, as wanted; reads
     results `rounds` times, each after `period` milliseconds, and switches all of that off again. If
     data paths are up that it would disturb, it stores nothing, unless `permitted` has their host
     lanes. `media_paths` has the host lanes of each media lane's data path: all eight where you don't
     know them. Raises a LinkFault while it is iterated, which has its end."""
+
+    _calls = library.Calls("link_test_")
 
     def __init__(
         self,
@@ -187,17 +186,17 @@ class LinkTest(Procedure):
         self._saved = library.LinkTest()
         self.end: Optional[LinkEnd] = None
         """how it ended; None before"""
-        _expect_done(_begin(byref(plan), byref(self._patience), byref(self._saved)))
+        library.expect_done(_begin(byref(plan), byref(self._patience), byref(self._saved)))
 
     def stop(self) -> None:
         """Has it switch off what is on, and end: go on with it as before."""
-        _expect_done(_stop(byref(self._saved)))
+        library.expect_done(_stop(byref(self._saved)))
 
     @property
     def changes(self) -> Tuple[LinkChange, ...]:
         """What may be on now, as far as is known. All else that was stored is as before."""
         found = library.LinkChanges()
-        _expect_done(_changes(byref(self._saved), byref(found)))
+        library.expect_done(_changes(byref(self._saved), byref(found)))
         return tuple(
             LinkChange(each.what.control, each.what.mask, each.original)
             for each in found.changes[: found.count]
@@ -206,7 +205,7 @@ class LinkTest(Procedure):
     def results(self, big_endian: bool = False) -> LinkResults:
         """What it has shown so far; `big_endian` if the highest byte of counts comes first."""
         found = library.LinkResults()
-        _expect_done(
+        library.expect_done(
             _results(
                 byref(self._saved), int(look_at_choice("big_endian", big_endian)), byref(found)
             )
@@ -221,18 +220,9 @@ class LinkTest(Procedure):
             found.media_checker,
         )
 
-    def _made(self) -> int:
-        return int(self._saved.steps)
-
-    def _ask(self, found: library.Operation) -> int:
-        return int(_next(byref(self._saved), byref(found)))
-
-    def _take(self, outcome: int, data: bytes) -> int:
-        return int(_reply(byref(self._saved), outcome, data, len(data)))
-
     def _has_ended(self) -> None:
         found = library.LinkEnd()
-        _expect_done(_end(byref(self._saved), byref(found)))
+        self._put_end(found)
         self.end = LinkEnd(LinkOutcome(found.outcome), found.control, self.changes)
         if self.end.outcome is LinkOutcome.OVERDUE:
             raise TimeoutError(library.text("fault", _OVERDUE))
@@ -243,8 +233,3 @@ class LinkTest(Procedure):
 
 def _code_of(pattern: Optional[Pattern]) -> int:
     return _NO_PATTERN if pattern is None else look_at_type("the pattern", pattern, Pattern).value
-
-
-def _expect_done(status: int) -> None:
-    if status:
-        raise AssertionError(f"the library answered status {status}")

@@ -26,7 +26,7 @@ Reply = Union[bytes, bool]
 """What came of an operation: the bytes of a fetch, all of them; True if all bytes of a store were
 taken; False if it was refused."""
 
-_DONE, _ENDED, _NO_REPLY = 0, 32, 34
+_ENDED, _NO_REPLY = 32, 34
 _STORE, _WAIT = 1, 2
 _REFUSED, _STORED, _FETCHED, _WAITED = 0, 1, 2, 3
 _GAVE_UP_WAITING, _OVERDUE = 4, 8
@@ -34,10 +34,6 @@ _RESET, _FAULTY = 9, 10
 _VALUES = {1: 2, 4: 0}  # how many a fault PV has, if it isn't one
 
 _Self = TypeVar("_Self", bound="Procedure")
-
-_next = library.function("next")
-_reply = library.function("reply")
-_end = library.function("end")
 
 
 @dataclass(frozen=True)
@@ -111,6 +107,8 @@ class Procedure:
             else:
                 procedure.reply(bus(step))"""
 
+    _calls = library.Calls("")
+
     def __init__(self, patience: Patience) -> None:
         given = look_at_type("the patience", patience, Patience)
         self._saved: Any = library.Conversation()
@@ -140,7 +138,7 @@ class Procedure:
         if status == _ENDED:
             self._has_ended()
             raise StopIteration
-        _expect_done(status)
+        library.expect_done(status)
         if found.kind == _WAIT:
             return Wait(found.milliseconds)
         data = bytes(found.bytes[: found.count]) if found.kind == _STORE else None
@@ -156,11 +154,19 @@ class Procedure:
         """Tells once that a wait is over. Raises ValueError if none was asked for."""
         self._tell(_WAITED, b"", "no wait was asked for")
 
+    def _kept(self) -> Tuple[Any, ...]:
+        """What the library's calls take besides the numbers that are saved."""
+        return (self._halves,)
+
     def _ask(self, found: library.Operation) -> int:
-        return int(_next(byref(self._saved), self._halves, byref(found)))
+        return int(self._calls.next(byref(self._saved), *self._kept(), byref(found)))
 
     def _take(self, outcome: int, data: bytes) -> int:
-        return int(_reply(byref(self._saved), self._halves, outcome, data, len(data)))
+        words = (outcome, data, len(data))
+        return int(self._calls.reply(byref(self._saved), *self._kept(), *words))
+
+    def _put_end(self, found: Any) -> None:
+        library.expect_done(self._calls.end(byref(self._saved), *self._kept(), byref(found)))
 
     def _tell(self, outcome: int, data: bytes, why: str) -> None:
         status = self._take(outcome, data)
@@ -168,7 +174,7 @@ class Procedure:
             raise ValueError("it has ended, and no operation is to be made")
         if status == _NO_REPLY:
             raise ValueError(why)
-        _expect_done(status)
+        library.expect_done(status)
 
     def run(self, transact: Transact, pause: Callable[[float], object] = time.sleep) -> None:
         """Makes all operations by `transact`, and lets so many seconds pass by `pause` for each Wait.
@@ -196,7 +202,7 @@ class Procedure:
 
     def _has_ended(self) -> None:
         ending = library.Ending()
-        _expect_done(_end(byref(self._saved), self._halves, byref(ending)))
+        self._put_end(ending)
         self._ended_by(ending)
 
     def _ended_by(self, ending: Any) -> None:
@@ -208,6 +214,16 @@ class Procedure:
 
     def _end(self, ending: Any) -> None:
         raise NotImplementedError
+
+
+class _OfNumbers(Procedure):
+    """A procedure of which numbers are all that is saved."""
+
+    def _made(self) -> int:
+        return int(self._saved.steps)
+
+    def _kept(self) -> Tuple[Any, ...]:
+        return ()
 
 
 class _Change(Procedure):
@@ -328,7 +344,7 @@ class Reading(Procedure):
             byref(self._patience),
             byref(self._saved),
         )
-        _expect_done(status)
+        library.expect_done(status)
         self._image: Optional[Image] = None
 
     @property
@@ -345,8 +361,3 @@ class Reading(Procedure):
         for half in self._halves[: self._saved.halves]:
             halves[Key(half.device, bool(half.upper), half.bank, half.page)] = bytes(half.bytes)
         self._image = Image(halves)
-
-
-def _expect_done(status: int) -> None:
-    if status != _DONE:
-        raise AssertionError(f"the library answered status {status}")

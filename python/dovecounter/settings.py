@@ -5,25 +5,19 @@ from __future__ import annotations
 from ctypes import byref
 from dataclasses import dataclass
 from enum import Enum
-from typing import Optional, Sequence, Union
+from typing import Any, Optional, Sequence, Tuple, Union
 
 from . import library
 from .faults import look_at, look_at_bytes, look_at_choice, look_at_type
 from .planning import Plan
-from .procedures import Procedure, _Change
+from .procedures import _Change, _OfNumbers
 from .reports import Patience
 from .signals import LANES, LaneSignal, SignalLimits
 
 _OVERDUE, _NOT_PERMITTED = 8, 106
 
 _begin = library.function("settings_begin")
-_next = library.function("settings_next")
-_reply = library.function("settings_reply")
-_end = library.function("settings_end")
 _explicit_begin = library.function("explicit_begin")
-_explicit_next = library.function("explicit_next")
-_explicit_reply = library.function("explicit_reply")
-_explicit_end = library.function("explicit_end")
 
 
 class SettingsOutcome(Enum):
@@ -87,11 +81,13 @@ class SettingsFault(Exception):
         return lane + self.end.outcome.name.lower().replace("_", " ")
 
 
-class SettingsChange(Procedure):
+class SettingsChange(_OfNumbers):
     """Gives the host lanes of a byte these settings, and leaves all other lanes alone: one for all, or
     one for each of the eight. They change at once, while the lanes are up, so each has to be in
     `permitted`; else PermissionError. What the module doesn't advertise, by its `limits`, is a
     ValueError. Raises a SettingsFault while it is iterated, which has its end."""
+
+    _calls = library.Calls("settings_")
 
     def __init__(
         self,
@@ -113,20 +109,9 @@ class SettingsChange(Procedure):
         if status:
             raise ValueError(library.text("status", status))
 
-    def _made(self) -> int:
-        return int(self._saved.steps)
-
-    def _ask(self, found: library.Operation) -> int:
-        return int(_next(byref(self._saved), byref(found)))
-
-    def _take(self, outcome: int, data: bytes) -> int:
-        return int(_reply(byref(self._saved), outcome, data, len(data)))
-
     def _has_ended(self) -> None:
         found = library.SettingsEnd()
-        status = _end(byref(self._saved), byref(found))
-        if status:
-            raise AssertionError(f"the library answered status {status}")
+        self._put_end(found)
         outcome = SettingsOutcome(found.outcome)
         self.end = SettingsEnd(outcome, found.lane or None, SettingsReach(found.reached))
         if outcome is SettingsOutcome.OVERDUE:
@@ -141,6 +126,8 @@ class ExplicitProvisioning(_Change):
     Lanes of no data path get none; one that is kept has to be active so already. What the module
     doesn't advertise, by its `limits`, is a ValueError. Raises what Provisioning raises, and a
     SettingsFault if other settings are staged or active, after all tries."""
+
+    _calls = library.Calls("explicit_")
 
     def __init__(
         self,
@@ -166,17 +153,12 @@ class ExplicitProvisioning(_Change):
     def _made(self) -> int:
         return int(self._saved.procedure.steps)
 
-    def _ask(self, found: library.Operation) -> int:
-        return int(_explicit_next(byref(self._saved), byref(found)))
-
-    def _take(self, outcome: int, data: bytes) -> int:
-        return int(_explicit_reply(byref(self._saved), outcome, data, len(data)))
+    def _kept(self) -> Tuple[Any, ...]:
+        return ()
 
     def _has_ended(self) -> None:
         found = library.ExplicitEnd()
-        status = _explicit_end(byref(self._saved), byref(found))
-        if status:
-            raise AssertionError(f"the library answered status {status}")
+        self._put_end(found)
         if found.settings:
             outcome, reached = _OTHER_SETTINGS[found.settings]
             raise SettingsFault(SettingsEnd(outcome, found.lane or None, reached))

@@ -16,9 +16,6 @@ from .reports import Patience
 _WAITED = 3
 
 _begin = library.function("vdm_begin")
-_next = library.function("vdm_next")
-_reply = library.function("vdm_reply")
-_end = library.function("vdm_end")
 
 
 class VdmStatistics(Enum):
@@ -76,6 +73,8 @@ class VdmReading(Procedure):
     Raises a VdmFault while it is iterated if that isn't whole; `image` has what was read even so.
     If you give up before its end, `release` says whether the statistics may stay frozen."""
 
+    _calls = library.Calls("vdm_")
+
     def __init__(self, patience: Patience = Patience()) -> None:
         super().__init__(patience)
         self._saved = library.Vdm()
@@ -110,17 +109,14 @@ class VdmReading(Procedure):
     def _made(self) -> int:
         return self._operations
 
-    def _ask(self, found: library.Operation) -> int:
-        return int(_next(byref(self._saved), self._halves, byref(found)))
-
     def _take(self, outcome: int, data: bytes) -> int:
-        status = int(_reply(byref(self._saved), self._halves, outcome, data, len(data)))
+        status = super()._take(outcome, data)
         self._operations += status == 0 and outcome != _WAITED
         return status
 
     def _has_ended(self) -> None:
         found = library.VdmEnd()
-        _expect_done(_end(byref(self._saved), self._halves, byref(found)))
+        self._put_end(found)
         statistics, release = VdmStatistics(found.statistics), VdmRelease(found.release)
         self.end = VdmEnd(statistics, release, tuple(found.missing[: found.missing_count]))
         whole = (VdmStatistics.FROZEN, VdmRelease.RELEASED)
@@ -128,8 +124,3 @@ class VdmReading(Procedure):
             return
         if (statistics, release) != whole or self.end.missing:
             raise VdmFault(self.end)
-
-
-def _expect_done(status: int) -> None:
-    if status:
-        raise AssertionError(f"the library answered status {status}")

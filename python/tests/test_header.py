@@ -161,7 +161,7 @@ def test_numbers_are_those_of_the_header() -> None:
     )
     assert {int(number): code for number, code in named} == CODES
     assert (STATUSES["DONE"], STATUSES["ENDED"], STATUSES["NO_REPLY"]) == (
-        procedures._DONE,
+        0,
         procedures._ENDED,
         procedures._NO_REPLY,
     )
