@@ -293,6 +293,23 @@ static void *tunes_lanes(void *x) {
     return x;
 }
 
+static const uint8_t paired_lanes[8] = {0, 0, 0x24, 0x24, 0, 0, 0, 0};
+static struct dovecounter_explicit provisioning;
+static struct dovecounter_explicit_end provisioned;
+
+/* All operations of provisioning with settings, each answered. */
+static void *provisions_with_settings(void *x) {
+    dovecounter_explicit_begin(paired_lanes, 0x0C, &tunes, &limits, &patience, &provisioning);
+    for (int made = 0; made < 100; made++) {
+        if (dovecounter_explicit_next(&provisioning, &operation) != DOVECOUNTER_DONE) break;
+        uint8_t reply = operation.kind == DOVECOUNTER_WAIT ? DOVECOUNTER_WAITED : transact(0, &operation, fetched);
+        size_t count = reply == DOVECOUNTER_FETCHED ? operation.count : 0;
+        dovecounter_explicit_reply(&provisioning, reply, fetched, count);
+    }
+    dovecounter_explicit_end(&provisioning, &provisioned);
+    return x;
+}
+
 static struct dovecounter_vdm statistics;
 static struct dovecounter_half read_statistics[DOVECOUNTER_MOST_VDM];
 static struct dovecounter_vdm_end statistics_end;
@@ -363,6 +380,7 @@ int main(void) {
     print_used("the calls of a test of a link", tests_links, alone);
     print_used("dovecounter_settings", has_settings, alone);
     print_used("the calls of a change of settings", tunes_lanes, alone);
+    print_used("the calls of provisioning with settings", provisions_with_settings, alone);
     print_used("the calls of a reading of statistics", reads_statistics, alone);
     if (statistics.halves != DOVECOUNTER_MOST_VDM || statistics_end.release != DOVECOUNTER_VDM_RELEASED) return 1;
     return 0;

@@ -28,18 +28,54 @@ static void make_halves(void) {
     }
 }
 
+/* A byte of the input names one. */
+static void (*const calls[])(void) = {set_options,
+                                      call_text,
+                                      call_advertisement,
+                                      call_identity,
+                                      call_flags,
+                                      call_monitors,
+                                      call_weights,
+                                      call_durations,
+                                      call_patience,
+                                      call_plan,
+                                      call_certificate,
+                                      call_check,
+                                      call_module,
+                                      call_module_begin,
+                                      begin_conversation,
+                                      call_conversation,
+                                      go_on,
+                                      begin_port,
+                                      call_port,
+                                      go_on_with_port,
+                                      call_observables,
+                                      begin_update,
+                                      go_on_with_update,
+                                      call_update,
+                                      begin_change,
+                                      go_on_with_change,
+                                      call_change,
+                                      begin_test,
+                                      go_on_with_test,
+                                      call_test,
+                                      call_judge,
+                                      call_settings,
+                                      call_settings_limits,
+                                      begin_settings,
+                                      go_on_with_settings,
+                                      call_tuning,
+                                      begin_vdm,
+                                      go_on_with_vdm,
+                                      call_vdm,
+                                      call_capabilities,
+                                      begin_explicit,
+                                      go_on_with_explicit,
+                                      call_explicit};
+
 int LLVMFuzzerTestOneInput(const uint8_t *bytes, size_t size);
 
 int LLVMFuzzerTestOneInput(const uint8_t *bytes, size_t size) {
-    static void (*const calls[])(void) = {
-        set_options,       call_text,     call_advertisement,   call_identity,     call_flags,
-        call_monitors,     call_weights,  call_durations,       call_patience,     call_plan,
-        call_certificate,  call_check,    call_module,          call_module_begin, begin_conversation,
-        call_conversation, go_on,         begin_port,           call_port,         go_on_with_port,
-        call_observables,  begin_update,  go_on_with_update,    call_update,       begin_change,
-        go_on_with_change, call_change,   begin_test,           go_on_with_test,   call_test,
-        call_judge,        call_settings, call_settings_limits, begin_settings,    go_on_with_settings,
-        call_tuning,       begin_vdm,     go_on_with_vdm,       call_vdm};
     if (!weights) make_memory();
     input = bytes, input_left = size;
     memset(weights, 0, 256 * sizeof *weights);
@@ -47,6 +83,7 @@ int LLVMFuzzerTestOneInput(const uint8_t *bytes, size_t size) {
     memset(&module, 0, sizeof module), memset(&conversation, 0, sizeof conversation), memset(&port, 0, sizeof port);
     memset(&wanted, 0, sizeof wanted), memset(&update, 0, sizeof update);
     memset(&changing, 0, sizeof changing), memset(&testing, 0, sizeof testing), memset(&tuning, 0, sizeof tuning);
+    memset(&provisioning, 0, sizeof provisioning);
     memset(&statistics, 0, sizeof statistics), memset(read_statistics, 0, sizeof read_statistics);
     file_size = 0, file = room(TEXT, 0), memset(selected, 0, sizeof selected);
     patience = (struct dovecounter_patience){20, 2000, 0};

@@ -193,12 +193,27 @@ static void look_at_update(void) {
     if (!status) stop_if(found->sent > found->all || found->known > 9, "progress");
 }
 
-/* A module that shows the page that was selected and success, and else bytes of the input. */
-static uint8_t *fetched_from(const struct dovecounter_operation *it, uint8_t how) {
-    uint8_t *bytes = filled(OUT, it->count);
-    if (it->offset == SELECTION && it->count == 2 && how < 0xF0) memcpy(bytes, selected, 2);
-    if (it->offset == STATUS && how < 0xE0) bytes[0] = 1;
-    return bytes;
+/* What comes of an operation. */
+struct made {
+    uint8_t outcome;
+    const uint8_t *bytes;
+    size_t count;
+};
+
+/* On a bus that refuses one of eight, a module shows the page that was selected and success, and else bytes of the input. */
+static struct made made_of(struct dovecounter_operation operation) {
+    uint8_t how = byte();
+    stop_if_no_operation(&operation);
+    if (operation.kind == DOVECOUNTER_WAIT) return (struct made){DOVECOUNTER_WAITED, room(OUT, 0), 0};
+    if (how % 8 == 7) return (struct made){DOVECOUNTER_REFUSED, room(OUT, 0), 0};
+    if (operation.kind == DOVECOUNTER_STORE) {
+        if (operation.offset == SELECTION) memcpy(selected, operation.bytes, 2);
+        return (struct made){DOVECOUNTER_STORED, room(OUT, 0), 0};
+    }
+    uint8_t *bytes = filled(OUT, operation.count);
+    if (operation.offset == SELECTION && operation.count == 2 && how < 0xF0) memcpy(bytes, selected, 2);
+    if (operation.offset == STATUS && how < 0xE0) bytes[0] = 1;
+    return (struct made){DOVECOUNTER_FETCHED, bytes, operation.count};
 }
 
 static void go_on_with_update(void) {
@@ -206,17 +221,8 @@ static void go_on_with_update(void) {
 #define UPDATE_NEXT(it) dovecounter_update_next(&update, file, file_size, it)
         ASK(struct dovecounter_operation, next, LIST(31, 32), UPDATE_NEXT);
         if (status) break;
-        stop_if_no_operation(next);
-        struct dovecounter_operation operation = *next;
-        uint8_t how = byte(), outcome = DOVECOUNTER_WAITED, *bytes = room(OUT, 0);
-        if (operation.kind != DOVECOUNTER_WAIT && how % 8 == 7)
-            outcome = DOVECOUNTER_REFUSED;
-        else if (operation.kind == DOVECOUNTER_STORE)
-            outcome = DOVECOUNTER_STORED;
-        else if (operation.kind == DOVECOUNTER_FETCH)
-            outcome = DOVECOUNTER_FETCHED, bytes = fetched_from(&operation, how);
-        if (outcome == DOVECOUNTER_STORED && operation.offset == SELECTION) memcpy(selected, operation.bytes, 2);
-        stop_if(reply_to_update(outcome, bytes, outcome == DOVECOUNTER_FETCHED ? operation.count : 0) != 0, "a reply");
+        struct made made = made_of(*next);
+        stop_if(reply_to_update(made.outcome, made.bytes, made.count) != 0, "a reply");
     }
     look_at_update();
     end_update();
@@ -269,17 +275,8 @@ static void go_on_with_change(void) {
 #define LANE_NEXT(it) dovecounter_lane_next(&changing, it)
         ASK(struct dovecounter_operation, next, LIST(31, 32), LANE_NEXT);
         if (status) break;
-        stop_if_no_operation(next);
-        struct dovecounter_operation operation = *next;
-        uint8_t how = byte(), outcome = DOVECOUNTER_WAITED, *bytes = room(OUT, 0);
-        if (operation.kind != DOVECOUNTER_WAIT && how % 8 == 7)
-            outcome = DOVECOUNTER_REFUSED;
-        else if (operation.kind == DOVECOUNTER_STORE)
-            outcome = DOVECOUNTER_STORED;
-        else if (operation.kind == DOVECOUNTER_FETCH)
-            outcome = DOVECOUNTER_FETCHED, bytes = fetched_from(&operation, how);
-        if (outcome == DOVECOUNTER_STORED && operation.offset == SELECTION) memcpy(selected, operation.bytes, 2);
-        stop_if(reply_to_change(outcome, bytes, outcome == DOVECOUNTER_FETCHED ? operation.count : 0) != 0, "a reply");
+        struct made made = made_of(*next);
+        stop_if(reply_to_change(made.outcome, made.bytes, made.count) != 0, "a reply");
     }
     end_change();
 }
@@ -296,6 +293,15 @@ static void call_change(void) {
 /* ---- links ---- */
 
 static struct dovecounter_link_test testing;
+
+static void call_capabilities(void) {
+    struct dovecounter_link_capabilities *found = painted(OUT, sizeof *found), none = {0};
+    uint8_t advertised = byte();
+    dovecounter_link_capabilities(advertised, filled(SMALL, 12), found);
+    stop_if(found->loopbacks > 15 || found->diagnostics > 1 || found->gates > 1, "what a module can do");
+    stop_if(!found->diagnostics && memcmp(found, &none, sizeof none),
+            "a module without diagnostics that can do something");
+}
 
 static void begin_test(void) {
     const struct dovecounter_link_plan *wants = filled(SMALL, sizeof *wants);
@@ -335,17 +341,8 @@ static void go_on_with_test(void) {
 #define LINK_NEXT(it) dovecounter_link_test_next(&testing, it)
         ASK(struct dovecounter_operation, next, LIST(31, 32), LINK_NEXT);
         if (status) break;
-        stop_if_no_operation(next);
-        struct dovecounter_operation operation = *next;
-        uint8_t how = byte(), outcome = DOVECOUNTER_WAITED, *bytes = room(OUT, 0);
-        if (operation.kind != DOVECOUNTER_WAIT && how % 8 == 7)
-            outcome = DOVECOUNTER_REFUSED;
-        else if (operation.kind == DOVECOUNTER_STORE)
-            outcome = DOVECOUNTER_STORED;
-        else if (operation.kind == DOVECOUNTER_FETCH)
-            outcome = DOVECOUNTER_FETCHED, bytes = fetched_from(&operation, how);
-        if (outcome == DOVECOUNTER_STORED && operation.offset == SELECTION) memcpy(selected, operation.bytes, 2);
-        stop_if(reply_to_test(outcome, bytes, outcome == DOVECOUNTER_FETCHED ? operation.count : 0) != 0, "a reply");
+        struct made made = made_of(*next);
+        stop_if(reply_to_test(made.outcome, made.bytes, made.count) != 0, "a reply");
     }
     end_test();
 }
@@ -403,17 +400,8 @@ static void go_on_with_vdm(void) {
 #define VDM_NEXT(it) dovecounter_vdm_next(&statistics, read_statistics, it)
         ASK(struct dovecounter_operation, next, LIST(31, 32), VDM_NEXT);
         if (status) break;
-        stop_if_no_operation(next);
-        struct dovecounter_operation operation = *next;
-        uint8_t how = byte(), outcome = DOVECOUNTER_WAITED, *bytes = room(OUT, 0);
-        if (operation.kind != DOVECOUNTER_WAIT && how % 8 == 7)
-            outcome = DOVECOUNTER_REFUSED;
-        else if (operation.kind == DOVECOUNTER_STORE)
-            outcome = DOVECOUNTER_STORED;
-        else if (operation.kind == DOVECOUNTER_FETCH)
-            outcome = DOVECOUNTER_FETCHED, bytes = fetched_from(&operation, how);
-        if (outcome == DOVECOUNTER_STORED && operation.offset == SELECTION) memcpy(selected, operation.bytes, 2);
-        stop_if(reply_to_vdm(outcome, bytes, outcome == DOVECOUNTER_FETCHED ? operation.count : 0) != 0, "a reply");
+        struct made made = made_of(*next);
+        stop_if(reply_to_vdm(made.outcome, made.bytes, made.count) != 0, "a reply");
     }
     end_vdm();
 }

@@ -1,4 +1,4 @@
-/* Calls about signal integrity settings: those of the halves, and a change that goes on. */
+/* Calls about signal integrity settings: those of the halves, a change that goes on, and a plan that is provisioned with some. */
 #ifndef FUZZ_SETTINGS_H
 #define FUZZ_SETTINGS_H
 
@@ -51,18 +51,8 @@ static void go_on_with_settings(void) {
 #define SETTINGS_NEXT(it) dovecounter_settings_next(&tuning, it)
         ASK(struct dovecounter_operation, next, LIST(31, 32), SETTINGS_NEXT);
         if (status) break;
-        stop_if_no_operation(next);
-        struct dovecounter_operation operation = *next;
-        uint8_t how = byte(), outcome = DOVECOUNTER_WAITED, *bytes = room(OUT, 0);
-        if (operation.kind != DOVECOUNTER_WAIT && how % 8 == 7)
-            outcome = DOVECOUNTER_REFUSED;
-        else if (operation.kind == DOVECOUNTER_STORE)
-            outcome = DOVECOUNTER_STORED;
-        else if (operation.kind == DOVECOUNTER_FETCH)
-            outcome = DOVECOUNTER_FETCHED, bytes = fetched_from(&operation, how);
-        if (outcome == DOVECOUNTER_STORED && operation.offset == SELECTION) memcpy(selected, operation.bytes, 2);
-        stop_if(reply_to_settings(outcome, bytes, outcome == DOVECOUNTER_FETCHED ? operation.count : 0) != 0,
-                "a reply about settings");
+        struct made made = made_of(*next);
+        stop_if(reply_to_settings(made.outcome, made.bytes, made.count) != 0, "a reply about settings");
     }
     end_settings();
 }
@@ -74,5 +64,58 @@ static void call_tuning(void) {
     size_t size = byte();
     if (what & 4) reply_to_settings(what >> 4, filled(OUT, size), size);
     end_settings();
+}
+
+/* ---- provisioning with settings ---- */
+
+static struct dovecounter_explicit provisioning;
+
+static void begin_explicit(void) {
+    const uint8_t *control = filled(KEPT, 8), lanes = byte();
+    const struct dovecounter_settings_change *wants = filled(SMALL, sizeof *wants);
+    const struct dovecounter_settings_limits *can = filled(TEXT, sizeof *can);
+#define EXPLICIT_BEGIN(it) dovecounter_explicit_begin(control, lanes, wants, can, &patience, it)
+    ASK(struct dovecounter_explicit, found, LIST(101, 102, 103, 104, 105), EXPLICIT_BEGIN);
+    if (!status) provisioning = *found;
+    kept_count = 0, kept = room(KEPT, 0);
+}
+
+static uint32_t reply_to_explicit(uint8_t outcome, const uint8_t *bytes, size_t count) {
+    struct dovecounter_explicit *it = copied(BYTES, &provisioning, sizeof provisioning);
+    uint32_t status = dovecounter_explicit_reply(it, outcome, bytes, count);
+    judge(status, "explicit_reply", LIST(31, 32, 34), it, 0);
+    stop_if(status && memcmp(it, &provisioning, sizeof *it), "a refused reply changes provisioning with settings");
+    provisioning = *it;
+    return status;
+}
+
+static void end_explicit(void) {
+#define EXPLICIT_END(it) dovecounter_explicit_end(&provisioning, it)
+    ASK(struct dovecounter_explicit_end, found, LIST(31, 33), EXPLICIT_END);
+    if (status) return;
+    stop_if(found->settings > DOVECOUNTER_EXPLICIT_SETTINGS_NOT_ACTIVE, "settings of an end");
+    stop_if(found->lane > 8 || (found->lane != 0) != (found->settings != 0), "the lane of an end");
+    stop_if(found->fault.code > 10 || (found->fault.code && found->steps), "a failure with steps");
+}
+
+static void go_on_with_explicit(void) {
+    for (int steps = byte(); steps > 0; steps--) {
+#define EXPLICIT_NEXT(it) dovecounter_explicit_next(&provisioning, it)
+        ASK(struct dovecounter_operation, next, LIST(31, 32), EXPLICIT_NEXT);
+        if (status) break;
+        struct made made = made_of(*next);
+        stop_if(reply_to_explicit(made.outcome, made.bytes, made.count) != 0,
+                "a reply while provisioning with settings");
+    }
+    end_explicit();
+}
+
+/* A reply of any kind, or a changed number. */
+static void call_explicit(void) {
+    uint8_t what = byte();
+    if (what & 1) change(&provisioning, sizeof provisioning);
+    size_t size = byte();
+    if (what & 4) reply_to_explicit(what >> 4, filled(OUT, size), size);
+    end_explicit();
 }
 #endif
