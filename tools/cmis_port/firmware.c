@@ -95,11 +95,11 @@ static void show_progress(struct sending *sending) {
     const struct dovecounter_update_progress progress = progress_of(sending);
     if (progress.all == 0 || now() - sending->shown < SHOWN) return;
     sending->shown = now();
-    if (sending->port->json) {
+    if (sending->port->json && can_print()) {
         printf("{\"sent\": %u, \"all\": %u, \"known\": \"%s\"}\n", progress.sent, progress.all,
                known_words[progress.known]);
-        print_now(sending->port);
-    } else if (isatty(STDERR_FILENO))
+        fflush(stdout);
+    } else if (!sending->port->json && isatty(STDERR_FILENO))
         show_on_terminal(sending, &progress);
 }
 
@@ -157,7 +157,9 @@ static bool give_password(struct port *port) {
 /* Reads the module, and gives it the password if there is one. Says why it has no firmware that can be managed. */
 static bool read_manageable(struct port *port) {
     struct dovecounter_command_block block = {0};
-    if (!read_module(port, false)) return false;
+    bool whole = read_module(port, false);
+    if (!port->json) print_flags(port);
+    if (!whole) return false;
     if (is_other_family(port)) return refuse_by(port, DOVECOUNTER_NOT_CMIS), false;
     for (size_t i = 0; i < port->half_count; i++)
         if (port->halves[i].upper == 1 && port->halves[i].page == 1)
@@ -205,7 +207,7 @@ enum status firmware_commit(struct port *port) {
     if (!read_manageable(port) || !read_banks(port, &banks)) return REFUSED;
     if (banks.running == 0) warnx("%s: no bank runs that is valid, alone", port->bus.name);
     if (banks.running == 0 || banks.running == banks.committed) {
-        if (banks.running != 0) puts("commit has nothing to do");
+        if (banks.running != 0 && !port->json) puts("commit has nothing to do");
         print_banks(port, &banks);
         return banks.running != 0 ? DONE : REFUSED;
     }
@@ -217,10 +219,10 @@ enum status firmware_commit(struct port *port) {
 }
 
 enum status firmware_abort(struct port *port) {
-    struct dovecounter_update_ending ending;
-    if (!read_manageable(port) || !ask(port, dovecounter_abort_begin, &ending)) return REFUSED;
-    puts("the download was given up");
-    return DONE;
+    struct dovecounter_update_ending ending = {.fault = DOVECOUNTER_UPDATE_UNKNOWN}; /* if it comes to no end */
+    if (!read_manageable(port)) return REFUSED;
+    if (ask(port, dovecounter_abort_begin, &ending)) return puts("the download was given up"), DONE;
+    return port->stored && ending.fault == DOVECOUNTER_UPDATE_UNKNOWN ? NOT_PROVISIONED : REFUSED;
 }
 
 /* Says what goes down. Whether that is allowed. */

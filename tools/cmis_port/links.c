@@ -133,10 +133,10 @@ static void show_progress(struct testing *testing) {
     if (port->words.time == NULL || testing->interrupted || (testing->shown != 0 && now() - testing->shown < ROUND))
         return;
     testing->shown = now();
-    if (port->json) {
+    if (port->json && can_print()) {
         printf("{\"seconds\": %u, \"of\": %u}\n", passed, all);
-        print_now(port);
-    } else if (isatty(STDERR_FILENO))
+        fflush(stdout);
+    } else if (!port->json && isatty(STDERR_FILENO))
         fprintf(stderr, "\r\033[Klink: %u of %u s\r", passed, all);
 }
 
@@ -289,6 +289,6 @@ enum status test_link(struct port *port) {
     if (!read_switchable(port)) return REFUSED;
     bool ended;
     do ended = carry_out_test(&testing, &end);
-    while (ended && end.outcome == DOVECOUNTER_LINK_NO_RESULTS && choose_other(port));
+    while (ended && end.outcome == DOVECOUNTER_LINK_NO_RESULTS && !testing.interrupted && choose_other(port));
     return end_test(&testing, ended, &end);
 }

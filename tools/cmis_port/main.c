@@ -9,7 +9,7 @@
 #include <unistd.h>
 
 static const char usage[] =
-    "usage: cmis-port BUS image | state | history | plan [WEIGHTS] | provision WEIGHTS | wake | sleep\n"
+    "usage: cmis-port BUS image | state | history | plan [WEIGHTS] | provision [WEIGHTS] | wake | sleep\n"
     "       cmis-port BUS observables\n"
     "       cmis-port BUS firmware [commit | abort | update FILE]\n"
     "       cmis-port BUS lanes\n"
@@ -21,7 +21,8 @@ static const char usage[] =
     "       cmis-port BUS prbs --side media | host --pattern PATTERN --for TIME\n"
     "       cmis-port BUS settings [set lane=LANES SETTING=VALUE ..]\n"
     "  BUS             /dev/i2c-N, the eeprom file of the driver optoe, or sim:IMAGE[,SCRIPT] to simulate a module;\n"
-    "                  or a port of cmisd, as swp1, which answers image, state, history and plan without the bus\n"
+    "                  or a port of cmisd, as swp1, which answers image, state, history and plan without the bus,\n"
+    "                  and carries out provision, wake and sleep itself\n"
     "  LANES           such as 3 or 1-4,7: media lanes of tx and tx-squelch, else host lanes\n"
     "  WEIGHTS         a file with a line [host] and lines such as 0Dh = 101\n"
     "  image           print the module's memory, for cmisctl\n"
@@ -29,7 +30,7 @@ static const char usage[] =
     "  state           print the states of the module and its lanes, its flags, and the active control bytes\n"
     "  history         print how often flags were raised and lanes have changed, and when last, as cmisd has it\n"
     "  plan            print the best plan, and whether provision would accept it; without WEIGHTS by cmisd's\n"
-    "  provision       write the best plan to the module\n"
+    "  provision       write the best plan to the module; without WEIGHTS cmisd does, and brings it up\n"
     "  wake            take the module out of low power\n"
     "  sleep           put it into low power\n"
     "  firmware        print what the module's firmware banks hold\n"
@@ -139,6 +140,7 @@ struct command {
     bool resets, shows;  /* it takes --reset and --no-commit; it takes --json */
     bool asks;           /* it takes the memory as cmisd has it */
     bool borrows;        /* it may have the bus of a port that cmisd keeps */
+    bool requests;       /* cmisd carries it out at a port that it keeps */
     bool unlocks;        /* it takes --password */
     bool sets;           /* its words are followed by a setting and lanes */
     bool loops, checks;  /* by a side, a kind and perhaps lanes; by flags about a pattern */
@@ -172,8 +174,9 @@ static const struct command *read_words(int count, char **words, struct port *po
         {.name = "plan", .run = plan, .asks = true, .plans = true, .shows = true},
         {.name = "plan", .run = plan, .read = read_host, .asks = true, .plans = true, .shows = true},
         {.name = "provision", .run = provision, .read = read_host, .plans = true, .stores = true, .forces = true},
-        {.name = "wake", .run = wake},
-        {.name = "sleep", .run = put_to_sleep, .forces = true},
+        {.name = "provision", .run = provision, .requests = true, .forces = true},
+        {.name = "wake", .run = wake, .requests = true},
+        {.name = "sleep", .run = put_to_sleep, .requests = true, .forces = true},
         {.name = "firmware", .run = firmware, .shows = true, .borrows = true, .unlocks = true},
         {.name = "firmware",
          .second = "commit",
@@ -237,16 +240,22 @@ static enum status prepare(const struct command *command, struct port *port, con
     ask_manager(port, asks);
     if (command->run == history) return DONE;
     if (asks && !take_told(port)) return REFUSED;
-    if (command->run == plan && !port->is_weighed && !port->is_told)
-        return warnx("%s: no cmisd keeps it, so a file with weights has to be named", port->bus.name), COMMAND_LINE;
+    if (command->requests && is_kept(port) && port->log_name != NULL)
+        return warnx("%s: cmisd makes the transactions, and logs none", port->bus.name), COMMAND_LINE;
+    if (command->requests && is_kept(port)) return DONE;
+    if ((command->run == plan || command->run == provision) && !port->is_weighed && !port->is_told)
+        return warnx("%s: this is no port of cmisd, so a file with weights has to be named", port->bus.name),
+               COMMAND_LINE;
     return (!borrows || borrow_bus(port)) && open_port(port) ? DONE : REFUSED;
 }
 
 /* Whatever may keep the program waiting is read before signals are held back, and before the module is touched. */
 static enum status run(const struct command *command, struct port *port, const char *name) {
     enum status status = prepare(command, port, name);
+    bool is_request = command->requests && is_kept(port);
+    if (status == DONE && is_request) status = request(port, command->name);
     hold_signals(&port->signals);
-    if (status == DONE) status = command->run(port);
+    if (status == DONE && !is_request) status = command->run(port);
     unlock_bus(&port->bus);
     release_signals(port);
     if (port->log != NULL) close_log(port);

@@ -15,7 +15,7 @@
 enum { LINE_SIZE = 1 << 16, LETS_GO = 10000, BUS_SIZE = 128 }; /* bytes; milliseconds; bytes */
 
 /* A connection to the cmisd that runs, or -1. */
-static int connect_to_manager(void) {
+int connect_to_manager(void) {
     struct sockaddr_un name = {.sun_family = AF_UNIX};
     const char *folder = getenv("CMISD_FOLDER");
     int length = snprintf(name.sun_path, sizeof name.sun_path, "%s/control", folder != NULL ? folder : "/run/cmisd");
@@ -63,13 +63,13 @@ static const char *member(const char *line, const char *name) {
     return found != NULL ? found + strlen(key) : NULL;
 }
 
-static bool is_on(const char *line, const char *name) {
+bool is_on(const char *line, const char *name) {
     const char *value = member(line, name);
     return value != NULL && strncmp(value, "true", 4) == 0;
 }
 
 /* The bytes of a text, in which \n and \u00XX alone are escaped; none if there is no such member. */
-static size_t take_text(const char *line, const char *name, char *text, size_t size) {
+size_t take_text(const char *line, const char *name, char *text, size_t size) {
     const char *at = member(line, name);
     size_t length = 0;
     unsigned code = '\n';

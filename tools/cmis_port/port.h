@@ -62,17 +62,25 @@ void pause_ms(struct port *port, int64_t ms);
 void fill_streams(void);
 void hold_signals(sigset_t *signals);
 void print_now(struct port *port);
+bool can_print(void);
 void release_signals(struct port *port);
 bool open_port(struct port *port);
 uint8_t transact(struct port *port, const struct dovecounter_operation *operation, uint8_t bytes[128]);
 uint8_t transact_in_pieces(struct port *port, const struct dovecounter_operation *operation, uint8_t bytes[128]);
 
 /* manager.c */
+int connect_to_manager(void);
+bool is_on(const char *line, const char *name);
+size_t take_text(const char *line, const char *name, char *text, size_t size);
 void ask_manager(struct port *port, bool reads);
 bool take_told(struct port *port);
 enum status history(struct port *port);
 bool borrow_bus(struct port *port);
 void give_back_bus(struct port *port);
+
+/* requests.c */
+bool is_kept(const struct port *port);
+enum status request(struct port *port, const char *command);
 
 /* module.c */
 enum { MODULE_STATE = 3, PATH_STATES = 128, CONFIG_STATUSES = 202, ACTIVE = 206 }; /* the last three on page 11h */

@@ -111,7 +111,8 @@ static bool put_in(struct port *port) {
         if (port->ending != GOES_ON || !read_lanes(port)) return false;
         struct dovecounter_effect effect = judge(port);
         if (status_by(&effect) != DONE) return false;
-        if (effect.is_active && !port->is_tuned) return warnx("%s: the plan is active now", port->bus.name), true;
+        if (effect.is_active && (!port->is_tuned || has_tuned(port)))
+            return warnx("%s: the plan is active now", port->bus.name), true;
         if (times < 2) warnx("%s: provisioning begins again", port->bus.name);
     }
     return false;

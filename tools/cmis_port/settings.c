@@ -232,7 +232,8 @@ enum status change_settings(struct port *port) {
 
 /* ---- provisioning with settings ---- */
 
-/* The settings that lanes of the plan are to have, with explicit control. Says what the module doesn't advertise. */
+/* The settings that lanes of the plan are to have, with explicit control. Says what the module doesn't advertise, or if the plan has none of
+   the lanes. */
 bool begin_tuned(struct port *port) {
     struct found found;
     const struct dovecounter_patience patience = patience_for(port);
@@ -241,6 +242,7 @@ bool begin_tuned(struct port *port) {
     if (status == DOVECOUNTER_DONE) status = dovecounter_settings_limits(port->halves, port->half_count, &found.limits);
     if (status != DOVECOUNTER_DONE) return refuse_by(port, status), false;
     port->tuned_lanes &= port->plan.lanes;
+    if (port->tuned_lanes == 0) return warnx("%s: the plan has none of the lanes of --settings", port->bus.name), false;
     port->tunes = wanted(port, &found), port->limits = found.limits;
     for (unsigned lane = 0; lane < 8; lane++) port->plan.control[lane] |= (uint8_t)(port->tuned_lanes >> lane & 1);
     status = dovecounter_explicit_begin(port->plan.control, 0, &port->tunes, &port->limits, &patience, &it);
@@ -259,12 +261,18 @@ bool has_tuned(const struct port *port) {
     return true;
 }
 
+/* The lanes that are taken. If the plan's control bytes are active, settings are applied to those that are down, which stay so. */
+static uint8_t taken_lanes(const struct port *port) {
+    const struct dovecounter_effect effect = judge(port);
+    return effect.is_active ? (uint8_t)lanes_in(port, DEACTIVATED) : effect.taken;
+}
+
 /* As carry_out does. */
 unsigned provision_tuned(struct port *port) {
     const struct dovecounter_patience patience = patience_for(port);
     struct dovecounter_explicit it;
     struct dovecounter_explicit_end end;
-    dovecounter_explicit_begin(port->plan.control, judge(port).taken, &port->tunes, &port->limits, &patience, &it);
+    dovecounter_explicit_begin(port->plan.control, taken_lanes(port), &port->tunes, &port->limits, &patience, &it);
     dovecounter_explicit_run(&it, make_in_pieces, wait_on_lanes, port);
     if (dovecounter_explicit_end(&it, &end) != DOVECOUNTER_DONE) return NO_ANSWER;
     if (end.settings == DOVECOUNTER_EXPLICIT_SETTINGS_NOT_STAGED)

@@ -4,6 +4,7 @@
 #include <err.h>
 #include <errno.h>
 #include <fcntl.h>
+#include <poll.h>
 #include <string.h>
 #include <time.h>
 #include <unistd.h>
@@ -53,6 +54,12 @@ void print_now(struct port *port) {
     sigprocmask(SIG_UNBLOCK, &port->signals, NULL);
     fflush(stdout);
     sigprocmask(SIG_BLOCK, &port->signals, NULL);
+}
+
+/* Whether a line can be printed at once: amid a work nobody waits for its reader, and no signal ends the program. */
+bool can_print(void) {
+    struct pollfd out = {.fd = STDOUT_FILENO, .events = POLLOUT};
+    return poll(&out, 1, 0) == 1 && out.revents == POLLOUT;
 }
 
 /* Drops the signals that came too late for a module, and lets further ones end the program while it prints. */

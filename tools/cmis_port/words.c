@@ -27,6 +27,15 @@ const char *const config_statuses[16] = {"ConfigUndefined",
                                          "custom-14",
                                          "custom-15"};
 
+/* Why cmisd leaves a module alone. */
+const char *const left_reasons[DOVECOUNTER_LEFT_ASLEEP + 1] = {
+    [DOVECOUNTER_LEFT_NO_PAGE_11] = "the module has no page 11h",
+    [DOVECOUNTER_LEFT_NO_PLAN] = "none of the module's data paths is wanted",
+    [DOVECOUNTER_LEFT_NEEDS_POWER] = "the module needs more than max_power",
+    [DOVECOUNTER_LEFT_NEEDS_PERMISSION] = "lanes that are up would go down, and nobody permits it",
+    [DOVECOUNTER_LEFT_ASLEEP] = "the module is in low power, as somebody asked",
+};
+
 /* Lanes as in `1,3` or `1-4,7`; 0 if they are none. */
 uint8_t lanes_of_word(const char *word) {
     unsigned lanes = 0;

@@ -102,7 +102,7 @@ bool stop_all(int64_t most);
 /* listing.c */
 bool is_pausing(struct port *port, const struct dovecounter_operation *operation);
 uint8_t make_aside(struct port *port, const struct dovecounter_operation *operation, uint8_t bytes[128]);
-void forget_listing(struct port *port);
+void forget_module(struct port *port);
 bool begin_listing(struct port *port, const struct dovecounter_port_next *next);
 void go_on_listing(struct port *port);
 
@@ -145,7 +145,7 @@ void remove_file(const char *port, const char *ending);
 void remove_old_files(void);
 
 /* control.c */
-enum { MOST_CLIENTS = 16 };
+enum { MOST_CLIENTS = 256 };
 int open_control(void);
 int ask(int count, char **words);
 void send_to_listeners(const char *line, size_t length);

@@ -55,7 +55,7 @@ static void finish(struct port *port) {
 }
 
 /* Of a module that is gone nothing is known. */
-void forget_listing(struct port *port) {
+void forget_module(struct port *port) {
     memset(&port->listing, 0, sizeof port->listing);
     memset(&port->outputs, 0, sizeof port->outputs);
 }

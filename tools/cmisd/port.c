@@ -119,7 +119,7 @@ static void take_presence(struct port *port, uint8_t presence) {
     bool is_plugged = presence == DOVECOUNTER_PLUGGED;
     if (presence == DOVECOUNTER_SAME) return;
     forget(port);
-    forget_listing(port);
+    forget_module(port);
     if (!is_plugged) remove_file(port->entry.name, "image");
     tell(port, is_plugged ? "plugged" : "pulled", "");
     if (!is_plugged) shut(port);

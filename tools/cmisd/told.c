@@ -50,14 +50,6 @@ static const char *const failures[] = {
     [DOVECOUNTER_PORT_NOT_ASLEEP] = "the module could not be put to sleep",
 };
 
-static const char *const reasons[] = {
-    [DOVECOUNTER_LEFT_NO_PAGE_11] = "the module has no page 11h",
-    [DOVECOUNTER_LEFT_NO_PLAN] = "none of the module's data paths is wanted",
-    [DOVECOUNTER_LEFT_NEEDS_POWER] = "the module needs more than max_power",
-    [DOVECOUNTER_LEFT_NEEDS_PERMISSION] = "lanes that are up would go down, and nobody permits it",
-    [DOVECOUNTER_LEFT_ASLEEP] = "the module is in low power, as somebody asked",
-};
-
 /* Why a module is left alone: as the library has it of what a module advertises. */
 void say_reason(char words[WORDS_SIZE], const struct dovecounter_left *left) {
     uint8_t text[DOVECOUNTER_TEXT_SIZE];
@@ -66,7 +58,7 @@ void say_reason(char words[WORDS_SIZE], const struct dovecounter_left *left) {
     if (!is_own) dovecounter_status_text(left->reason, text, sizeof text, &length);
     int written = snprintf(words, WORDS_SIZE, "%.*s", (int)length, (const char *)text);
     if (is_own)
-        snprintf(words, WORDS_SIZE, "%s", reasons[left->reason]);
+        snprintf(words, WORDS_SIZE, "%s", left_reasons[left->reason]);
     else if (left->value != 0)
         snprintf(words + written, WORDS_SIZE - (size_t)written, " (%02Xh)", left->value);
 }
