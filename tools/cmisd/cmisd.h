@@ -73,7 +73,9 @@ struct port {
     bool is_rested;     /* the last operation of the library has ended a look, or a job in a failure */
     int64_t goes_on_at; /* until when the reading of `listing` or `outputs` under way pauses, or 0 */
 
-    uint8_t stage; /* as it was told last */
+    bool is_read_again;           /* by itself, so that what comes of it is told only if it is another reason: */
+    struct dovecounter_left left; /* as it was told last, */
+    uint8_t stage;                /* and so was this */
     int64_t since, failed_at;
     char failure[WORDS_SIZE]; /* the last one, or "" */
     struct dovecounter_flag_counts flags;

@@ -12,6 +12,7 @@
 #include <unistd.h>
 
 enum { SECOND = 1000, SOON = 100, LONGEST = 64 * SECOND }; /* milliseconds */
+enum { PERIODS = 6 };                                      /* between two readings of what can't be managed */
 
 /* What hangs on one adapter, beyond all multiplexers, has one thread. */
 struct adapter {
@@ -59,6 +60,7 @@ bool is_there(const struct port *port) { return port->core.stage != DOVECOUNTER_
 bool is_still(const struct port *port) { return port->is_held || port->is_lent || !port->entry.manage; }
 
 static void forget(struct port *port) {
+    port->is_read_again = false;
     port->half_count = 0;
     port->page = -1;
 }
@@ -219,6 +221,19 @@ static void carry_out(struct port *port, const struct dovecounter_port_next *nex
     take_answer(port, answered, began);
 }
 
+/* A module that can't be managed is left alone for good, but its files are to show what it measures. */
+static bool is_to_be_read_again(const struct port *port) {
+    uint8_t reason = port->core.left.reason;
+    bool is_manageable = reason > DOVECOUNTER_LEFT_NO_PAGE_11 && reason <= DOVECOUNTER_LEFT_ASLEEP;
+    int64_t moment = port->read_at + PERIODS * (int64_t)port->entry.times.period;
+    return port->core.stage == DOVECOUNTER_PORT_LEFT && !is_manageable && moment <= now();
+}
+
+static void read_again(struct port *port) {
+    port->is_read_again = true;
+    must(dovecounter_port_reconsider(&port->core));
+}
+
 /* One operation, one look, or none, and when the next is due. What a module lists is read to the end even if the port is to be still, or to
    go, so that its statistics aren't left frozen. */
 static void step(struct port *port) {
@@ -232,6 +247,7 @@ static void step(struct port *port) {
     if (!still && !port->is_open) return reopen(port);
     if (port->outputs.is_under_way && !looks) return go_on_with_outputs(port);
     if (looks && (has_pin || lists || port->outputs.is_under_way)) return look(port);
+    if (!still && !lists && is_to_be_read_again(port)) read_again(port);
     must(dovecounter_port_next(&port->core, (uint64_t)now(), &next));
     if (next.kind == DOVECOUNTER_PORT_DO) return carry_out(port, &next);
     if (!still && port->looks_at <= now()) return look(port);

@@ -114,6 +114,10 @@ void hear(struct port *port, const struct dovecounter_port_outcome *outcome) {
     if (outcome->kind == DOVECOUNTER_PORT_WENT) tell_note(port, outcome->note);
     if (outcome->kind == DOVECOUNTER_PORT_FAILED) tell_failure(port, outcome);
     if (outcome->kind != DOVECOUNTER_PORT_LEAVES) return;
+    bool is_told = port->is_read_again && memcmp(&port->left, &outcome->left, sizeof port->left) == 0;
+    port->is_read_again = false;
+    port->left = outcome->left;
+    if (is_told) return put_status(port);
     say_reason(words, &outcome->left);
     tell(port, "left", words);
 }
