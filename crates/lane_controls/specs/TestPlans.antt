@@ -2,6 +2,8 @@
 use Rattle.std.specs.Prelude.{ℕ, ◌+◌, ◌-◌, ◌*◌, ◌/◌, ◌%◌, ◌==◌, ◌&&◌, nat_lt, not, Bool, List, Option, Some, None, if◌then◌else◌, slice_index, find, count_by}
 use Rattle.std.specs.Int.RustNames.{bit_and}
 use Rattle.std.specs.List.{list_any}
+use Rattle.lane_controls.specs.declared.control.Control.TheVariants.{Loopback}
+use Rattle.lane_controls.specs.declared.control.Loopback.TheVariants.{HostSideInput}
 use Rattle.lane_controls.specs.declared.link_test.TestFault.{TestFault}
 use Rattle.lane_controls.specs.declared.link_test.TestFault.TheVariants as fault
 use Rattle.lane_controls.specs.declared.test_plan.Change.{Change}
@@ -10,6 +12,13 @@ use Rattle.lane_controls.specs.declared.test_plan.TestPlan.{TestPlan}
 use Rattle.lane_controls.specs.Capabilities as capabilities
 use Rattle.lane_controls.specs.Controls.{address_of, host_lanes, is_loopback, is_media}
 use Rattle.lane_controls.specs.Merging.{merged}
+
+-- no bit of a control
+abbrev pub no_bit : Switch
+no_bit = record { control = Loopback HostSideInput; mask = 0; bits = 0 }
+
+abbrev pub no_change : Change
+no_change = record { switch = no_bit; original = 0 }
 
 abbrev pub address : Switch → ℕ
 address switch = address_of switch.control

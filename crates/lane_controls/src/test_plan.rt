@@ -51,9 +51,10 @@ pub struct TestPlan {
 }
 
 impl Default for Switch {
-    ghost use Rattle.std.specs.Prelude.{⊤};
+    ghost use Rattle.std.specs.Prelude.{◌≡◌};
+    ghost use Rattle.lane_controls.specs.TestPlans.{no_bit};
 
-    ghost is_default = { λ switch. ⊤ };
+    ghost is_default = { λ switch. switch ≡ no_bit };
 
     /// No bit of a control.
     fn default() -> Switch {
@@ -66,10 +67,12 @@ impl Default for Switch {
 }
 
 impl Default for Change {
-    ghost use Rattle.std.specs.Prelude.{⊤};
+    ghost use Rattle.std.specs.Prelude.{◌≡◌};
+    ghost use Rattle.lane_controls.specs.TestPlans.{no_change};
 
-    ghost is_default = { λ change. ⊤ };
+    ghost is_default = { λ change. change ≡ no_change };
 
+    /// No bit of a control, which was 0.
     fn default() -> Change {
         Change {
             switch: Switch::default(),

@@ -14,10 +14,11 @@ use sim_module::SimModule;
 use std::alloc::Global;
 use std::test::Fail;
 
-// How many milliseconds it waited, if it has ended.
+// How many milliseconds it waited, if it has ended. A word comes after each operation, if there is one.
 fn waited<C: Conversation, D: Device + Drop>(
     conversation: &mut C,
     bus: &mut ScriptBus<D>,
+    word: Option<u32>,
 ) -> Result<Option<u32>, Fail>
 where
     C::End: Drop,
@@ -28,6 +29,9 @@ where
             Next::Do(op) => {
                 let reply = bus.transact(op)?;
                 conversation.take(&reply);
+                if let Some(number) = word {
+                    conversation.asked(number);
+                }
             }
             Next::Wait(time) => {
                 waited = waited.saturating_add(time);
@@ -57,7 +61,7 @@ fn each_refusal_is_followed_by_a_pause(rt: HostRuntime) -> Result<(), Fail> {
             change.asked(1);
         }
         let mut bus = bus_of(rt.alloc(), Window::<16>::of(&image()?)?, script, 50)?;
-        assert_eq!(rt; waited(&mut change, &mut bus)?, Some(time));
+        assert_eq!(rt; waited(&mut change, &mut bus, None)?, Some(time));
     }
     Ok(())
 }
@@ -70,7 +74,7 @@ fn a_state_that_never_comes_is_overdue(rt: HostRuntime) -> Result<(), Fail> {
         let mut bus = bus_of(rt.alloc(), Window::<16>::of(&asleep)?, b"", 50)?;
         let patience = Patience { pause: 7, limit };
         let mut change = PowerChange::patient(Power::Awake, patience);
-        assert_eq!(rt; waited(&mut change, &mut bus)?, Some(time));
+        assert_eq!(rt; waited(&mut change, &mut bus, None)?, Some(time));
         assert!(rt; matches!(change.conversation.next(), Next::End(Timed::Overdue)));
         let mut bus = bus_of(rt.alloc(), Window::<16>::of(&asleep)?, b"", 50)?;
         let told = change_power_on(&mut bus, Power::Awake, patience);
@@ -111,22 +115,33 @@ fn a_module_that_leaves_ready_is_named(rt: HostRuntime) -> Result<(), Fail> {
 }
 
 // The reading of so much of the image in a window, and how many transactions it made.
-fn read(alloc: Global, request: Request, piece: u8) -> Result<(Reading, usize), Fail> {
+fn read(
+    alloc: Global,
+    request: Request,
+    piece: u8,
+    word: Option<u32>,
+) -> Result<(Reading, usize), Fail> {
     let mut bus = bus_of(alloc, Window::<16>::of(&image()?)?, b"nack 1\n", 500)?;
     let mut pieces = InPieces {
         conversation: Halves::reading(request),
         piece,
         part: ArrayVec::new(),
     };
-    let _time = waited(&mut pieces, &mut bus)?;
+    let _time = waited(&mut pieces, &mut bus, word)?;
     Ok((pieces.conversation, bus.steps().len()))
 }
 
-// Five halves in pieces of 128, 50 or 32 bytes, with eight transactions for selections and one that is refused.
+// Five halves in pieces of 128, 50 or 32 bytes, with eight transactions for selections and one that is refused. A word amid a half has none of it
+// read again.
 #[test]
 fn pieces_give_the_same_image(rt: HostRuntime) -> Result<(), Fail> {
-    for (piece, steps) in [(128, 14), (50, 24), (32, 29)] {
-        let (reading, made) = read(rt.alloc(), Request::everything(), piece)?;
+    for (piece, word, steps) in [
+        (128, None, 14),
+        (50, None, 24),
+        (50, Some(1), 24),
+        (32, None, 29),
+    ] {
+        let (reading, made) = read(rt.alloc(), Request::everything(), piece, word)?;
         assert_eq!(rt; made, steps);
         let mut bus = bus_of(rt.alloc(), Window::<16>::of(&image()?)?, b"", 500)?;
         let mut whole = Halves::reading(Request::everything());
@@ -150,7 +165,7 @@ fn what_is_requested_is_read_alone(rt: HostRuntime) -> Result<(), Fail> {
         (0x08, 5, b"\x11"),
         (0x05, 8, b"\x00\x02"),
     ] {
-        let (reading, made) = read(rt.alloc(), Request { halves }, 128)?;
+        let (reading, made) = read(rt.alloc(), Request { halves }, 128, None)?;
         assert_eq!(rt; made, steps);
         let halves = &reading.conversation.conversation;
         assert_eq!(rt; halves.settled, 1 + pages.len());
