@@ -28,6 +28,7 @@ use Rattle.port_manager.specs.Ports.{IfWorking, asking, begun_in, heard_as, reco
 use Rattle.port_manager.proofs.PatientLaws.{kept_within}
 use Rattle.saved_port.specs.SavedPorts.{port_in}
 use Rattle.saved_port.specs.Known.{HasRead, IsKnown, IsKnownJob, IsReadingAfter, ReadsOn, halves_of}
+use Rattle.saved_port.specs.Shown.{IsShown}
 use Rattle.firmware_api.specs.declared.half.HalfBytes.{HalfBytes}
 use Rattle.firmware_api.specs.declared.port.kept.KeptPort.{KeptPort}
 use Rattle.firmware_api.specs.Halves.{key_of, memory_of}
@@ -227,20 +228,21 @@ keeps_in new port count halves counts same fits saved =
     ∙ ap (λ (b : Bool). if b then port_in new.numbers (memory_of (take count halves)) else None) (le-leb count 5 fits.0) ∙ saved fits.1
 
 pub keeps : (new : KeptPort) (later : Port) (count : ℕ) (halves : List HalfBytes) → Fits later.stage count halves → IsKnown later → new.numbers.half_count ≡ count →
-    (FitsIn later count halves → IsKnown later → kept_in new ≡ Some later) → IsKept new later
-keeps new later count halves fits known counts same = record {
+    (FitsIn later count halves → IsKnown later → kept_in new ≡ Some later) → IsShown later new.numbers → IsKept new later
+keeps new later count halves fits known counts same shown = record {
   is = same (fits.few, fits.read) known;
+  shown = shown;
   known = known;
   counted = subst (λ (n : ℕ). IfWorking later.stage (IsCounted n)) (sym counts) fits.counted;
 }
 
 pub put_kept : (old new : KeptPort) (found later : Port) → found ≡ later →
-    (FitsIn found (count_of found old.numbers.half_count) old.halves → IsKnown found → kept_in new ≡ Some found) → new.numbers.half_count ≡ count_of found old.numbers.half_count →
-    Fits later.stage (count_of later old.numbers.half_count) old.halves → IsKnown later → IsKept new later
-put_kept old new found later is same counts fits known =
+    (FitsIn found (count_of found old.numbers.half_count) old.halves → IsKnown found → kept_in new ≡ Some found) → IsShown found new.numbers →
+    new.numbers.half_count ≡ count_of found old.numbers.half_count → Fits later.stage (count_of later old.numbers.half_count) old.halves → IsKnown later → IsKept new later
+put_kept old new found later is same shown counts fits known =
     subst (λ (p : Port). IsKept new p) is
     (keeps new found (count_of found old.numbers.half_count) old.halves (subst (λ (p : Port). Fits p.stage (count_of p old.numbers.half_count) old.halves) (sym is) fits)
-    (subst (λ (p : Port). IsKnown p) (sym is) known) counts same)
+    (subst (λ (p : Port). IsKnown p) (sym is) known) counts same shown)
 
 pub fits_kept : (old : KeptPort) (found held : Port) → FitsIn found old.numbers.half_count old.halves → found ≡ held → IsKept old held → Fits held.stage old.numbers.half_count old.halves
 fits_kept old found held fits same kept =

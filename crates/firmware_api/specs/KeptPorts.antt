@@ -12,6 +12,7 @@ use Rattle.port_manager.specs.declared.port.Stage.TheVariants.{Absent, Left, Wor
 use Rattle.port_manager.specs.Ports.{IfWorking, IsAwaited}
 use Rattle.saved_port.specs.Known.{HasRead, IsKnown, halves_of}
 use Rattle.saved_port.specs.SavedPorts.{port_in}
+use Rattle.saved_port.specs.Shown.{IsShown}
 use Rattle.firmware_api.specs.declared.half.HalfBytes.{HalfBytes}
 use Rattle.firmware_api.specs.declared.port.kept.KeptPort.{KeptPort}
 use Rattle.firmware_api.specs.declared.status.Refusal.{Refusal}
@@ -36,9 +37,10 @@ IsCounted count (Provisioning job goal) = Unit {0}
 IsCounted count (Activating job goal) = Unit {0}
 IsCounted count (Watching job) = Unit {0}
 
--- the memory has the port, of which all is known
+-- the memory has the port, of which all is known, and shows what C may read of it
 pub record IsKept (kept : KeptPort) (port : Port) : Type 0 where
   pub is : kept_in kept ≡ Some port
+  pub shown : IsShown port kept.numbers
   pub known : IsKnown port
   pub counted : IfWorking port.stage (IsCounted kept.numbers.half_count)
 

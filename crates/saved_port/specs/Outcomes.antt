@@ -10,9 +10,9 @@ use Rattle.port_manager.specs.declared.turn.PortFault.{PortFault}
 use Rattle.port_manager.specs.declared.turn.PortFault.TheVariants.{Unread, Asleep, Waking, Sleeping, Provisioning, Activating, Unseen, Changed}
 use Rattle.port_manager.specs.declared.turn.ProcedureFault.{ProcedureFault}
 use Rattle.port_manager.specs.declared.turn.ProcedureFault.TheVariants as why
-use Rattle.saved_port.specs.declared.numbers.SavedLeft.{SavedLeft}
 use Rattle.saved_port.specs.declared.outcome.SavedOutcome.{SavedOutcome}
-use Rattle.saved_port.specs.SavedPorts.{no_reason, reason_in}
+use Rattle.saved_port.specs.SavedPorts.{no_reason}
+use Rattle.saved_port.specs.Shown.{left_because}
 
 abbrev pub number_of_note : Note → ℕ
 number_of_note Quiet = 0
@@ -61,5 +61,4 @@ AreNumbersOf (Went note) numbers = numbers ≡ plain 1 (number_of_note note) 0
 AreNumbersOf (Paused moment) numbers = numbers ≡ plain 2 0 moment
 AreNumbersOf (Failed fault moment) numbers = numbers ≡ failed fault moment
 AreNumbersOf (Left reason) numbers =
-    (left : SavedLeft) × (reason_in left ≡ Some reason)
-    × (numbers ≡ record { moment = 0; kind = 4; note = 0; failure = 0; fault = saved_fault None; left = left })
+    numbers ≡ record { moment = 0; kind = 4; note = 0; failure = 0; fault = saved_fault None; left = left_because reason }

@@ -2,12 +2,14 @@
 ghost use Rattle.std.specs.Prelude.{◌≡◌, Some};
 ghost use Rattle.paged_memory.specs.Images.{Memory};
 ghost use Rattle.applications.specs.declared.fault.AdvertFault.TheVariants.{Absent};
-ghost use Rattle.port_manager.specs.declared.deciding.LeftBecause.TheVariants as reasons;
+ghost use Rattle.port_manager.specs.declared.deciding.LeftBecause.TheVariants.{Advert};
 ghost use Rattle.port_manager.specs.declared.port.Stage.TheVariants as stage;
 ghost use Rattle.port_manager.specs.Ports.{IfWorking};
 ghost use Rattle.saved_port.specs.Known.{HasRead, IsKnown, IsKnownJob};
 ghost use Rattle.saved_port.specs.SavedPorts.{port_in};
 ghost use Rattle.saved_port.specs.SavedPorts as spec;
+ghost use Rattle.saved_port.specs.Shown as shown;
+ghost use Rattle.saved_port.specs.Shown.{IsShown};
 
 use crate::numbers::{
     SavedCodes, SavedFlags, SavedGoal, SavedLeft, SavedPort, SavedTimes, SavedWork,
@@ -24,6 +26,7 @@ use port_manager::{
 /// The numbers of a port, and how many halves its reading has read.
 pub fn save(port: &Port, half_count: u16) -> SavedPort
     ensures same { (image : Memory) → IfWorking port.now.stage (HasRead image) → IsKnown port.now → port_in result image ≡ Some port.now }
+    ensures shown { IsShown port.now result }
     ensures halves { result.half_count ≡ half_count }
 {
     let (selection, page) = work::numbers_of_page(port.keeper.selected);
@@ -112,7 +115,9 @@ struct RequestNumbers {
 }
 
 fn numbers_of_request(request: Request) -> RequestNumbers
-    ensures { spec.request_in result.number result.lanes ≡ request }
+    ensures same { spec.request_in result.number result.lanes ≡ request }
+    ensures number { result.number ≡ shown.number_of_request request }
+    ensures lanes { result.lanes ≡ shown.lanes_of_request request }
 {
     match request {
         Request::Wake => RequestNumbers {
@@ -146,7 +151,8 @@ struct StageNumbers {
 }
 
 fn numbers_of(stage: &Stage) -> StageNumbers
-    ensures { (image : Memory) → IfWorking stage.now (HasRead image) → IfWorking stage.now IsKnownJob → spec.stage_in result.stage result.left result.goal result.work image ≡ Some stage.now }
+    ensures same { (image : Memory) → IfWorking stage.now (HasRead image) → IfWorking stage.now IsKnownJob → spec.stage_in result.stage result.left result.goal result.work image ≡ Some stage.now }
+    ensures left { result.left ≡ shown.left_in stage.now }
 {
     match stage {
         Stage::Absent => StageNumbers {
@@ -166,7 +172,8 @@ fn numbers_of(stage: &Stage) -> StageNumbers
 }
 
 fn numbers_of_job(job: &Job) -> StageNumbers
-    ensures { (image : Memory) → HasRead image job.now → IsKnownJob job.now → spec.stage_in result.stage result.left result.goal result.work image ≡ Some (stage.Working job.now) }
+    ensures same { (image : Memory) → HasRead image job.now → IsKnownJob job.now → spec.stage_in result.stage result.left result.goal result.work image ≡ Some (stage.Working job.now) }
+    ensures left { result.left ≡ spec.no_reason }
 {
     match job {
         Job::Reading(reading, woken) => StageNumbers {
@@ -236,7 +243,8 @@ pub fn no_reason() -> SavedLeft
 
 /// Why it is left alone.
 pub fn numbers_of_reason(reason: LeftBecause) -> SavedLeft
-    ensures { spec.reason_in result ≡ Some reason }
+    ensures same { spec.reason_in result ≡ Some reason }
+    ensures exact { result ≡ shown.left_because reason }
 {
     match reason {
         LeftBecause::NoLanes => left_by(1, 0),
@@ -249,7 +257,8 @@ pub fn numbers_of_reason(reason: LeftBecause) -> SavedLeft
 }
 
 fn numbers_of_fault(fault: AdvertFault) -> SavedLeft
-    ensures { spec.reason_in result ≡ Some (reasons.Advert fault) }
+    ensures same { spec.reason_in result ≡ Some (Advert fault) }
+    ensures exact { result ≡ shown.left_by_advert fault }
 {
     match fault {
         AdvertFault::NotCmis(identifier) => left_by(11, identifier),
@@ -275,7 +284,8 @@ fn left_by(reason: u8, value: u8) -> SavedLeft
 }
 
 fn absent(key: Key) -> SavedLeft
-    ensures { spec.reason_in result ≡ Some (reasons.Advert (Absent key)) }
+    ensures same { spec.reason_in result ≡ Some (Advert (Absent key)) }
+    ensures exact { result ≡ shown.absent_half key }
 {
     let (device, upper, bank, page) = numbers_of_key(key);
     SavedLeft {
@@ -289,7 +299,8 @@ fn absent(key: Key) -> SavedLeft
 }
 
 fn numbers_of_key(key: Key) -> (u8, u8, u8, u8)
-    ensures { spec.key_at result.0 result.1 result.2 result.3 ≡ key }
+    ensures same { spec.key_at result.0 result.1 result.2 result.3 ≡ key }
+    ensures exact { shown.absent_half key ≡ record { reason = 14; value = 0; device = result.0; upper = result.1; bank = result.2; page = result.3 } }
 {
     let device = match key.dev {
         Dev::A0 => 0xA0,

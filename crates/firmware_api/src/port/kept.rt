@@ -7,6 +7,7 @@ ghost use Rattle.port_manager.specs.Flags.{no_flags};
 ghost use Rattle.port_manager.specs.Ports.{IfWorking, IsAwaited, IsTaken, absent, asked_in};
 ghost use Rattle.saved_port.specs.Known.{IsKnown};
 ghost use Rattle.saved_port.specs.Outcomes.{AreNumbersOf};
+ghost use Rattle.saved_port.specs.Shown.{IsShown};
 ghost use Rattle.firmware_api.specs.KeptPorts.{FitsIn, HasFewHalves, HasRoom, IsHalfAt, IsHalfBy, IsHalfIn, IsKept, count_at, count_of, kept_in};
 ghost use Rattle.firmware_api.specs.SavedConversations.{IsInFront};
 
@@ -57,6 +58,7 @@ pub fn blank() -> Port
 /// The memory of a port whose reading has read nothing.
 pub fn kept(port: &Port) -> KeptPort
     ensures same { FitsIn port.now 0 result.halves → IsKnown port.now → kept_in result ≡ Some port.now }
+    ensures shown { IsShown port.now result.numbers }
     ensures count { result.numbers.half_count ≡ 0 }
 {
     let nothing = HalfBytes {
@@ -76,6 +78,7 @@ pub fn kept(port: &Port) -> KeptPort
 /// Keeps the port, and as many halves as its reading has read.
 pub fn put(port: &Port, kept: &mut KeptPort)
     ensures same { FitsIn port.now (count_of port.now kept.old.numbers.half_count) kept.old.halves → IsKnown port.now → kept_in kept.new ≡ Some port.now }
+    ensures shown { IsShown port.now kept.new.numbers }
     ensures count { kept.new.numbers.half_count ≡ count_of port.now kept.old.numbers.half_count }
 {
     let count = count_of(port, kept.numbers.half_count);

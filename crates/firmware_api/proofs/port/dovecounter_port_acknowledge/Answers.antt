@@ -12,5 +12,5 @@ returns-clause-acknowledged c held kept =
     let same = found_kept old c.restore.new.port held (c.restore.ensures.found there) kept.is in
     let fits = fits_kept old c.restore.new.port held (c.restore.ensures.fits there) same kept in
     let is : c.acknowledge.new.self ≡ acknowledged_to c.args.moment held = c.acknowledge.ensures ∙ ap (λ (p : Port). acknowledged_to c.args.moment p) same in
-    put_kept old c.put.new.kept c.acknowledge.new.self (acknowledged_to c.args.moment held) is c.put.ensures.same c.put.ensures.count
+    put_kept old c.put.new.kept c.acknowledge.new.self (acknowledged_to c.args.moment held) is c.put.ensures.same c.put.ensures.shown c.put.ensures.count
     (stays held.stage count old.halves fits) (kept.known)

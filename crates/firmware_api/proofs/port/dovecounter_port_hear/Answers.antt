@@ -19,7 +19,7 @@ returns-clause-heard c held kept =
     let fits = fits_kept old c.restore.new.port held (c.restore.ensures.fits there) same kept in
     let is : c.hear-heard.new.self ≡ heard held alive began now = c.hear-heard.ensures.after ∙ ap (λ (p : Port). heard p alive began now) same in
     let presence = presence_by held alive began now in
-    put_kept old c.put.new.kept c.hear-heard.new.self (heard held alive began now) is c.put.ensures.same c.put.ensures.count
+    put_kept old c.put.new.kept c.hear-heard.new.self (heard held alive began now) is c.put.ensures.same c.put.ensures.shown c.put.ensures.count
     (heard_fits presence held alive began now count old.halves fits) (heard_known presence held alive began now kept.known)
 
 pub returns-clause-told : goal.returns-clause-told

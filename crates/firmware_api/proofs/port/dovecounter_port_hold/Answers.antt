@@ -14,5 +14,5 @@ returns-clause-holds c held kept =
     let same = found_kept old c.restore.new.port held (c.restore.ensures.found there) kept.is in
     let fits = fits_kept old c.restore.new.port held (c.restore.ensures.fits there) same kept in
     let is : c.hold.new.self ≡ holding on held = c.hold.ensures ∙ ap (λ (p : Port). holding on p) same in
-    put_kept old c.put.new.kept c.hold.new.self (holding on held) is c.put.ensures.same c.put.ensures.count
+    put_kept old c.put.new.kept c.hold.new.self (holding on held) is c.put.ensures.same c.put.ensures.shown c.put.ensures.count
     (reconsidered_fits held.outstanding (record held { vain = false; held = on }) count old.halves fits) (reconsidered_known held.outstanding (record held { vain = false; held = on }) kept.known)

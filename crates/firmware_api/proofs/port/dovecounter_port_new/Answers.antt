@@ -10,4 +10,4 @@ returns c =
     let is = c.new-empty.ensures.value in
     let held = subst (λ (p : Port). IsKept c.kept.result p) is in
     held (keeps c.kept.result c.new-empty.result 0 c.kept.result.halves (subst (λ (p : Port). Fits p.stage 0 c.kept.result.halves) (sym is) (absent 0 c.kept.result.halves))
-    (subst (λ (p : Port). IsKnown p) (sym is) tt) c.kept.ensures.count c.kept.ensures.same)
+    (subst (λ (p : Port). IsKnown p) (sym is) tt) c.kept.ensures.count c.kept.ensures.same c.kept.ensures.shown)

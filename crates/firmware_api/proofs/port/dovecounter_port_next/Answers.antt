@@ -17,7 +17,7 @@ returns-clause-asked c held kept =
     let fits = fits_kept old c.restore.new.port held (c.restore.ensures.fits there) same kept in
     let is : c.next-wants.new.self ≡ asking held (next_at held now) =
     c.next-wants.ensures.after ∙ ap (λ (n : Next Rest). asking c.restore.new.port n) c.next-wants.ensures.value ∙ ap (λ (p : Port). asking p (next_at p now)) same in
-    put_kept old c.put.new.kept c.next-wants.new.self (asking held (next_at held now)) is c.put.ensures.same c.put.ensures.count
+    put_kept old c.put.new.kept c.next-wants.new.self (asking held (next_at held now)) is c.put.ensures.same c.put.ensures.shown c.put.ensures.count
     (asking_fits held (next_at held now) count old.halves fits) (asking_known held (next_at held now) kept.known)
 
 pub returns-clause-told : goal.returns-clause-told

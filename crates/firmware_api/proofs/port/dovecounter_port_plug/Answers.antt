@@ -12,5 +12,5 @@ returns-clause-plugged c held kept =
     let same = found_kept old c.restore.new.port held (c.restore.ensures.found there) kept.is in
     let fits = fits_kept old c.restore.new.port held (c.restore.ensures.fits there) same kept in
     let is : c.plug.new.self ≡ plugged c.args.now held = c.plug.ensures.value ∙ ap (λ (p : Port). plugged c.args.now p) same in
-    put_kept old c.put.new.kept c.plug.new.self (plugged c.args.now held) is c.put.ensures.same c.put.ensures.count
+    put_kept old c.put.new.kept c.plug.new.self (plugged c.args.now held) is c.put.ensures.same c.put.ensures.shown c.put.ensures.count
     (begins false count old.halves) (tt)

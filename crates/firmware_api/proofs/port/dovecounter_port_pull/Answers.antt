@@ -12,5 +12,5 @@ returns-clause-pulled c held kept =
     let same = found_kept old c.restore.new.port held (c.restore.ensures.found there) kept.is in
     let fits = fits_kept old c.restore.new.port held (c.restore.ensures.fits there) same kept in
     let is : c.pull.new.self ≡ pulled held = c.pull.ensures.value ∙ ap (λ (p : Port). pulled p) same in
-    put_kept old c.put.new.kept c.pull.new.self (pulled held) is c.put.ensures.same c.put.ensures.count
+    put_kept old c.put.new.kept c.pull.new.self (pulled held) is c.put.ensures.same c.put.ensures.shown c.put.ensures.count
     (absent count old.halves) (tt)

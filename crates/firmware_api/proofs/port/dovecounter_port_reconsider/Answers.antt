@@ -12,5 +12,5 @@ returns-clause-reconsidered c held kept =
     let same = found_kept old c.restore.new.port held (c.restore.ensures.found there) kept.is in
     let fits = fits_kept old c.restore.new.port held (c.restore.ensures.fits there) same kept in
     let is : c.reconsider.new.self ≡ reconsidered held = c.reconsider.ensures.value ∙ ap (λ (p : Port). reconsidered p) same in
-    put_kept old c.put.new.kept c.reconsider.new.self (reconsidered held) is c.put.ensures.same c.put.ensures.count
+    put_kept old c.put.new.kept c.reconsider.new.self (reconsidered held) is c.put.ensures.same c.put.ensures.shown c.put.ensures.count
     (reconsidered_fits held.outstanding (record held { vain = false }) count old.halves fits) (reconsidered_known held.outstanding (record held { vain = false }) kept.known)

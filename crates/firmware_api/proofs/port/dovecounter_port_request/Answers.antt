@@ -16,5 +16,5 @@ returns-clause-asked c held kept =
     let fits = fits_kept old c.restore.new.port held (c.restore.ensures.fits there) same kept in
     let is : c.ask.new.self ≡ asked_for request held =
     c.ask.ensures ∙ ap (λ (r : Request). asked_for r c.restore.new.port) c.request_in.ensures ∙ ap (λ (p : Port). asked_for request p) same in
-    put_kept old c.put.new.kept c.ask.new.self (asked_for request held) is c.put.ensures.same c.put.ensures.count
+    put_kept old c.put.new.kept c.ask.new.self (asked_for request held) is c.put.ensures.same c.put.ensures.shown c.put.ensures.count
     (reconsidered_fits held.outstanding (record held { vain = false; request = request }) count old.halves fits) (reconsidered_known held.outstanding (record held { vain = false; request = request }) kept.known)

@@ -16,7 +16,15 @@ returns-clause-same c image read known =
       identifier = refl;
       flags = c.numbers_of_flags-flags.ensures;
       held = c.number_of-held.ensures;
-      request = c.numbers_of_request-request.ensures;
+      request = c.numbers_of_request-request.ensures.same;
       refusals = refl;
       since = refl;
-    }) (c.numbers_of-stage.ensures image read known)
+    }) (c.numbers_of-stage.ensures.same image read known)
+
+pub returns-clause-shown : goal.returns-clause-shown
+returns-clause-shown c = record {
+  held = c.number_of-held.ensures;
+  left = c.numbers_of-stage.ensures.left;
+  request = c.numbers_of_request-request.ensures.number;
+  lanes = c.numbers_of_request-request.ensures.lanes;
+}

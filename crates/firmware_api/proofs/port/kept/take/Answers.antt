@@ -25,5 +25,5 @@ returns c = (
       let front = c.put_half.ensures room in
       keeps c.put.new.kept later (count_of later number) new.halves
       (fits_after before reply c.half_by-half.result count number old.halves new.halves fits room front o later.stage by c.take_known-led.ensures.reading)
-      (c.take_known-led.ensures.known kept.known) c.put.ensures.count c.put.ensures.same,
+      (c.take_known-led.ensures.known kept.known) c.put.ensures.count c.put.ensures.same c.put.ensures.shown,
 )
