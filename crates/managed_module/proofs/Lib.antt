@@ -29,6 +29,8 @@ pub mod OwnTurns
 pub mod OwnJobs
 pub mod OwnSteps
 pub mod OwnStories
+pub mod OwnPauses
+pub mod OwnMoments
 pub mod NewProvisionable
 pub mod StagedBytes
 pub mod PlanPhases

@@ -43,13 +43,13 @@ use Rattle.managed_module.proofs.OwnSteps.{IsUpOrStep, not_up, IsFresh, IsSpared
 -- ---- a whole story
 
 module _ (most : ℕ) (first : SimModule) (whole : AreWhole first.image) (paged : IsPaged first.image) (awaited : IsAwaited most first.image) where
-  record Holds (port : Port) (sim : SimModule) : Type 0 where
-    halves : HasHalves sim
-    image : sim.image ≡ first.image
-    advert : sim.advert ≡ first.advert
-    request : port.request ≡ Wake
-    own : OwnStage most first port.stage sim
-    fresh : IsFresh port.outstanding
+  pub record Holds (port : Port) (sim : SimModule) : Type 0 where
+    pub halves : HasHalves sim
+    pub image : sim.image ≡ first.image
+    pub advert : sim.advert ≡ first.advert
+    pub request : port.request ≡ Wake
+    pub own : OwnStage most first port.stage sim
+    pub fresh : IsFresh port.outstanding
 
   -- an event that makes no operation
   idle_holds : (between later : Port) (sim : SimModule) → Holds between sim → later.stage ≡ between.stage → later.request ≡ between.request → IsFresh later.outstanding → Holds later sim
@@ -75,7 +75,7 @@ module _ (most : ℕ) (first : SimModule) (whole : AreWhole first.image) (paged 
   same_module : (port : Port) (sim after : SimModule) → after ≡ sim → Holds port sim → Holds port after
   same_module port sim after same holds = subst (Holds port) (sym same) holds
 
-  fresh_awaited : (o : Outstanding) → IsFresh o → (o ≡ outstanding.Awaited) ⊎ (o ≡ outstanding.Stale) → o ≡ outstanding.Awaited
+  pub fresh_awaited : (o : Outstanding) → IsFresh o → (o ≡ outstanding.Awaited) ⊎ (o ≡ outstanding.Stale) → o ≡ outstanding.Awaited
   fresh_awaited o fresh (inl is) = is
   fresh_awaited o fresh (inr stale) = absurd (subst IsFresh stale fresh)
 
@@ -108,11 +108,11 @@ module _ (most : ℕ) (first : SimModule) (whole : AreWhole first.image) (paged 
           begun = step.begun;
         })
 
-  record IsRun (port : Port) (story : Story) (later : Port) (after : SimModule) : Type 0 where
-    managed : Manages port first story later after
-    goes : IsGoingOn story
-    wants : WantsAwake story
-    holds : Holds later after
+  pub record IsRun (port : Port) (story : Story) (later : Port) (after : SimModule) : Type 0 where
+    pub managed : Manages port first story later after
+    pub goes : IsGoingOn story
+    pub wants : WantsAwake story
+    pub holds : Holds later after
 
   cmis : (port : Port) (sim : SimModule) → Holds port sim → IsCmisStage port.stage
   cmis port sim holds = cmis_stage most first port.stage sim (subst IsPaged (sym holds.image) paged) holds.own
@@ -123,7 +123,7 @@ module _ (most : ℕ) (first : SimModule) (whole : AreWhole first.image) (paged 
   idle_run port between later sim after before story (inl up) still next = inl (still up)
   idle_run port between later sim after before story (inr run) still next = inr (next run)
 
-  runs : (port later : Port) (after : SimModule) (story : Story) → Holds port first → Works port first story later after → IsUndisturbed (IsSpared most first) story → AllSuit first story → HasComeUp story ⊎ IsRun port story later after
+  pub runs : (port later : Port) (after : SimModule) (story : Story) → Holds port first → Works port first story later after → IsUndisturbed (IsSpared most first) story → AllSuit first story → HasComeUp story ⊎ IsRun port story later after
   runs port later after [] holds (is, same) succeed suit = inr (record {
     managed = (is, same);
     goes = tt;
@@ -203,7 +203,7 @@ forsaken_fresh outstanding.Awaited = tt
 forsaken_fresh outstanding.Stale = tt
 forsaken_fresh outstanding.Forsaken = tt
 
-holds_first : (most : ℕ) (sim : SimModule) (whole : AreWhole sim.image) (paged : IsPaged sim.image) (awaited : IsAwaited most sim.image) (port : Port) (now : ℕ) → HasHalves sim → IsSteady most sim → Holds most sim whole paged awaited (plugged now port) sim
+pub holds_first : (most : ℕ) (sim : SimModule) (whole : AreWhole sim.image) (paged : IsPaged sim.image) (awaited : IsAwaited most sim.image) (port : Port) (now : ℕ) → HasHalves sim → IsSteady most sim → Holds most sim whole paged awaited (plugged now port) sim
 holds_first most sim whole paged awaited port now has steady = record {
   halves = has;
   image = refl;
@@ -214,7 +214,7 @@ holds_first most sim whole paged awaited port now has steady = record {
 }
 
 -- less is asked of each result
-undisturbed : (P Q : Outcome → Type 0) → ((result : Outcome) → P result → Q result) → (story : Story) → IsUndisturbed P story → IsUndisturbed Q story
+pub undisturbed : (P Q : Outcome → Type 0) → ((result : Outcome) → P result → Q result) → (story : Story) → IsUndisturbed P story → IsUndisturbed Q story
 undisturbed P Q less [] calm = tt
 undisturbed P Q less (plug now ∷ before) calm = calm
 undisturbed P Q less (pull ∷ before) calm = calm
@@ -246,7 +246,7 @@ pub comes_up_suited : ComesUpSuited
 comes_up_suited most port later sim after now story has steady whole awaited ran succeed suit many = by_bound most port later sim after now story has steady whole awaited ran (spared most sim story succeed) suit many
 
 -- time for so many operations is time to await each state
-awaits : (most : ℕ) (memory : Memory) → LastsFor (most_made most) (patience_for memory) → IsAwaited most memory
+pub awaits : (most : ℕ) (memory : Memory) → LastsFor (most_made most) (patience_for memory) → IsAwaited most memory
 awaits most memory lasts =
     let pause = (patience_for memory).pause in
     let fewer : 3 * most + 5 ≤ most_made most = omega arith in

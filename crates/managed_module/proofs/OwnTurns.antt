@@ -104,7 +104,7 @@ nothing_lasts =
     let off = number_of_nothing fields.CMaxDurationDPTxTurnOff in
     λ i. lasts (up i) ∷ lasts (down i) ∷ lasts (init i) ∷ lasts (deinit i) ∷ lasts (on i) ∷ lasts (off i) ∷ []
 
-first_patience : patience_for finmap.empty ≡ record { pause = 100; limit = 10000 }
+pub first_patience : patience_for finmap.empty ≡ record { pause = 100; limit = 10000 }
 first_patience = ap (λ (states : List ℕ). record { pause = pause_after (longest_of states); limit = limit_after (longest_of states) }) nothing_lasts
 
 in_time : (left : ℕ) (patience : Patience) → left ≡ 13 → patience ≡ record { pause = 100; limit = 10000 } → 0 + left * patience.pause ≤ patience.limit

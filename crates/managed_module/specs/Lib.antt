@@ -5,3 +5,4 @@ pub mod Succeeds
 pub mod ModuleGoals
 pub mod ManagedPlans
 pub mod SuitedModules
+pub mod InTime

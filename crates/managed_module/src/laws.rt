@@ -1,5 +1,6 @@
 //! What holds of a port and a simulated module together. Each function is a theorem: its contract says it, and its body is empty.
 ghost use Rattle.managed_module.specs.Bounds.{ComesUpWithin, NewIsSteady};
+ghost use Rattle.managed_module.specs.InTime.{SuitedHasComeUpInTime, SuitedIsAskedFor};
 ghost use Rattle.managed_module.specs.Managed.{ManagedComesUp};
 ghost use Rattle.managed_module.specs.ModuleGoals.{GoalsAreOwn};
 ghost use Rattle.managed_module.specs.Succeeds.{ComesUpSuited};
@@ -62,4 +63,18 @@ pub fn a_suited_module_has_come_up()
 /// A new module in which no path is active meets these premises, if the port waits for so many pauses.
 pub fn a_new_module_is_provisionable()
     ensures { NewIsProvisionable }
+{}
+
+/// `a_suited_module_has_come_up` in milliseconds, if each reply is taken within so many, a turnaround, of the moment from which its
+/// operation may be asked for. Count a turnaround and the module's pause for each operation, from the moment on at which the port has let
+/// the module settle: once 62 operations are over, and 3 for each such read, the module has come up, unless a reply is late by then. The
+/// clock may go back.
+pub fn a_suited_module_has_come_up_in_time()
+    ensures { SuitedHasComeUpInTime }
+{}
+
+/// Until then it isn't the port that is late: while none is outstanding, it asks for an operation at each moment from that one on, unless
+/// it is to hold still.
+pub fn a_port_asks_until_its_module_has_come_up()
+    ensures { SuitedIsAskedFor }
 {}
