@@ -94,7 +94,7 @@ static void end_explicit(void) {
     ASK(struct dovecounter_explicit_end, found, LIST(31, 33), EXPLICIT_END);
     if (status) return;
     stop_if(found->settings > DOVECOUNTER_EXPLICIT_SETTINGS_NOT_ACTIVE, "settings of an end");
-    stop_if(found->lane > 8 || (found->lane != 0) != (found->settings != 0), "the lane of an end");
+    stop_if(found->lane > 8 || (found->lane != 0 && found->settings == 0), "the lane of an end");
     stop_if(found->fault.code > 10 || (found->fault.code && found->steps), "a failure with steps");
 }
 
