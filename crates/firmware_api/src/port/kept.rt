@@ -174,7 +174,8 @@ fn half_at(job: &Job, reply: &Reply) -> Option<HalfBytes>
 
 // Puts a half in front of those that were read.
 fn put_half(half: Option<HalfBytes>, kept: &mut KeptPort)
-    ensures { (half ≢ None → kept.old.numbers.half_count < 5) → IsInFront half kept.old.numbers.half_count kept.old.halves kept.new.numbers.half_count kept.new.halves }
+    ensures front { (half ≢ None → kept.old.numbers.half_count < 5) → IsInFront half kept.old.numbers.half_count kept.old.halves kept.new.numbers.half_count kept.new.halves }
+    ensures full { 5 ≤ kept.old.numbers.half_count → kept.new ≡ kept.old }
 {
     match half {
         Some(half) if kept.numbers.half_count < 5 => {

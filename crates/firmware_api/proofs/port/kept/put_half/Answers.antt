@@ -7,8 +7,8 @@ use Rattle.firmware_api.proofs.port.kept.put_half.Goals as goal
 is_there : {A : Type 0} (a : A) → Some a ≡ None → ⊥
 is_there a none = cc
 
-pub returns-in-Some : goal.returns-in-Some
-returns-in-Some c room =
+pub returns-in-Some-clause-front : goal.returns-in-Some-clause-front
+returns-in-Some-clause-front c room =
     let old = c.args.kept.now in
     let count = old.numbers.half_count in
     let few = room (λ none. is_there c.in-Some.half (sym c.in-Some.is ∙ none)) in

@@ -22,7 +22,7 @@ returns c = (
       let fits : Fits before count old.halves = record { few = c.requires.fits.0; read = c.requires.fits.1; counted = kept.counted } in
       let by = c.half_by-half.ensures.half in
       let room = room_for before reply c.half_by-half.result count old.halves fits o by c.half_by-half.ensures.room in
-      let front = c.put_half.ensures room in
+      let front = c.put_half.ensures.front room in
       keeps c.put.new.kept later (count_of later number) new.halves
       (fits_after before reply c.half_by-half.result count number old.halves new.halves fits room front o later.stage by c.take_known-led.ensures.reading)
       (c.take_known-led.ensures.known kept.known) c.put.ensures.count c.put.ensures.same c.put.ensures.shown,
