@@ -3,6 +3,12 @@ tests."""
 import sys
 
 
+def is_built(file):
+    """Whether it is a program, which was built beside the scripts and is none of the repository's files."""
+    with open(file, "rb") as it:
+        return it.read(4) == b"\x7fELF"
+
+
 class Holding:
     """Counts for the script of this name, which has to find so much that is so: one that looks at less has lost something unseen."""
 
