@@ -101,6 +101,10 @@ void lend(struct port *port, bool lent);
 void apply(const struct configuration *configuration);
 bool stop_all(int64_t most);
 
+/* pins.c */
+int read_pin(struct port *port, const char *pin);
+void set_pin(struct port *port, const char *pin, bool on);
+
 /* listing.c */
 bool is_pausing(struct port *port, const struct dovecounter_operation *operation);
 uint8_t make_aside(struct port *port, const struct dovecounter_operation *operation, uint8_t bytes[128]);

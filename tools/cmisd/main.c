@@ -81,7 +81,7 @@ static bool take_signal(int file) {
     return signal.ssi_signo == SIGHUP;
 }
 
-/* The watchdog hears of this thread as long as it gets the state, which no thread keeps while it waits for a bus. */
+/* The watchdog hears of this thread as long as it gets the state, which no thread keeps while it waits for a bus or a pin. */
 static void serve_until_stopped(int signals, int server, int most_wait) {
     for (bool goes_on = true; goes_on;) {
         struct pollfd files[2 + MOST_CLIENTS] = {{.fd = signals, .events = POLLIN}, {.fd = server, .events = POLLIN}};

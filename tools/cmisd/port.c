@@ -3,7 +3,6 @@
 
 #include <err.h>
 #include <errno.h>
-#include <fcntl.h>
 #include <limits.h>
 #include <stddef.h>
 #include <stdlib.h>
@@ -65,25 +64,7 @@ static void forget(struct port *port) {
     port->page = -1;
 }
 
-/* ---- the bus and the pins */
-
-/* A name that begins with ! is of a pin that is on if it reads 0. Answers -1 if it can't be read. */
-static int read_pin(const char *name) {
-    char text[16] = "";
-    bool is_low = name[0] == '!';
-    int file = open(name + is_low, O_RDONLY | O_CLOEXEC);
-    bool is_read = file >= 0 && read(file, text, sizeof text - 1) > 0;
-    if (file >= 0) close(file);
-    return is_read ? (strtol(text, NULL, 0) != 0) != is_low : -1;
-}
-
-static void set_pin(const struct port *port, const char *name, bool on) {
-    bool is_low = name[0] == '!';
-    if (name[0] == 0 || !port->entry.manage) return;
-    int file = open(name + is_low, O_WRONLY | O_CLOEXEC);
-    if (file < 0 || write(file, on != is_low ? "1\n" : "0\n", 2) != 2) warn("%s: %s", port->entry.name, name);
-    if (file >= 0) close(file);
-}
+/* ---- the bus */
 
 static void shut(struct port *port) {
     if (port->is_open) close_bus(&port->bus);
@@ -137,13 +118,15 @@ static void take_answer(struct port *port, bool answered, int64_t began) {
 
 /* The next module is to wait in low power until it was read. */
 static void look_at_pin(struct port *port) {
-    int found = read_pin(port->entry.presence);
+    int found = read_pin(port, port->entry.presence);
+    if (port->is_retired) return;
     bool was_there = is_there(port), is_new = !port->is_seen || (found == 1) != was_there;
     if (found < 0 && !port->is_blind) warn("%s: %s", port->entry.name, port->entry.presence);
     port->is_blind = found < 0;
     if (found < 0 || !is_new) return;
     port->is_seen = true;
     if (found == 0) set_pin(port, port->entry.low_power, true);
+    if (port->is_retired) return;
     if (found == 1) must(dovecounter_port_plug(&port->core, (uint64_t)now()));
     if (found == 0) must(dovecounter_port_pull(&port->core));
     if (found == 1 || was_there) take_presence(port, found == 1 ? DOVECOUNTER_PLUGGED : DOVECOUNTER_PULLED);
