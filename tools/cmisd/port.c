@@ -66,6 +66,13 @@ static void forget(struct port *port) {
 
 /* ---- the bus */
 
+/* Whether one that was configured before it still has its bus. */
+static bool has_former(const struct port *port) {
+    for (const struct port *each = ports; each != port; each = each->next)
+        if (each->is_retired && strcmp(each->entry.bus, port->entry.bus) == 0) return true;
+    return false;
+}
+
 static void shut(struct port *port) {
     if (port->is_open) close_bus(&port->bus);
     port->is_open = false;
@@ -224,6 +231,7 @@ static void step(struct port *port) {
     bool still = is_still(port), has_pin = port->entry.presence[0] != 0;
     bool lists = port->listing.is_under_way, ends = port->is_retired || is_stopping;
     bool looks = (has_pin || !still) && port->looks_at <= now();
+    if (has_former(port)) return (void)(port->due = now() + SOON);
     if (still) port->outputs.is_under_way = false;
     if (lists && (ends || !looks)) return go_on_listing(port);
     if (still && !lists) shut(port);
@@ -277,7 +285,7 @@ static void *work(void *context) {
     struct port *port;
     pthread_mutex_lock(&state);
     while ((port = next_due(adapter)) != NULL) {
-        if ((port->is_retired || is_stopping) && !port->listing.is_under_way)
+        if ((port->is_retired || is_stopping) && !port->listing.is_under_way && !has_former(port))
             drop(port);
         else if (port->due > now())
             wait_until(&adapter->woken, port->due < now() + LONGEST ? port->due : now() + LONGEST);
