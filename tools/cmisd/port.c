@@ -377,7 +377,22 @@ void lend(struct port *port, bool lent) {
         wake(port);
 }
 
-static void add(const struct entry *entry) {
+/* People's wishes for the port before, which had the same name, outlast it: that it is held, and if the bus is the same, that this is lent
+   and what was asked of the module, which is there as before. */
+static void take_over(struct port *port, struct port *former) {
+    port->is_held = former->is_held;
+    if (strcmp(port->entry.bus, former->entry.bus) != 0) return;
+    port->is_lent = former->is_lent;
+    port->is_free = former->is_free;
+    former->is_lent = false;
+    if (!is_there(former)) return;
+    port->is_seen = true;
+    must(dovecounter_port_plug(&port->core, (uint64_t)now()));
+    must(dovecounter_port_request(&port->core, former->core.request, former->core.request_lanes));
+}
+
+/* In place of another one, unless that is NULL. */
+static void add(const struct entry *entry, struct port *former) {
     struct port *port = calloc(1, sizeof *port), **link = &ports;
     if (port == NULL) err(EXIT_FAILURE, "%s", entry->name);
     memcpy(&port->entry, entry, sizeof *entry);
@@ -386,6 +401,7 @@ static void add(const struct entry *entry) {
     port->reopens_in = SECOND;
     forget(port);
     dovecounter_port_new(&entry->times, &port->core);
+    if (former != NULL) take_over(port, former);
     must(dovecounter_port_hold(&port->core, is_still(port)));
     while (*link != NULL) link = &(*link)->next;
     *link = port;
@@ -421,15 +437,18 @@ static bool is_same_port(const struct entry *entry, const struct entry *other) {
 }
 
 void apply(const struct configuration *configuration) {
-    for (struct port *each = ports; each != NULL; each = each->next) {
-        const struct entry *entry = each->is_retired ? NULL : entry_of(configuration, each->entry.name);
-        if (entry != NULL && is_same_port(&each->entry, entry))
-            change(each, entry);
-        else if (!each->is_retired)
-            retire(each);
+    for (struct port *each = ports; each != NULL; each = each->next)
+        if (!each->is_retired && entry_of(configuration, each->entry.name) == NULL) retire(each);
+    for (size_t i = 0; i < configuration->count; i++) {
+        const struct entry *entry = &configuration->entries[i];
+        struct port *port = port_of(entry->name);
+        bool is_same = port != NULL && is_same_port(&port->entry, entry);
+        if (port != NULL && !is_same) retire(port);
+        if (is_same)
+            change(port, entry);
+        else
+            add(entry, port);
     }
-    for (size_t i = 0; i < configuration->count; i++)
-        if (port_of(configuration->entries[i].name) == NULL) add(&configuration->entries[i]);
 }
 
 /* Begins no further operation, and waits for those under way, at most for so long. Answers whether all have ended. */
