@@ -17,6 +17,7 @@ static struct client {
     int file; /* 0 if there is none */
     bool listens;
     char borrowed[NAME_SIZE]; /* the port whose bus it has, or "" */
+    char awaited[TEXT_SIZE];  /* the bus of a port that it holds, until that is closed, or "" */
     size_t length;            /* of what has come of a line */
     char line[LINE_SIZE];
 } clients[MOST_CLIENTS];
@@ -51,12 +52,6 @@ static void answer_show(FILE *out, struct port *port, const char *word) {
 static void answer_memory(FILE *out, struct port *port, const char *word) {
     (void)word;
     print_memory(out, port);
-}
-
-static void answer_hold(FILE *out, struct port *port, const char *word) {
-    (void)word;
-    hold(port, true);
-    answer_done(out);
 }
 
 static void answer_release(FILE *out, struct port *port, const char *word) {
@@ -111,17 +106,19 @@ static const struct command {
     const char *name;
     void (*answer)(FILE *out, struct port *port, const char *word);
     int least, most; /* words after the command, of which the first one is a port */
-} commands[] = {{"ports", answer_ports, 0, 0},
-                {"show", answer_show, 1, 1},
-                {"memory", answer_memory, 1, 1},
-                {"reload", answer_reload, 0, 0},
-                {"hold", answer_hold, 1, 1},
-                {"release", answer_release, 1, 1},
-                {"wake", answer_wake, 1, 1},
-                {"sleep", answer_sleep, 1, 2},
-                {"provision", answer_provision, 1, 2},
-                {"deactivate", answer_deactivate, 2, 2},
-                {"acknowledge", answer_acknowledge, 1, 2}};
+} commands[] = {
+    {"ports", answer_ports, 0, 0},           {"show", answer_show, 1, 1},
+    {"memory", answer_memory, 1, 1},         {"reload", answer_reload, 0, 0},
+    {"release", answer_release, 1, 1},       {"wake", answer_wake, 1, 1},
+    {"sleep", answer_sleep, 1, 2},           {"provision", answer_provision, 1, 2},
+    {"deactivate", answer_deactivate, 2, 2}, {"acknowledge", answer_acknowledge, 1, 2},
+};
+
+/* The port of that name, or with that bus. */
+static struct port *named(const char *word) {
+    struct port *port = port_of(word);
+    return port != NULL ? port : port_on(word);
+}
 
 static void answer(FILE *out, char *line) {
     char *words[WORDS + 1] = {NULL}, *rest = line;
@@ -132,8 +129,7 @@ static void answer(FILE *out, char *line) {
         if (strcmp(command->name, words[0]) != 0) continue;
         if (count - 1 < command->least || count - 1 > command->most)
             return answer_error(out, "other words follow that");
-        struct port *port = count > 1 ? port_of(words[1]) : NULL;
-        if (count > 1 && port == NULL) port = port_on(words[1]);
+        struct port *port = count > 1 ? named(words[1]) : NULL;
         if (count > 1 && port == NULL) return answer_error(out, "there is no such port");
         return command->answer(out, port, count > 2 ? words[2] : NULL);
     }
@@ -171,6 +167,27 @@ void send_to_borrower(const struct port *port) {
         if (each->file != 0 && strcmp(each->borrowed, port->entry.name) == 0) send_line(each, line, strlen(line));
 }
 
+/* To those who hold it and wait for that: its bus is closed, or it was released before. */
+void send_to_holders(const struct port *port, bool is_closed) {
+    const char *line =
+        is_closed ? "{\"done\": true}\n" : "{\"error\": \"it was released before its bus was closed\"}\n";
+    for (struct client *each = clients; each < clients + MOST_CLIENTS; each++) {
+        if (strcmp(each->awaited, port->entry.bus) != 0) continue;
+        each->awaited[0] = 0;
+        send_line(each, line, strlen(line));
+    }
+}
+
+/* Holds a port. The answer comes once the bus is closed: until then an operation, or a reading of what the module lists, may be under way. */
+static void hold_for(struct client *client, const char *name, FILE *out) {
+    struct port *port = named(name);
+    if (port == NULL) return answer_error(out, "there is no such port");
+    if (client->awaited[0] != 0) return answer_error(out, "the bus of another one isn't closed yet");
+    hold(port, true);
+    if (!uses_bus(port)) return answer_done(out);
+    snprintf(client->awaited, TEXT_SIZE, "%s", port->entry.bus);
+}
+
 /* Lends the port of a bus to a client until that is gone. The answer comes once the bus is free. */
 static void lend_to(struct client *client, const char *bus, FILE *out) {
     struct port *port = port_on(bus);
@@ -192,6 +209,8 @@ static void answer_client(struct client *client, char *line) {
         answer_done(out);
     else if (strncmp(line, "lend ", 5) == 0)
         lend_to(client, line + 5, out);
+    else if (strncmp(line, "hold ", 5) == 0)
+        hold_for(client, line + 5, out);
     else
         answer(out, line);
     if (fclose(out) == 0 && length > 0) send_line(client, text, length);

@@ -73,11 +73,15 @@ static bool has_former(const struct port *port) {
     return false;
 }
 
+/* Whether its bus isn't closed, perhaps by the former port. */
+bool uses_bus(const struct port *port) { return port->is_open || has_former(port); }
+
 static void shut(struct port *port) {
     if (port->is_open) close_bus(&port->bus);
     port->is_open = false;
     if (port->is_lent && !port->is_free) send_to_borrower(port);
     port->is_free = port->is_lent;
+    send_to_holders(port, true);
 }
 
 /* Opens the bus anew, or waits longer and longer. */
@@ -360,9 +364,11 @@ static void hold_or_release(struct port *port) {
     wake(port);
 }
 
+/* Who waits for it to be held hears of it once the bus is closed. */
 void hold(struct port *port, bool held) {
     bool was_still = is_still(port);
     port->is_held = held;
+    if (!held) send_to_holders(port, false);
     if (is_still(port) != was_still) hold_or_release(port);
 }
 
