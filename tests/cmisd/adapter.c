@@ -23,9 +23,10 @@ struct adapter {
     /* what the test asks for */
     uint32_t present, refuse, late, blocks, serial, resets, pin, raises, smbus, rejects, identifier;
     uint32_t wanted[8], has_firmware;
-    uint32_t lists; /* it has pages 20h to 2Fh; so many milliseconds and one pass until they are frozen */
-    uint32_t dark;  /* its lanes aren't shown as DPActivated but as DPInitialized */
-    uint32_t unused[10];
+    uint32_t lists;   /* it has pages 20h to 2Fh; so many milliseconds and one pass until they are frozen */
+    uint32_t dark;    /* its lanes aren't shown as DPActivated but as DPInitialized */
+    uint32_t outputs; /* byte 138 of page 10h (OutputDisableRx), if it isn't 0 */
+    uint32_t unused[9];
     /* what became of it */
     uint32_t transactions, refused, stores, needless, dropped, unread, state, deinit;
     uint32_t paths[8], active[8];
@@ -191,6 +192,13 @@ static void darken(const struct i2c_msg *states) {
     }
 }
 
+/* The simulated module keeps none. */
+static void show_outputs(const struct adapter *it, const struct i2c_rdwr_ioctl_data *data) {
+    uint8_t offset = data->msgs[0].buf[0];
+    bool is_fetched = data->nmsgs == 2 && offset <= 138 && offset + data->msgs[1].len > 138;
+    if (is_fetched && it->simulated.module.page == 0x10) data->msgs[1].buf[138 - offset] = (uint8_t)it->outputs;
+}
+
 static bool transact(struct adapter *it, const struct i2c_rdwr_ioctl_data *data) {
     bool was_up[8];
     if (it->random == 0) it->random = 88172645463325252U + (uint64_t)now() * 1000003;
@@ -205,6 +213,7 @@ static bool transact(struct adapter *it, const struct i2c_rdwr_ioctl_data *data)
         data->msgs[1].buf[0] = (uint8_t)it->identifier;
     if (it->rejects && data->nmsgs == 2 && data->msgs[0].buf[0] == 202 && it->simulated.module.page == 0x11)
         memset(data->msgs[1].buf, 0x22, data->msgs[1].len); /* ConfigRejected */
+    if (it->outputs && is_answered) show_outputs(it, data);
     if (it->dark && data->nmsgs == 2 && data->msgs[0].buf[0] == 128 && it->simulated.module.page == 0x11)
         darken(&data->msgs[1]);
     if (is_answered && data->nmsgs == 2) judge_fetch(it, data->msgs[0].buf[0], data->msgs[1].buf, data->msgs[1].len);

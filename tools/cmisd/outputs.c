@@ -1,5 +1,5 @@
 /* Which outputs are disabled (page 10h), since lanes with such outputs don't come up: read after each reading of a module, and after lanes
-   have not come up, once the library does nothing at the module before another moment. Only pages are selected for that, so it may end
+   came up or did not, once the library does nothing at the module before another moment. Only pages are selected for that, so it may end
    anywhere. */
 #include "cmisd.h"
 

@@ -189,9 +189,10 @@ static void remember(struct port *port, const struct dovecounter_port_next *next
     if (next->whole) port->read_at = now();
 }
 
-/* A module with lanes was read, or its lanes did not come up. */
+/* A module with lanes was read, perhaps as up already, or its lanes came up or did not. */
 static bool may_have_other_outputs(const struct port *port, const struct dovecounter_port_outcome *led_to) {
-    bool is_read = led_to->kind == DOVECOUNTER_PORT_LEAVES || led_to->note == DOVECOUNTER_PORT_IDENTIFIED;
+    bool is_read = led_to->kind == DOVECOUNTER_PORT_LEAVES || led_to->note == DOVECOUNTER_PORT_IDENTIFIED ||
+                   led_to->note == DOVECOUNTER_PORT_CAME_UP;
     bool is_down = led_to->kind == DOVECOUNTER_PORT_FAILED && led_to->failure == DOVECOUNTER_PORT_NOT_ACTIVATED;
     return is_down || (is_read && half_of(port, 1, LANES_PAGE) != NULL);
 }
