@@ -60,6 +60,14 @@ void forget_module(struct port *port) {
     memset(&port->outputs, 0, sizeof port->outputs);
 }
 
+/* What it lists isn't known until it is read again. */
+void list_anew(struct port *port) {
+    struct listing *it = &port->listing;
+    port->has_new_image = port->has_new_image || it->read_count > 0;
+    it->read_count = 0;
+    it->due = 0;
+}
+
 /* Whether a reading may begin now: the library does nothing at the module before another moment, and no conversation is under way. */
 static bool may_begin(const struct port *port, const struct dovecounter_port_next *next) {
     uint8_t reason = port->core.left.reason;

@@ -64,6 +64,14 @@ static void forget(struct port *port) {
     port->page = -1;
 }
 
+/* Others have had its bus, unless a reading is under way, and may have changed or exchanged the module. What comes of that is told if it is
+   new. */
+static void doubt(struct port *port) {
+    forget(port);
+    if (!port->listing.is_under_way) list_anew(port);
+    port->outputs.is_known = false;
+}
+
 /* ---- the bus */
 
 /* Whether one that was configured before it still has its bus. */
@@ -358,7 +366,7 @@ void request(struct port *port, uint8_t what, uint8_t lanes) {
 }
 
 static void hold_or_release(struct port *port) {
-    forget(port);
+    doubt(port);
     must(dovecounter_port_hold(&port->core, is_still(port)));
     port->looks_at = now();
     tell(port, is_still(port) ? "held" : "released", "");
