@@ -56,6 +56,7 @@ struct port {
     bool is_open, is_held, is_retired; /* is_retired: no longer configured */
     bool is_lent, is_free;             /* a client has its bus until it is gone; it knows that */
     bool is_blind, is_seen;            /* its pin can't be read; it was read before */
+    bool is_lost;                      /* since its bus was opened another file got that name */
     int64_t due, looks_at; /* when something is to be done next, and when to look whether a module is there */
     int64_t reopens_in;    /* how long to wait if the bus can't be opened */
 

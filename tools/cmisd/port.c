@@ -69,7 +69,7 @@ static void forget(struct port *port) {
 static void doubt(struct port *port) {
     forget(port);
     if (!port->listing.is_under_way) list_anew(port);
-    port->outputs.is_known = false;
+    port->outputs.is_known = port->outputs.is_under_way = false;
 }
 
 /* ---- the bus */
@@ -86,7 +86,7 @@ bool uses_bus(const struct port *port) { return port->is_open || has_former(port
 
 static void shut(struct port *port) {
     if (port->is_open) close_bus(&port->bus);
-    port->is_open = false;
+    port->is_open = port->is_lost = false;
     if (port->is_lent && !port->is_free) send_to_borrower(port);
     port->is_free = port->is_lent;
     send_to_holders(port, true);
@@ -102,6 +102,14 @@ static void reopen(struct port *port) {
     port->reopens_in = port->is_open ? SECOND : port->reopens_in < LONGEST ? 2 * port->reopens_in : LONGEST;
 }
 
+/* Whether the driver optoe has made its file anew: it answers nothing by the one that is open. */
+static bool has_other_file(const struct port *port) {
+    struct stat opened, named;
+    bool is_known = port->bus.carry == transact_in_a_row && fstat(port->bus.file, &opened) == 0;
+    if (!is_known || stat(port->entry.bus, &named) != 0) return false;
+    return opened.st_ino != named.st_ino || opened.st_dev != named.st_dev;
+}
+
 /* Makes an operation, while others use the state. Answers when it began. */
 int64_t make(struct port *port, const struct dovecounter_operation *operation, uint8_t bytes[128], bool *answered) {
     int64_t began = port->began = now();
@@ -111,6 +119,7 @@ int64_t make(struct port *port, const struct dovecounter_operation *operation, u
     port->began = 0;
     port->operations++;
     port->nacks += !*answered;
+    port->is_lost = port->is_lost || (!*answered && has_other_file(port));
     port->due = now();
     return began;
 }
@@ -237,6 +246,13 @@ static void read_again(struct port *port) {
     must(dovecounter_port_reconsider(&port->core));
 }
 
+/* Whoever has made the file of its bus anew may have exchanged the module too, which is read and judged anew. */
+static void leave_lost(struct port *port) {
+    shut(port);
+    doubt(port);
+    must(dovecounter_port_reconsider(&port->core));
+}
+
 /* One operation, one look, or none, and when the next is due. What a module lists is read to the end even if the port is to be still, or to
    go, so that its statistics aren't left frozen. */
 static void step(struct port *port) {
@@ -245,8 +261,8 @@ static void step(struct port *port) {
     bool lists = port->listing.is_under_way, ends = port->is_retired || is_stopping;
     bool looks = (has_pin || !still) && port->looks_at <= now();
     if (has_former(port)) return (void)(port->due = now() + SOON);
-    if (still) port->outputs.is_under_way = false;
     if (lists && (ends || !looks)) return go_on_listing(port);
+    if (port->is_lost && !lists) leave_lost(port);
     if (still && !lists) shut(port);
     if (!still && !port->is_open) return reopen(port);
     if (port->outputs.is_under_way && !looks) return go_on_with_outputs(port);
