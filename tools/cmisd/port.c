@@ -136,7 +136,12 @@ static void take_presence(struct port *port, uint8_t presence) {
     if (!is_plugged) shut(port);
 }
 
-/* Without a pin, the library says by each transaction whether a module is there. */
+/* Whether it reached the module: a selection in a file of optoe didn't. */
+static bool is_of_module(const struct port *port, const struct dovecounter_operation *operation) {
+    return port->bus.carry != transact_in_a_row || !is_selection(operation);
+}
+
+/* Without a pin, the library says by each transaction with the module whether that is there. */
 static void take_answer(struct port *port, bool answered, int64_t began) {
     uint8_t presence;
     if (port->entry.presence[0] != 0) return;
@@ -229,6 +234,7 @@ static void carry_out(struct port *port, const struct dovecounter_port_next *nex
     tell_flags(port);
     hear(port, &led_to);
     if (led_to.kind == DOVECOUNTER_PORT_FAILED) forget(port);
+    if (!is_of_module(port, &next->operation)) return;
     if (answered && port->entry.presence[0] == 0) port->looks_at = now() + SECOND;
     take_answer(port, answered, began);
 }
