@@ -14,6 +14,7 @@
 #include <sys/ioctl.h>
 #include <sys/mman.h>
 #include <sys/stat.h>
+#include <time.h>
 #include <unistd.h>
 
 enum { SIZE = 1 << 18, READY = 3, ACTIVATED = 4, INITIALIZED = 7, MOST_TICKS = 2000 };
@@ -278,6 +279,22 @@ int __wrap_open(const char *name, int flags, ...) {
     va_end(arguments);
     if (is_adapter) snprintf(path, sizeof path, "%s/%s", adapters, name + strlen("/dev/"));
     return __real_open(is_adapter ? path : name, flags, mode);
+}
+
+/* The clock that can be set is ahead by the seconds that the file `clock` in that folder has, if there is one. */
+int __real_clock_gettime(clockid_t clock, struct timespec *time);
+int __wrap_clock_gettime(clockid_t clock, struct timespec *time);
+
+int __wrap_clock_gettime(clockid_t clock, struct timespec *time) {
+    char path[400], text[24] = "";
+    int answered = __real_clock_gettime(clock, time);
+    if (clock != CLOCK_REALTIME || getenv("ADAPTERS") == NULL) return answered;
+    snprintf(path, sizeof path, "%s/clock", getenv("ADAPTERS"));
+    int file = __real_open(path, O_RDONLY | O_CLOEXEC);
+    if (file < 0) return answered;
+    if (read(file, text, sizeof text - 1) > 0) time->tv_sec += strtol(text, NULL, 10);
+    close(file);
+    return answered;
 }
 
 char *__real_realpath(const char *name, char *path);

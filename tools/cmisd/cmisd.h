@@ -135,6 +135,7 @@ struct raised {
 };
 extern const char *const requests[4];
 void print_text(FILE *out, const char *before, const char *name, const char *text);
+int64_t clock_offset(void);
 void print_seconds(FILE *out, int64_t moment);
 void print_moment(FILE *out, const char *before, const char *name, int64_t moment);
 void print_lane_list(FILE *out, const char *name, uint8_t lanes);
@@ -150,6 +151,7 @@ extern const char *folder;
 void print_image_of(FILE *out, const struct port *port, const char *end);
 void put_image(struct port *port);
 void put_status(struct port *port);
+void follow_clock(void);
 void remove_file(const char *port, const char *ending);
 void remove_old_files(void);
 

@@ -112,6 +112,19 @@ void put_status(struct port *port) {
     if (port->has_new_counts) port->has_new_counts = !put_file(port, "prom", print_metrics);
 }
 
+/* Writes files anew once the clock was set by a second or more, since the times in them are wrong. */
+void follow_clock(void) {
+    static int64_t was;
+    int64_t is = clock_offset();
+    if (is - was < 1000 && was - is < 1000) return;
+    was = is;
+    for (struct port *each = ports; each != NULL; each = each->next) {
+        if (each->is_retired) continue;
+        each->has_new_counts = true;
+        put_status(each);
+    }
+}
+
 void remove_file(const char *port, const char *ending) {
     char name[WORDS_SIZE];
     snprintf(name, sizeof name, "%s/%s.%s", folder, port, ending);

@@ -15,7 +15,7 @@
 #include <systemd/sd-daemon.h>
 #include <unistd.h>
 
-enum { STOPS_WITHIN = 2000 }; /* milliseconds */
+enum { STOPS_WITHIN = 2000, MOST_WAIT = 5000 }; /* milliseconds */
 
 static const char usage[] =
     "usage: cmisd [--config FILE] [--folder FOLDER] [--check | COMMAND..]\n"
@@ -87,6 +87,7 @@ static void serve_until_stopped(int signals, int server, int most_wait) {
         struct pollfd files[2 + MOST_CLIENTS] = {{.fd = signals, .events = POLLIN}, {.fd = server, .events = POLLIN}};
         pthread_mutex_lock(&state);
         size_t count = 2 + list_clients(files + 2);
+        follow_clock();
         pthread_mutex_unlock(&state);
         sd_notify(0, "WATCHDOG=1");
         if (poll(files, count, most_wait) <= 0) continue;
@@ -114,7 +115,7 @@ static int run(void) {
     pthread_mutex_unlock(&state);
     sd_watchdog_enabled(0, &watchdog);
     sd_notify(0, "READY=1");
-    serve_until_stopped(signals, server, watchdog > 0 ? (int)(watchdog / 2000) : -1);
+    serve_until_stopped(signals, server, watchdog > 0 ? (int)(watchdog / 2000) : MOST_WAIT);
     sd_notify(0, "STOPPING=1");
     pthread_mutex_lock(&state);
     bool has_ended = stop_all(STOPS_WITHIN);

@@ -47,11 +47,16 @@ static void print_flag(FILE *out, const char *before, const char *name, bool fla
     fputs(flag ? "true" : "false", out);
 }
 
-/* In seconds since 1970, of a moment of now(). */
-void print_seconds(FILE *out, int64_t moment) {
+/* The milliseconds from 1970 to the beginning of now(), by the clock as it is set. */
+int64_t clock_offset(void) {
     struct timespec time;
     clock_gettime(CLOCK_REALTIME, &time);
-    int64_t real = (int64_t)time.tv_sec * 1000 + time.tv_nsec / 1000000 - now() + moment;
+    return (int64_t)time.tv_sec * 1000 + time.tv_nsec / 1000000 - now();
+}
+
+/* In seconds since 1970, of a moment of now(). */
+void print_seconds(FILE *out, int64_t moment) {
+    int64_t real = clock_offset() + moment;
     print_digits(out, (uint64_t)real / 1000);
     fputs(real % 1000 < 10 ? ".00" : real % 1000 < 100 ? ".0" : ".", out);
     print_digits(out, (uint64_t)real % 1000);
