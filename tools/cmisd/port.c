@@ -463,8 +463,8 @@ static void change(struct port *port, const struct entry *entry) {
     bool is_wanted_otherwise = memcmp(&port->entry.wanted, &entry->wanted, sizeof entry->wanted) != 0;
     bool was_still = is_still(port);
     memcpy(&port->entry, entry, sizeof *entry);
-    if (is_wanted_otherwise) tell(port, "changed", "");
     if (is_wanted_otherwise) ask_again(port);
+    if (is_wanted_otherwise) tell(port, "changed", "");
     if (is_still(port) != was_still) hold_or_release(port);
 }
 
