@@ -57,8 +57,8 @@ struct port {
     bool is_lent, is_free;             /* a client has its bus until it is gone; it knows that */
     bool is_blind, is_seen;            /* its pin can't be read; it was read before */
     bool is_lost;                      /* since its bus was opened another file got that name */
-    int64_t due, looks_at; /* when something is to be done next, and when to look whether a module is there */
-    int64_t reopens_in;    /* how long to wait if the bus can't be opened */
+    int64_t due, looks_at;          /* when something is to be done next, and when to look whether a module is there */
+    int64_t reopens_in, reopens_at; /* how long to wait if the bus can't be opened, and until when */
 
     int64_t began;              /* when the transaction under way began, or 0 */
     unsigned operations, nacks; /* all transactions; all refused */

@@ -98,7 +98,8 @@ static void reopen(struct port *port) {
     port->is_open = open_bus(&port->bus);
     if (port->is_open) set_pin(port, port->entry.reset, false);
     if (!port->is_open) close_bus(&port->bus);
-    port->due = now() + (port->is_open ? 0 : port->reopens_in);
+    port->due = now();
+    port->reopens_at = port->is_open ? 0 : now() + port->reopens_in;
     port->reopens_in = port->is_open ? SECOND : port->reopens_in < LONGEST ? 2 * port->reopens_in : LONGEST;
 }
 
@@ -259,6 +260,14 @@ static void leave_lost(struct port *port) {
     must(dovecounter_port_reconsider(&port->core));
 }
 
+/* Until its bus can be opened a port only looks at its pin, if it has one. */
+static void wait_for_bus(struct port *port) {
+    bool has_pin = port->entry.presence[0] != 0;
+    if (port->reopens_at <= now()) return reopen(port);
+    if (has_pin && port->looks_at <= now()) return look(port);
+    port->due = has_pin && port->looks_at < port->reopens_at ? port->looks_at : port->reopens_at;
+}
+
 /* One operation, one look, or none, and when the next is due. What a module lists is read to the end even if the port is to be still, or to
    go, so that its statistics aren't left frozen. */
 static void step(struct port *port) {
@@ -270,7 +279,7 @@ static void step(struct port *port) {
     if (lists && (ends || !looks)) return go_on_listing(port);
     if (port->is_lost && !lists) leave_lost(port);
     if (still && !lists) shut(port);
-    if (!still && !port->is_open) return reopen(port);
+    if (!still && !port->is_open) return wait_for_bus(port);
     if (port->outputs.is_under_way && !looks) return go_on_with_outputs(port);
     if (looks && (has_pin || lists || port->outputs.is_under_way)) return look(port);
     if (!still && !lists && is_to_be_read_again(port)) read_again(port);
@@ -371,6 +380,7 @@ static struct adapter *adapter_for(const char *bus) {
 
 static void wake(struct port *port) {
     if (port->due > now()) port->due = now();
+    port->reopens_at = 0;
     pthread_cond_signal(&port->adapter->woken);
 }
 
