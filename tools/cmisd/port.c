@@ -468,11 +468,19 @@ static void retire(struct port *port) {
     pthread_cond_signal(&port->adapter->woken);
 }
 
+/* At the new interval, which begins now; without one the image has nothing of that. */
+static void list_otherwise(struct port *port) {
+    list_anew(port);
+    if (port->half_count > 0 && port->core.stage != DOVECOUNTER_PORT_READING) put_image(port);
+    wake(port);
+}
+
 /* A port whose entry and weights are the same is not touched. */
 static void change(struct port *port, const struct entry *entry) {
     bool is_wanted_otherwise = memcmp(&port->entry.wanted, &entry->wanted, sizeof entry->wanted) != 0;
-    bool was_still = is_still(port);
+    bool was_still = is_still(port), lists_otherwise = port->entry.vdm != entry->vdm;
     memcpy(&port->entry, entry, sizeof *entry);
+    if (lists_otherwise) list_otherwise(port);
     if (is_wanted_otherwise) ask_again(port);
     if (is_wanted_otherwise) tell(port, "changed", "");
     if (is_still(port) != was_still) hold_or_release(port);
