@@ -2,6 +2,7 @@
 from __future__ import annotations
 
 import asyncio
+import contextlib
 import copy
 import time
 from ctypes import byref
@@ -178,13 +179,18 @@ class Procedure:
 
     def run(self, transact: Transact, pause: Callable[[float], object] = time.sleep) -> None:
         """Makes all operations by `transact`, and lets so many seconds pass by `pause` for each Wait.
-        If one of them raises, that step isn't told of: call this again to go on there."""
+        If `transact` raises or returns no reply to the operation, that counts as refused, since it
+        may have been made. Call this again to go on."""
         for step in self:
             if isinstance(step, Wait):
                 pause(step.seconds)
                 self.waited()
-            else:
+                continue
+            try:
                 self.reply(transact(step))
+            except BaseException:
+                self._refuse()
+                raise
 
     async def run_async(
         self,
@@ -192,13 +198,22 @@ class Procedure:
         pause: Callable[[float], Awaitable[object]] = asyncio.sleep,
     ) -> None:
         """As `run`, by coroutines, so that one thread may serve many modules. If the task is
-        cancelled, the step in hand isn't told of either."""
+        cancelled, the operation in hand counts as refused too."""
         for step in self:
             if isinstance(step, Wait):
                 await pause(step.seconds)
                 self.waited()
-            else:
+                continue
+            try:
                 self.reply(await transact(step))
+            except BaseException:
+                self._refuse()
+                raise
+
+    def _refuse(self) -> None:
+        """Tells that the operation was refused, unless its reply was told already."""
+        with contextlib.suppress(ValueError):
+            self.reply(False)
 
     def _has_ended(self) -> None:
         ending = library.Ending()

@@ -7,7 +7,17 @@ from typing import List
 import pytest
 
 from shared import WEIGHTS, example
-from dovecounter import Activation, Operation, Provisioning, Reading, Reply, SimulatedModule, plan
+from dovecounter import (
+    Activation,
+    Operation,
+    Provisioning,
+    Reading,
+    Reply,
+    SimulatedModule,
+    Wait,
+    plan,
+)
+from dovecounter.pytest_plugin import RefusingBus
 
 DR4 = example("qsfp_dd_400g_dr4.txt")
 BEST = plan(DR4, WEIGHTS)
@@ -56,7 +66,7 @@ def test_a_reading_is_the_same_by_coroutines() -> None:
     assert by_coroutines.image == by_steps.image
 
 
-def test_a_cancelled_task_has_told_nothing_of_its_step() -> None:
+def test_an_operation_of_a_cancelled_task_counts_as_refused() -> None:
     port, procedure, held = Port("one", []), Provisioning(BEST), asyncio.Event
 
     async def stuck(operation: Operation) -> Reply:
@@ -73,13 +83,14 @@ def test_a_cancelled_task_has_told_nothing_of_its_step() -> None:
         task.cancel()
         with pytest.raises(asyncio.CancelledError):
             await task
+        assert isinstance(next(procedure), Wait)
         await procedure.run_async(port.transact, port.pause)
 
     asyncio.run(cancelled())
-    undisturbed, other = Port("other", []), Provisioning(BEST)
-    asyncio.run(other.run_async(undisturbed.transact, undisturbed.pause))
-    assert port.module.active == undisturbed.module.active == BEST.control
-    assert (procedure.steps, len(port.said)) == (other.steps, len(undisturbed.said))
+    bus, other = RefusingBus(SimulatedModule(DR4), {6}), Provisioning(BEST)
+    other.run(bus, lambda _: bus.module.tick())
+    assert port.module.active == bus.module.active == BEST.control
+    assert (procedure.steps, len(port.said) + 1) == (other.steps, len(bus.operations))
 
 
 def test_what_a_bus_raises_reaches_the_caller() -> None:
@@ -90,4 +101,5 @@ def test_what_a_bus_raises_reaches_the_caller() -> None:
 
     with pytest.raises(OSError):
         asyncio.run(procedure.run_async(broken))
-    assert repr(procedure).endswith("after 0 operations>")
+    assert repr(procedure).endswith("after 1 operations>")
+    assert isinstance(next(procedure), Wait)

@@ -1,6 +1,7 @@
 """Updates of firmware, and what banks hold, on a module with two banks that answers at once."""
 from __future__ import annotations
 
+import contextlib
 import copy
 from typing import Dict, List
 
@@ -167,6 +168,31 @@ def test_a_silent_module_is_given_up() -> None:
     with pytest.raises(FirmwareFault) as fault:
         update.run(lambda operation: False, lambda seconds: None)
     assert str(fault.value) == "gave up, untouched"
+
+
+@pytest.mark.parametrize(
+    "number, known",
+    [
+        (0x101, FirmwareKnown.ABORTED),
+        (0x107, FirmwareKnown.ABORTED),
+        (0x109, FirmwareKnown.COMMITTED),
+        (0x10A, FirmwareKnown.COMMITTED),
+    ],
+)
+def test_a_command_that_was_interrupted_is_sent_once(number: int, known: FirmwareKnown) -> None:
+    module, update = TwoBanks(), FirmwareUpdate(FILE)
+
+    def interrupted(operation: Operation) -> Reply:
+        before = len(module.sent)
+        reply = module.transact(operation)
+        if module.sent[before:] == [number]:
+            raise KeyboardInterrupt
+        return reply
+
+    pytest.raises(KeyboardInterrupt, update.run, interrupted, lambda seconds: None)
+    with contextlib.suppress(FirmwareFault):
+        update.run(module.transact, lambda seconds: None)
+    assert module.sent.count(number) == 1 and update.known is known
 
 
 def test_steps_are_told_once() -> None:

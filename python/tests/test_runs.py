@@ -314,29 +314,31 @@ def test_a_module_s_patience_outlasts_its_states() -> None:
     assert fault_of(DR4.without(page(0x01)).patience) == "AD4 upper A0 00 01"
 
 
-def test_a_run_that_was_interrupted_goes_on() -> None:
-    module, best = SimulatedModule(DR4, Delays(init=9)), plan(DR4, WEIGHTS)
-    undisturbed = module.copy()
+@pytest.mark.parametrize("cut", [0, 1, 8])
+def test_a_run_that_was_interrupted_goes_on(cut: int) -> None:
+    best, refused = plan(DR4, WEIGHTS), (2, 3, 9, 14)
+    modules = [SimulatedModule(DR4, Delays(init=9)) for _ in range(2)]
     for procedure, other in (
         (Reading(), Reading()),
         (Provisioning(best), Provisioning(best)),
         (Activation(best), Activation(best)),
     ):
-        interrupted: List[object] = []
-
-        def once(step: object) -> None:
-            """Interrupts each second call."""
-            interrupted.append(step)
-            if len(interrupted) % 2:
-                raise KeyboardInterrupt
+        bus, refusing = (RefusingBus(module, refused, cut) for module in modules)
+        pauses: List[float] = []
 
         def transact(operation: Operation) -> Reply:
-            once(operation)
-            return module.transact(operation)
+            """Interrupts what is refused."""
+            reply = bus(operation)
+            if len(bus.operations) in refused:
+                raise KeyboardInterrupt
+            return reply
 
         def pause(seconds: float) -> None:
-            once(seconds)
-            module.tick()
+            """Interrupts each first call."""
+            pauses.append(seconds)
+            if len(pauses) % 2:
+                raise KeyboardInterrupt
+            bus.module.tick()
 
         while True:
             try:
@@ -344,10 +346,40 @@ def test_a_run_that_was_interrupted_goes_on() -> None:
                 break
             except KeyboardInterrupt:
                 continue
-        other.run(undisturbed.transact, lambda _: undisturbed.tick())
-        assert interrupted[::2] == interrupted[1::2]
-        assert repr(procedure) == repr(other)
-    assert module.__getstate__() == undisturbed.__getstate__()
+        other.run(refusing, lambda _: refusing.module.tick())
+        assert bus.operations == refusing.operations and repr(procedure) == repr(other)
+        assert pauses[::2] == pauses[1::2] and len(pauses) > 0
+    assert modules[0].__getstate__() == modules[1].__getstate__()
+    assert modules[0].active == best.control
+
+
+def test_a_store_that_may_have_been_made_is_not_repeated_at_once() -> None:
+    module, provisioning = SimulatedModule(DR4), Provisioning(plan(DR4, WEIGHTS))
+    made: List[Operation] = []
+
+    def transact(operation: Operation) -> Reply:
+        made.append(operation)
+        return module.transact(operation)
+
+    def interrupted(operation: Operation) -> Reply:
+        reply = transact(operation)
+        if operation.is_store and operation.offset >= 128:
+            raise KeyboardInterrupt
+        return reply
+
+    pytest.raises(KeyboardInterrupt, provisioning.run, interrupted)
+    store = made.pop()
+    assert isinstance(next(provisioning), Wait)
+    made.clear()
+    provisioning.run(transact, lambda _: module.tick())
+    assert made.index(Operation(0xA0, 126, 2, b"\x00\x10")) < made.index(store)
+
+
+def test_a_wrong_reply_to_a_run_counts_as_refused() -> None:
+    for wrong, error in ((b"", ValueError), (True, ValueError), (None, TypeError)):
+        provisioning = Provisioning(plan(DR4, WEIGHTS))
+        pytest.raises(error, provisioning.run, lambda _: wrong)
+        assert next(provisioning) == Wait(100) and "after 1 operations>" in repr(provisioning)
 
 
 def test_a_copy_of_a_reading_has_what_was_read() -> None:
