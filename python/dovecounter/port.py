@@ -2,6 +2,7 @@
 from __future__ import annotations
 
 import asyncio
+import contextlib
 import copy
 import time
 from ctypes import byref, c_uint8
@@ -302,18 +303,20 @@ class Port:
     ) -> AsyncIterator[PortOutcome]:
         """Makes all operations by `transact`, and yields what each led to, until nothing is to be
         done: no module is there, or it is left alone or held. Meanwhile other tasks may call the
-        port. If `transact` raises or its task is cancelled, the operation counts as refused, and
-        you may run the port again."""
+        port. If `transact` raises or returns no reply to the operation, or its task is cancelled,
+        that counts as refused, and you may run the port again."""
+        _numbers_of(wanted)  # raises before there is an operation
         while not isinstance(step := self.next(clock()), Idle):
             if isinstance(step, Until):
                 await pause(min(step.moment - clock(), _LONGEST_PAUSE) / 1000)
                 continue
             try:
-                reply = await transact(step)
+                outcome = self.take(await transact(step), wanted, clock())
             except BaseException:
-                self.take(False, wanted, clock())
+                with contextlib.suppress(ValueError):  # if its reply was taken already
+                    self.take(False, wanted, clock())
                 raise
-            yield self.take(reply, wanted, clock())
+            yield outcome
 
     @property
     def stage(self) -> Stage:

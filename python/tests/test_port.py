@@ -3,7 +3,7 @@ from __future__ import annotations
 
 import asyncio
 import json
-from typing import Callable, List, Optional
+from typing import Any, Callable, List, Optional, Type
 
 import pytest
 
@@ -276,6 +276,43 @@ def test_an_operation_of_a_cancelled_task_counts_as_refused() -> None:
 
     asyncio.run(cancelled())
     assert machine.port.stage is Stage.WATCHING
+
+
+class Wrong(Served):
+    wrong: Any = None
+
+    async def transact(self, operation: Operation) -> Reply:
+        reply = await super().transact(operation)
+        return self.wrong if self.made == 6 else reply
+
+
+@pytest.mark.parametrize(
+    "wrong, error", [(b"", ValueError), (bytes(7), ValueError), (None, TypeError)]
+)
+def test_a_wrong_reply_counts_as_refused(wrong: object, error: Type[Exception]) -> None:
+    machine = Wrong(SimulatedModule(DR4))
+    machine.wrong = wrong
+    machine.port.plug(0)
+    with pytest.raises(error):
+        asyncio.run(machine.notes(Note.CAME_UP))
+    assert machine.made == 6 and isinstance(machine.port.next(machine.now), Until)
+    assert asyncio.run(machine.notes(Note.CAME_UP))[-1] is Note.CAME_UP
+
+
+def test_what_is_wanted_is_looked_at_before_an_operation() -> None:
+    machine = Served(SimulatedModule(DR4))
+    machine.port.plug(0)
+
+    async def run(wanted: Any) -> None:
+        async for _ in machine.port.run_async(
+            machine.transact, wanted, lambda: machine.now, machine.pause
+        ):
+            raise AssertionError("something was made")
+
+    for wanted, error in (({0x11: 400}, TypeError), (Wanted({0x11: -1}), ValueError)):
+        with pytest.raises(error):
+            asyncio.run(run(wanted))
+    assert machine.made == 0 and machine.port.next(machine.now + 20) is not Idle.NO_REPLY
 
 
 def test_a_module_is_put_to_sleep_and_woken_up_again() -> None:
