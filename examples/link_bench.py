@@ -94,7 +94,12 @@ def measure(transact, pause, pattern):
         loopback=Loopback.MEDIA_SIDE_OUTPUT,
         rounds=2,
     )
-    test.run(transact, pause=pause)  # a LinkFault if anything is wrong, or stays on
+    try:
+        test.run(transact, pause=pause)  # a LinkFault if anything is wrong, or stays on
+    except KeyboardInterrupt:
+        test.stop()  # switches off what is on, which the next test would take for the module's own
+        test.run(transact, pause=pause)
+        raise
     return [float(lane.ratio) for lane in test.results().media]
 
 

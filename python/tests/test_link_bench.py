@@ -13,7 +13,7 @@ from typing import Any, List, Optional, Tuple
 
 import pytest
 
-from dovecounter import Operation
+from dovecounter import Operation, Pattern, Reply
 
 EXAMPLE = pathlib.Path(__file__).resolve().parents[2] / "examples/link_bench.py"
 WANTED = """\
@@ -54,6 +54,36 @@ def test_it_prints_and_draws_each_lane(
             190, abs=0.11
         )
     assert float(bars[0].get("height", "")) == pytest.approx(20 * (9 - 5.523), abs=0.05)
+
+
+def test_whenever_it_is_interrupted_it_switches_all_off() -> None:
+    bench = runpy.run_path(str(EXAMPLE))
+
+    def measured(interrupted: int) -> Tuple[bytes, List[bytes]]:
+        """Page 13h at the end of a measurement, and after each of its steps before."""
+        links, seen = bench["SimulatedLinks"](), list[bytes]()
+
+        def stepped(_: float = 0) -> None:
+            seen.append(bytes(links.pages[0x13]))
+            if len(seen) == interrupted:
+                raise KeyboardInterrupt
+
+        def transact(operation: Operation) -> Reply:
+            reply: Reply = links.transact(operation)
+            stepped()
+            return reply
+
+        try:
+            bench["measure"](transact, stepped, Pattern.PRBS31Q)
+            assert not interrupted
+        except KeyboardInterrupt:
+            assert interrupted
+        return bytes(links.pages[0x13]), seen
+
+    off, steps = measured(0)
+    assert steps[0] == off and len({*steps}) > 3
+    for number in range(1, len(steps) + 1):
+        assert measured(number)[0] == off
 
 
 class Adapter:
