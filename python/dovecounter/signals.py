@@ -6,7 +6,7 @@ import json
 import os
 import re
 from dataclasses import dataclass, replace
-from typing import Any, Dict, Iterator, Mapping, Optional, Tuple, Union
+from typing import Any, Dict, Iterator, List, Mapping, Optional, Tuple, Union
 
 from . import library
 from .faults import look_at, look_at_mapping, look_at_text, look_at_type
@@ -129,12 +129,20 @@ class SignalSettings:
         has are no settings."""
         look_at_type("the identity", identity, Inventory)
         look_at("the port", port, 2**32 - 1)
+        lanes = [look_at_type("a lane of the base", lane, LaneSignal) for lane in base]
+        try:
+            found = next(self._for(identity, lane_speed, port), None)
+            return None if found is None else _lanes_with(found, lanes)
+        except TypeError as error:  # such as a list in place of an object, or null for a number
+            raise ValueError(str(error)) from error
+
+    def _for(self, identity: Inventory, lane_speed: str, port: int) -> Iterator[Mapping[str, Any]]:
+        """Those that a module may have, of which the first count."""
         for part in self._for_port(port):
             for found in _for_speed(part, lane_speed):
                 for key in (f"{identity.vendor}-{identity.part}", identity.vendor, "Default"):
                     if isinstance(found.get(key), dict):
-                        return _lanes_with(found[key], base)
-        return None
+                        yield found[key]
 
     def _for_port(self, port: int) -> Iterator[Mapping[str, Any]]:
         for group in (_PORTS, _OF_EACH):
@@ -160,8 +168,7 @@ def _for_speed(part: Mapping[str, Any], lane_speed: str) -> Iterator[Mapping[str
     yield part
 
 
-def _lanes_with(settings: Mapping[str, Any], base: Lanes) -> Lanes:
-    lanes = list(base)
+def _lanes_with(settings: Mapping[str, Any], lanes: List[LaneSignal]) -> Lanes:
     for name, member in _NAMES.items():
         values = settings.get(name, {})
         for key, value in look_at_mapping(name, values).items():

@@ -335,6 +335,10 @@ def test_what_a_file_leaves_open_stays(tmp_path: pathlib.Path) -> None:
         ({"OutputEqPreCursorTargetRx": {"OutputEqPreCursorTargetRx0": 1}}, "is no lane"),
         ({"OutputEqPreCursorTargetRx": {"lane0": "high"}}, "invalid literal"),
         ({"OutputEqPreCursorTargetRx": {"lane0": 256}}, "not from 0 to 255"),
+        ({"OutputEqPreCursorTargetRx": {"lane0": None}}, "None, and no whole number"),
+        ({"OutputEqPreCursorTargetRx": {"lane0": 1.5}}, "1.5, and no whole number"),
+        ({"CDREnableRx": {"lane0": True}}, "True, and no whole number"),
+        ({"OutputEqPreCursorTargetRx": [1]}, "no mapping"),
     ],
 )
 def test_what_is_no_setting_is_refused(
@@ -350,7 +354,11 @@ def test_what_is_no_file_of_settings_is_refused(tmp_path: pathlib.Path) -> None:
         written(tmp_path, [])
     with pytest.raises(ValueError, match="'all' is no port"):
         written(tmp_path, {"GLOBAL_MEDIA_SETTINGS": {"all": {}}}).of(of("GOOD", "PART1"), "100G", 0)
-    with pytest.raises(TypeError):
-        written(tmp_path, {"GLOBAL_MEDIA_SETTINGS": []}).of(of("GOOD", "PART1"), "100G", 0)
+    for found in ([], {"0": []}, {"0": {"100G_SPEED": []}}):
+        with pytest.raises(ValueError, match="no mapping"):
+            written(tmp_path, {"GLOBAL_MEDIA_SETTINGS": found}).of(of("GOOD", "PART1"), "100G", 0)
+    for identity, base in (("GOOD", (TARGET,) * 8), (of("GOOD", "PART1"), ({},) * 8)):
+        with pytest.raises(TypeError):
+            written(tmp_path, FILE).of(identity, "100G", 0, base)  # type: ignore[arg-type]
     with pytest.raises(OSError):
         SignalSettings.from_file(tmp_path / "none.json")
