@@ -117,6 +117,7 @@ void hear(struct port *port, const struct dovecounter_port_outcome *outcome) {
     bool is_told = port->is_read_again && memcmp(&port->left, &outcome->left, sizeof port->left) == 0;
     port->is_read_again = false;
     port->left = outcome->left;
+    if (is_told) port->stage = port->core.stage;
     if (is_told) return put_status(port);
     say_reason(words, &outcome->left);
     tell(port, "left", words);
