@@ -186,10 +186,11 @@ class Procedure:
                 pause(step.seconds)
                 self.waited()
                 continue
+            made = self._made()
             try:
                 self.reply(transact(step))
             except BaseException:
-                self._refuse()
+                self._refuse(made)
                 raise
 
     async def run_async(
@@ -204,16 +205,18 @@ class Procedure:
                 await pause(step.seconds)
                 self.waited()
                 continue
+            made = self._made()
             try:
                 self.reply(await transact(step))
             except BaseException:
-                self._refuse()
+                self._refuse(made)
                 raise
 
-    def _refuse(self) -> None:
-        """Tells that the operation was refused, unless its reply was told already."""
-        with contextlib.suppress(ValueError):
-            self.reply(False)
+    def _refuse(self, made: int) -> None:
+        """Tells that the operation after so many was refused, unless its reply was told already."""
+        if self._made() == made:
+            with contextlib.suppress(ValueError):
+                self.reply(False)
 
     def _has_ended(self) -> None:
         ending = library.Ending()

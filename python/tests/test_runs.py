@@ -536,3 +536,18 @@ def test_the_page_s_code_runs(
         f"{example('qsfp_dd_400g_dr4.txt').durations().path_init} ms for DPInit at most",
         f"KP3 (2,) {sentence_of('KP3')}",
     ]
+
+
+def test_an_interruption_after_a_reply_counts_no_operation(monkeypatch: pytest.MonkeyPatch) -> None:
+    module, procedure = SimulatedModule(DR4), Reading()
+    tell = Reading.reply
+
+    def interrupted(self: Reading, reply: Reply) -> None:
+        tell(self, reply)
+        raise KeyboardInterrupt
+
+    with monkeypatch.context() as patched:
+        patched.setattr(Reading, "reply", interrupted)
+        with pytest.raises(KeyboardInterrupt):
+            procedure.run(module.transact)
+    assert repr(procedure) == "<Reading after 1 operations>"

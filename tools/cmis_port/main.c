@@ -244,8 +244,7 @@ static enum status prepare(const struct command *command, struct port *port, con
         return warnx("%s: cmisd makes the transactions, and logs none", port->bus.name), COMMAND_LINE;
     if (command->requests && is_kept(port)) return DONE;
     if ((command->run == plan || command->run == provision) && !port->is_weighed && !port->is_told)
-        return warnx("%s: this is no port of cmisd, so a file with weights has to be named", port->bus.name),
-               COMMAND_LINE;
+        return warnx("%s: cmisd doesn't keep it, so a file with weights has to be named", port->bus.name), COMMAND_LINE;
     return (!borrows || borrow_bus(port)) && open_port(port) ? DONE : REFUSED;
 }
 

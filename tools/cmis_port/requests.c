@@ -6,7 +6,7 @@
 #include <string.h>
 #include <unistd.h>
 
-enum { TEXT_SIZE = 512 };
+enum { TEXT_SIZE = 512, LANES_SIZE = 24 };
 
 /* An event of cmisd: of which port, what, and what else is known of it. */
 struct event {
@@ -62,7 +62,11 @@ static bool read_event(const char *line, struct event *event) {
 
 /* Why nothing comes of a request, by the port as it is once that was made; "" if something may. */
 static const char *obstacle_in(const char *port) {
-    return is_on(port, "held") ? "held" : is_on(port, "present") ? "" : "there is no module, as cmisd has it";
+    char waits_for[TEXT_SIZE];
+    take_text(port, "waits_for", waits_for, sizeof waits_for);
+    if (is_on(port, "held")) return "held";
+    if (!is_on(port, "present")) return "there is no module, as cmisd has it";
+    return strcmp(waits_for, "its bus") == 0 ? "cmisd can't open its bus, and tries again" : "";
 }
 
 /* Takes lines until the command is over: three answers, the last of which is the port as it is since then, and events, of which those from
@@ -90,11 +94,23 @@ static enum status follow(const struct port *port, const char *command, const ch
     return is_over ? status : stores ? NOT_PROVISIONED : REFUSED;
 }
 
-/* Takes a refused request back: it would be done once no lane is up, and the port left alone until then. */
-static void withdraw(int manager, const char *name, FILE *lines) {
-    char *line = NULL;
+/* The lanes of what was asked for before, if there was anything, as a word of a command after a space. */
+static void take_lanes(const char *asked, char word[LANES_SIZE]) {
+    const char *each = strchr(asked, '[');
+    size_t length = 1;
+    snprintf(word, LANES_SIZE, " none");
+    for (each += each != NULL; each != NULL && *each != ']' && *each != 0 && length + 1 < LANES_SIZE; each++)
+        if (*each != ' ') word[length++] = *each;
+    if (length > 1) word[length] = 0;
+}
+
+/* Takes a refused request back, which would be done once no lane is up: what was asked for before is asked for again. */
+static void withdraw(int manager, const struct port *port, const char *name, FILE *lines) {
+    const char *asked = strstr(port->told, "\"asked\": {");
+    char *line = NULL, command[TEXT_SIZE] = "wake", word[LANES_SIZE] = "";
     size_t room = 0;
-    dprintf(manager, "wake %s\n", name);
+    if (asked != NULL) take_text(asked, "command", command, sizeof command), take_lanes(asked, word);
+    dprintf(manager, "%s %s%s\n", command, name, word);
     while (getline(&line, &room, lines) > 0 && !is_on(line, "done")) continue;
     free(line);
 }
@@ -109,7 +125,7 @@ enum status request(struct port *port, const char *command) {
     if (lines == NULL) return warnx("%s: cmisd has ended", port->bus.name), REFUSED;
     dprintf(manager, "events\n%s %s%s\nshow %s\n", command, name, port->force ? " all" : "", name);
     enum status status = follow(port, command, name, lines);
-    if (status == IN_USE && strcmp(command, "sleep") == 0) withdraw(manager, name, lines);
+    if (status == IN_USE && strcmp(command, "sleep") == 0) withdraw(manager, port, name, lines);
     fclose(lines);
     return status;
 }

@@ -245,7 +245,7 @@ static bool is_to_be_read_again(const struct port *port) {
     uint8_t reason = port->core.left.reason;
     bool is_manageable = reason > DOVECOUNTER_LEFT_NO_PAGE_11 && reason <= DOVECOUNTER_LEFT_ASLEEP;
     int64_t wait = PERIODS * (int64_t)port->entry.times.period;
-    int64_t moment = port->read_at + (wait < READ_WITHIN ? wait : READ_WITHIN);
+    int64_t moment = port->read_at + (wait < SECOND ? SECOND : wait < READ_WITHIN ? wait : READ_WITHIN);
     return port->core.stage == DOVECOUNTER_PORT_LEFT && !is_manageable && moment <= now();
 }
 
@@ -402,6 +402,7 @@ static void hold_or_release(struct port *port) {
     doubt(port);
     must(dovecounter_port_hold(&port->core, is_still(port)));
     port->looks_at = now();
+    if (!is_still(port) && port->core.stage == DOVECOUNTER_PORT_READING) port->since = now();
     tell(port, is_still(port) ? "held" : "released", "");
     wake(port);
 }

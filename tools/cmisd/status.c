@@ -233,7 +233,7 @@ static void print_wait(FILE *out, const struct port *port) {
         what = "manage = yes";
     else if (port->is_held || port->is_lent)
         what = "release";
-    else if (!port->is_open)
+    else if (!port->is_open && (uses_bus(port) || port->reopens_in > 1000)) /* it was tried in vain */
         what = "its bus";
     else if (port->is_blind)
         what = "its presence pin";
@@ -312,7 +312,7 @@ void print_memory(FILE *out, const struct port *port) {
     print_flag(out, ", ", "paired", port->entry.wanted.paired);
     print_flag(out, ", ", "counts_by_id", port->entry.wanted.counts_by_id);
     print_number(out, ", ", "stay", port->entry.wanted.stay);
-    if (port->half_count > 0 && port->core.stage != DOVECOUNTER_PORT_READING) {
+    if (port->half_count > 0 && (port->is_read_again || port->core.stage != DOVECOUNTER_PORT_READING)) {
         print_number(out, ", ", "age", (uint64_t)(now() - port->read_at));
         fputs(", \"image\": \"", out);
         print_image_of(out, port, "\\n");
