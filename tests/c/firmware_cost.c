@@ -297,12 +297,30 @@ static const uint8_t paired_lanes[8] = {0, 0, 0x24, 0x24, 0, 0, 0, 0};
 static struct dovecounter_explicit provisioning;
 static struct dovecounter_explicit_end provisioned;
 
+/* Of a ready module whose lanes are down: what is stored on page 10h, and the same as active on page 11h. */
+static uint8_t controls[256];
+
+static uint8_t tuned_at(unsigned at) {
+    bool is_state = at < 132 || (at >= 202 && at < 206);
+    if (at == 3) return 0x06;
+    if (at < 128 || controls[127] == 0x10) return controls[at];
+    return is_state ? 0x11 : controls[at - 61];
+}
+
+static uint8_t answer_tuned(const struct dovecounter_operation *it, uint8_t bytes[128]) {
+    if (it->kind == DOVECOUNTER_WAIT) return DOVECOUNTER_WAITED;
+    for (unsigned i = 0; i < it->count; i++) {
+        if (it->kind == DOVECOUNTER_STORE) controls[it->offset + i] = it->bytes[i];
+        bytes[i] = tuned_at(it->offset + i);
+    }
+    return it->kind == DOVECOUNTER_STORE ? DOVECOUNTER_STORED : DOVECOUNTER_FETCHED;
+}
+
 /* All operations of provisioning with settings, each answered. */
 static void *provisions_with_settings(void *x) {
     dovecounter_explicit_begin(paired_lanes, 0x0C, &tunes, &limits, &patience, &provisioning);
-    for (int made = 0; made < 100; made++) {
-        if (dovecounter_explicit_next(&provisioning, &operation) != DOVECOUNTER_DONE) break;
-        uint8_t reply = operation.kind == DOVECOUNTER_WAIT ? DOVECOUNTER_WAITED : transact(0, &operation, fetched);
+    while (dovecounter_explicit_next(&provisioning, &operation) == DOVECOUNTER_DONE) {
+        uint8_t reply = answer_tuned(&operation, fetched);
         size_t count = reply == DOVECOUNTER_FETCHED ? operation.count : 0;
         dovecounter_explicit_reply(&provisioning, reply, fetched, count);
     }
@@ -381,6 +399,7 @@ int main(void) {
     print_used("dovecounter_settings", has_settings, alone);
     print_used("the calls of a change of settings", tunes_lanes, alone);
     print_used("the calls of provisioning with settings", provisions_with_settings, alone);
+    if (provisioned.steps == 0) return 1;
     print_used("the calls of a reading of statistics", reads_statistics, alone);
     if (statistics.halves != DOVECOUNTER_MOST_VDM || statistics_end.release != DOVECOUNTER_VDM_RELEASED) return 1;
     return 0;
