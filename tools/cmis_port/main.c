@@ -43,6 +43,7 @@ static const char usage[] =
     "  prbs            make and check a pattern, such as PRBS31Q, and print what each lane has shown\n"
     "  settings        print the signal integrity settings of each lane, and what the module can do\n"
     "    set           change some: adaptive, cdr-tx, cdr-rx (on, off), recall, input, pre, post, amplitude (a code)\n"
+    "  --app A         plan paths of this Application alone, in place of WEIGHTS\n"
     "  --keep A,H,M    keep a data path that is active: its Application, first host lane, first media lane\n"
     "  --unpaired      let any first host lane go with any first media lane\n"
     "  --counts-by-id  look up lane counts of 0 by interface ID\n"
@@ -61,6 +62,7 @@ static const char usage[] =
     "  --vdm           add to the image what the module lists itself (VDM)\n"
     "  --json          print a line of JSON each\n"
     "  --log FILE      write each transaction to FILE\n"
+    "  --version       print the version\n"
     "Examples:\n"
     "  cmis-port /dev/i2c-7 image | cmisctl inventory\n"
     "  cmis-port /dev/i2c-7 provision --activate --ensure --wake weights.txt\n";
@@ -74,8 +76,16 @@ static bool read_path(const char *word, struct dovecounter_path *path) {
     return true;
 }
 
+static bool read_application(struct port *port, const char *word) {
+    char rest;
+    if (word[strspn(word, "0123456789")] != 0 || sscanf(word, "%2u%c", &port->application, &rest) != 1) return false;
+    return port->is_weighed = port->application >= 1 && port->application <= 15;
+}
+
 static bool take_flag(struct port *port, int flag) {
     switch (flag) {
+    case 'A': return read_application(port, optarg);
+    case 'V': return port->version = true;
     case 'k': return port->kept_count < 9 && read_path(optarg, &port->kept[port->kept_count++]);
     case 'l': return (port->log_name = optarg) != NULL;
     case 'P': return (port->password_name = optarg) != NULL;
@@ -102,7 +112,9 @@ static bool take_flag(struct port *port, int flag) {
 }
 
 static bool read_flags(int count, char **words, struct port *port) {
-    static const struct option flags[] = {{"keep", required_argument, NULL, 'k'},
+    static const struct option flags[] = {{"app", required_argument, NULL, 'A'},
+                                          {"version", no_argument, NULL, 'V'},
+                                          {"keep", required_argument, NULL, 'k'},
                                           {"log", required_argument, NULL, 'l'},
                                           {"activate", no_argument, NULL, 'a'},
                                           {"force", no_argument, NULL, 'f'},
@@ -136,6 +148,7 @@ struct command {
     enum status (*run)(struct port *port);
     bool (*read)(struct port *port, const char *name); /* the file that it takes, or NULL */
     bool plans;                                        /* it takes --keep, --unpaired and --counts-by-id */
+    bool chooses;                                      /* it takes --app, and needs it if it stores */
     bool stores, forces; /* it takes --activate, --ensure, --wake and --settings; it takes --force */
     bool resets, shows;  /* it takes --reset and --no-commit; it takes --json */
     bool asks;           /* it takes the memory as cmisd has it */
@@ -158,6 +171,7 @@ static bool is_stray(const struct port *port, const struct command *command) {
     const struct link_words *words = &port->words;
     bool of_pattern = words->side || words->pattern || words->lanes || words->shown || words->loopback;
     if (port->vdm && !command->lists) return true;
+    if (port->application > 0 && !command->chooses) return true;
     if ((of_pattern && !command->checks) || (words->time && !command->checks && !command->loops)) return true;
     if (port->password_name && !command->unlocks) return true;
     return (asks && !command->plans) || (changes && !command->stores) || (port->force && !command->forces) ||
@@ -171,9 +185,10 @@ static const struct command *read_words(int count, char **words, struct port *po
         {.name = "observables", .run = observables, .shows = true, .borrows = true},
         {.name = "state", .run = state, .asks = true, .shows = true},
         {.name = "history", .run = history, .asks = true, .shows = true},
-        {.name = "plan", .run = plan, .asks = true, .plans = true, .shows = true},
+        {.name = "plan", .run = plan, .asks = true, .plans = true, .chooses = true, .shows = true},
         {.name = "plan", .run = plan, .read = read_host, .asks = true, .plans = true, .shows = true},
         {.name = "provision", .run = provision, .read = read_host, .plans = true, .stores = true, .forces = true},
+        {.name = "provision", .run = provision, .plans = true, .chooses = true, .stores = true, .forces = true},
         {.name = "provision", .run = provision, .requests = true, .forces = true},
         {.name = "wake", .run = wake, .requests = true},
         {.name = "sleep", .run = put_to_sleep, .requests = true, .forces = true},
@@ -210,13 +225,14 @@ static const struct command *read_words(int count, char **words, struct port *po
         {.name = "rx-squelch", .run = change_lanes, .sets = true, .forces = true, .shows = true, .borrows = true},
         {.name = "loopback", .run = test_link, .loops = true, .forces = true, .shows = true, .borrows = true},
         {.name = "prbs", .run = test_link, .checks = true, .forces = true, .shows = true, .borrows = true}};
-    if (!read_flags(count, words, port) || port->help || optind + 1 >= count) return NULL;
+    if (!read_flags(count, words, port) || port->help || port->version || optind + 1 >= count) return NULL;
     port->bus.name = words[optind];
     for (const struct command *each = commands; each < commands + sizeof commands / sizeof *commands; each++) {
         int length = 2 + (each->second != NULL) + (each->read != NULL) + 2 * each->sets + 2 * each->loops;
         int more = count - optind - length; /* the settings, or the lanes of a loopback */
         if (more < 0 || (more > each->loops && !each->tunes) || strcmp(words[optind + 1], each->name) != 0) continue;
         if (each->second != NULL && strcmp(words[optind + 2], each->second) != 0) continue;
+        if (each->chooses && each->stores && port->application == 0) continue;
         if (each->sets && !read_change(port, each->name, words[optind + 2], words[optind + 3])) return NULL;
         const char *lanes = more > 0 ? words[optind + 4] : NULL;
         if (each->loops && !read_loopback(port, words[optind + 2], words[optind + 3], lanes)) return NULL;
@@ -264,6 +280,18 @@ static enum status run(const struct command *command, struct port *port, const c
     return status;
 }
 
+/* What there is to say without a command; whether that was asked for. */
+static bool print_about(const struct port *port) {
+    uint8_t text[DOVECOUNTER_TEXT_SIZE];
+    size_t length = 0;
+    dovecounter_version(text, sizeof text, &length);
+    if (port->version)
+        printf("cmis-port %.*s\n", (int)length, (const char *)text);
+    else
+        fputs(usage, port->help ? stdout : stderr);
+    return port->version || port->help;
+}
+
 int main(int count, char **words) {
     static char output[1 << 14]; /* holds all of it, to be written where a signal may end the program */
     struct port port = {.bus = {.file = -1, .lock.file = -1}, .manager = -1, .most = 128, .least = 8};
@@ -272,8 +300,9 @@ int main(int count, char **words) {
     signal(SIGXFSZ, SIG_IGN); /* also those above a limit of the file's size */
     setvbuf(stdout, output, _IOFBF, sizeof output);
     const struct command *command = read_words(count, words, &port);
-    if (command == NULL) fputs(usage, port.help ? stdout : stderr);
-    enum status status = command != NULL ? run(command, &port, words[count - 1]) : port.help ? DONE : COMMAND_LINE;
+    enum status status = command != NULL      ? run(command, &port, words[count - 1])
+                         : print_about(&port) ? DONE
+                                              : COMMAND_LINE;
     if (fflush(stdout) == 0 && !ferror(stdout)) return (int)status;
     warn("standard output");
     return status == DONE ? NOT_WRITTEN : (int)status;

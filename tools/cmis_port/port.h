@@ -17,9 +17,10 @@ struct link_words {
 struct port {
     /* what is asked for */
     const char *log_name, *password_name;
-    bool activate, ensure, force, wake, help, unpaired, counts_by_id, reset, no_commit, json, vdm;
+    bool activate, ensure, force, wake, help, version, unpaired, counts_by_id, reset, no_commit, json, vdm;
     uint32_t weights[256], stay;
-    bool is_weighed; /* by words of the command line */
+    unsigned application; /* whose paths alone are worth something, or 0 */
+    bool is_weighed;      /* by words of the command line */
     struct dovecounter_path kept[9];
     size_t kept_count;
     struct dovecounter_lane_change change;

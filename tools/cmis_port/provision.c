@@ -2,6 +2,7 @@
 #include "port.h"
 
 #include <err.h>
+#include <string.h>
 
 enum { BEFORE_AGAIN = 500 }; /* milliseconds */
 
@@ -32,15 +33,42 @@ static void print_plan(const struct port *port) {
     print_line("control", port->plan.control, "\n");
 }
 
+/* Paths of one Application alone are worth something. Whether the module has it. */
+static bool weigh_application(struct port *port) {
+    struct dovecounter_advertisement module;
+    uint32_t status = dovecounter_advertisement(port->halves, port->half_count, port->counts_by_id, &module);
+    if (status != DOVECOUNTER_DONE) return refuse_by(port, status), false;
+    if (port->application > module.count)
+        return warnx("%s: the module has no Application %u", port->bus.name, port->application), false;
+    port->weights[module.applications[port->application - 1].host_id] = 1;
+    return true;
+}
+
+/* Whether no other Application with the same host interface was planned in its place. */
+static bool is_of_application(const struct port *port) {
+    for (size_t i = 0; i < port->plan.count; i++) {
+        const struct dovecounter_path *path = &port->plan.paths[i];
+        bool is_kept = false;
+        for (size_t j = 0; j < port->kept_count; j++)
+            is_kept = is_kept || memcmp(path, &port->kept[j], sizeof *path) == 0;
+        if (path->application != port->application && !is_kept)
+            return warnx("%s: Application %u has the same host interface, and is planned in its place", port->bus.name,
+                         path->application),
+                   false;
+    }
+    return true;
+}
+
 /* Reads the module, prints its flags, and finds the plan. */
 static bool find_plan(struct port *port) {
     bool whole = read_module(port, false);
     print_flags(port);
-    if (!whole) return false;
+    if (!whole || (port->application > 0 && !weigh_application(port))) return false;
     uint32_t status = dovecounter_plan(port->halves, port->half_count, !port->unpaired, port->counts_by_id,
                                        port->weights, port->stay, port->kept, port->kept_count, &port->plan);
     if (status == DOVECOUNTER_DONE && bytes_at(port, ACTIVE) == NULL) status = DOVECOUNTER_ENDED;
-    return status == DOVECOUNTER_DONE || (refuse_by(port, status), false);
+    if (status != DOVECOUNTER_DONE) return refuse_by(port, status), false;
+    return port->application == 0 || is_of_application(port);
 }
 
 /* As cmisd writes control bytes. */
