@@ -1865,7 +1865,7 @@ struct dovecounter_port {
     uint8_t request;       /* what was asked: enum dovecounter_request */
     uint8_t request_lanes; /* and of which lanes */
     uint8_t identifier;
-    uint8_t spare;
+    uint8_t apply_refused; /* 1 after DOVECOUNTER_PORT_APPLY_REFUSED, until it is provisioned or up */
     struct dovecounter_half halves[DOVECOUNTER_MOST_READ];
 };
 
@@ -1975,12 +1975,14 @@ enum dovecounter_port_failure {
     DOVECOUNTER_PORT_NOT_ACTIVATED = 5,   /* see fault */
     DOVECOUNTER_PORT_UNSEEN = 6,          /* the module could not be looked at */
     DOVECOUNTER_PORT_CHANGED = 7,         /* it is no longer as wanted */
-    DOVECOUNTER_PORT_NOT_ASLEEP = 8       /* see fault */
+    DOVECOUNTER_PORT_NOT_ASLEEP = 8,      /* see fault */
+    DOVECOUNTER_PORT_APPLY_REFUSED = 9    /* an apply was refused, which the module may have taken all the same */
 };
 
 /* What a reply led to. A port doesn't watch for resets, so it has no fault DOVECOUNTER_RESET or _FAULTY: a reset ends in
-   another one, such as DOVECOUNTER_NOT_STAGED, _NOT_ACTIVE or _OVERDUE, or in DOVECOUNTER_PORT_CHANGED. Then the module
-   is read and judged anew. If its default Application is up by then, the plan may keep that where `stay` is above 0;
+   another one, such as DOVECOUNTER_NOT_STAGED, _NOT_ACTIVE or _OVERDUE, or in DOVECOUNTER_PORT_CHANGED. After a failure
+   the module is read and judged anew: so it is once an apply is refused, which stored again could bring down lanes that
+   it brought up. If one is refused after that too, it is stored again after a pause. If its default Application is up by then, the plan may keep that where `stay` is above 0;
    with 0 the module is left alone, as DOVECOUNTER_LEFT_NEEDS_PERMISSION. To have the plan back, request and want what
    dovecounter_port_plug says. */
 struct dovecounter_port_outcome {

@@ -484,7 +484,7 @@ class Port(Structure):
         *_members(c_uint8, "stage held outstanding vain selection page"),
         ("goal", Goal),
         ("left", Left),
-        *_members(c_uint8, "request request_lanes identifier spare"),
+        *_members(c_uint8, "request request_lanes identifier apply_refused"),
         ("halves", Half * MOST_READ),
     ]
 

@@ -107,6 +107,7 @@ class Failure(IntEnum):
     UNSEEN = 6
     CHANGED = 7
     NOT_ASLEEP = 8
+    APPLY_REFUSED = 9
 
 
 class PortRequest(IntEnum):

@@ -289,7 +289,7 @@ AT(port, left, 2126);
 AT(port, request, 2132);
 AT(port, request_lanes, 2133);
 AT(port, identifier, 2134);
-AT(port, spare, 2135);
+AT(port, apply_refused, 2135);
 AT(port, halves, 2136);
 
 SIZE(port_next, 32);

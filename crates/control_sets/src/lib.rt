@@ -21,5 +21,5 @@ pub use procedures::{
     Activated, MAX_STEPS, PatientFault, PatientPower, PatientProcedure, Power, PowerChange,
     PowerStage, Procedure, Provisioned, SavedFault, SavedProcedure, TaskList, WatchfulProcedure,
     Work, activate, activate_on, answer_in_time, answer_of, change_power, change_power_on,
-    numbers_of_selected, provision, provision_keeping, provision_on,
+    is_apply, numbers_of_selected, provision, provision_keeping, provision_on,
 };

@@ -16,3 +16,4 @@ pub use procedure::{
 };
 pub use runner::{Activated, Provisioned, activate, provision, provision_keeping};
 pub use saved_fault::SavedFault;
+pub use task::is_apply;

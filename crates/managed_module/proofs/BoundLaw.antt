@@ -17,7 +17,7 @@ use Rattle.port_manager.specs.declared.request.Request.{Request}
 use Rattle.port_manager.specs.declared.request.Request.TheVariants.{Wake}
 use Rattle.port_manager.specs.declared.turn.Note.{Note}
 use Rattle.port_manager.specs.declared.turn.Note.TheVariants as notes
-use Rattle.port_manager.specs.Turns.{Turn, IsTurn}
+use Rattle.port_manager.specs.Turns.{Turn}
 use Rattle.port_manager.specs.Turns as turns
 use Rattle.port_manager.specs.Jobs.{IsReplyTo, asked}
 use Rattle.port_manager.specs.Ports.{IsAwaitedBy, IsTakenBy, IsTurnedIn, answered, asked_in, awaited, noting, outcome_of, plugged, request_after, turned}
@@ -36,6 +36,7 @@ use Rattle.managed_module.proofs.JobTurns.{Leads, turn_leads}
 use Rattle.managed_module.proofs.ManagedLaw.{LinkedStage, stage_paused, turn_linked, turned_linked}
 use Rattle.managed_module.proofs.OwnTasks.{module_after, reply_of}
 use Rattle.managed_module.proofs.Waits.{LinkedJob}
+use Rattle.port_manager.proofs.TurnCases.{IsAnyTurn}
 
 -- ---- a stage
 
@@ -78,7 +79,7 @@ record IsStep (most : ℕ) (before : Stage) (budget : ℕ) (port : Port) (sim : 
 
 module _ (most budget : ℕ) (sim : SimModule) (wanted : Wanted) (job : Job) (op : Op) (reply : Reply) (now : ℕ) (asks : asked job ≡ Some op) (answers : Answers op reply) where
   -- where the job isn't a look
-  turned_step : (port : Port) (turn : Turn) → port.request ≡ Wake → IsTurn wanted job reply turn → IsGoing (outcome_of port turn now) → ¬ (IsWatching job) → Leads most (left job) budget (module_after sim op) turn
+  turned_step : (port : Port) (turn : Turn) → port.request ≡ Wake → IsAnyTurn wanted job reply turn → IsGoing (outcome_of port turn now) → ¬ (IsWatching job) → Leads most (left job) budget (module_after sim op) turn
       → IsStep most (stages.Working job) budget (turned port turn now) (module_after sim op)
   turned_step port (turns.On next note) wake leads goes stays (less, at, fewer) = record {
     less = less;
@@ -91,7 +92,7 @@ module _ (most budget : ℕ) (sim : SimModule) (wanted : Wanted) (job : Job) (op
   turned_step port (turns.Left reason) wake leads goes stays tells = absurd goes
 
   -- a look is followed by a look
-  watched_step : (port : Port) (turn : Turn) → port.request ≡ Wake → IsTurn wanted job reply turn → IsGoing (outcome_of port turn now) → IsWatching job → IsStep most (stages.Working job) budget (turned port turn now) (module_after sim op)
+  watched_step : (port : Port) (turn : Turn) → port.request ≡ Wake → IsAnyTurn wanted job reply turn → IsGoing (outcome_of port turn now) → IsWatching job → IsStep most (stages.Working job) budget (turned port turn now) (module_after sim op)
   watched_step port (turns.On next note) wake leads goes up =
       let still = turn_up wanted reply job (turns.On next note) up leads in
       record { less = 0; request = same_request port.request note wake; at = watching_at next still; nearer = λ not. absurd (not still) } where
@@ -135,7 +136,7 @@ abbrev Both : ℕ → Stage → ℕ → Port → SimModule → Type 0
 Both most before budget port sim = LinkedStage port.stage sim × IsStep most before budget port sim
 
 job_step : (most budget : ℕ) (sim : SimModule) (port after : Port) (job : Job) (op : Op) (reply : Reply) (wanted : Wanted) (now : ℕ) (turn : Turn) (result : Outcome) → HasHalves sim → IsCmisStage (stages.Working job) → LinkedJob job sim → JobAt most job sim budget
-    → port.request ≡ Wake → wanted.asleep ≡ false → asked job ≡ Some op → Answers op reply → reply ≡ reply_of sim op → IsGoing result → IsTurn (granted port.request wanted) job reply turn → result ≡ outcome_of port turn now
+    → port.request ≡ Wake → wanted.asleep ≡ false → asked job ≡ Some op → Answers op reply → reply ≡ reply_of sim op → IsGoing result → IsAnyTurn (granted port.request wanted) job reply turn → result ≡ outcome_of port turn now
     → after ≡ turned (noting (answered port) (asked job) reply now) turn now → Both most (stages.Working job) budget after (module_after sim op)
 job_step most budget sim port after job op reply wanted now turn result has cmis link at wake awake asks answers gives goes leads outcome becomes =
     let noted = noting (answered port) (asked job) reply now in
@@ -155,7 +156,7 @@ stage_step : (most budget : ℕ) (stage : Stage) (sim : SimModule) (port after :
 stage_step most budget stages.Absent sim port after op reply wanted now result has cmis link at wake awake asks answers gives goes is = absurd (let same = asks in cc)
 stage_step most budget (stages.Left reason) sim port after op reply wanted now result has cmis link at wake awake asks answers gives goes is = absurd (let same = asks in cc)
 stage_step most budget (stages.Working job) sim port after op reply wanted now result has cmis link at wake awake asks answers gives goes (turn, leads, outcome, becomes) =
-    job_step most budget sim port after job op reply wanted now turn result has cmis link at wake awake asks answers gives goes leads outcome becomes
+    job_step most budget sim port after job op reply wanted now turn result has cmis link at wake awake asks answers gives goes (port.apply_refused, leads) outcome becomes
 
 taken_step : (most budget : ℕ) (o : Outstanding) (sim : SimModule) (port after : Port) (op : Op) (reply : Reply) (wanted : Wanted) (now : ℕ) (result : Outcome) → Keeps most port sim budget → IsCmisStage port.stage → wanted.asleep ≡ false → awaited port ≡ Some op
     → IsAwaitedBy o port reply → reply ≡ reply_of sim op → IsGoing result → IsTakenBy o port reply wanted now result after → Both most port.stage budget after (module_after sim op)

@@ -50,18 +50,18 @@ use Rattle.port_manager.specs.Patients.{after_on, wants_on}
 use Rattle.port_manager.specs.Standing.{IsWatching}
 use Rattle.port_manager.specs.Turns.{Turn, fault_in}
 use Rattle.port_manager.specs.Turns as turns
-use Rattle.port_manager.specs.Turns.{GoesTo, IsTurn, decided, going, provisioned}
+use Rattle.port_manager.specs.Turns.{GoesTo, decided, going, provisioned}
 use Rattle.port_manager.proofs.LeftLaws.{left_of_power, left_of_tasks, left_of_waking, near_waking, tasks_counted}
 use Rattle.port_manager.proofs.PageProgress.{near_patient}
 use Rattle.port_manager.proofs.PatientLaws.{asked_within, kept_within, never_waits, paged_never}
-use Rattle.port_manager.proofs.TurnCases.{Follows, later, pause_of, tasks_never, turn_all}
+use Rattle.port_manager.proofs.TurnCases.{Follows, IsAnyTurn, later, pause_of, tasks_never, turn_all}
 use Rattle.port_manager.proofs.TurnProgress.{left}
 use Rattle.sim_module.specs.declared.module.SimModule.{SimModule}
 use Rattle.managed_module.specs.Bounds.{IsSteady, until_activated}
 use Rattle.managed_module.specs.Managed.{HasHalves, IsCmisJob}
 use Rattle.managed_module.proofs.GoalLanes.{IsJudgedWhole, decided_whole}
 use Rattle.managed_module.proofs.JobSteps.{GoesOn, IsIdle, IsWhole, JobAt, Wakes, job_goes_on, reading_waits}
-use Rattle.managed_module.proofs.Links.{not_refused}
+use Rattle.managed_module.proofs.Links.{not_refused, takes_reply}
 use Rattle.managed_module.proofs.OwnTasks.{module_after, reply_of}
 use Rattle.managed_module.proofs.Procedures.{Provisions, Unless}
 use Rattle.managed_module.proofs.Waits.{LinkedJob, power_a0, procedure_idles, reading_nearer}
@@ -294,17 +294,18 @@ module _ (most budget : ℕ) (sim : SimModule) (op : Op) (reply : Reply) (has : 
       (on.less, activating_at most goal (procedure_after job reply).conversation.patience after on.less on.at.1 steady.0 steady.1, on.fewer)
 
   turn_by : (wanted : Wanted) (job : Job) (turn : Turn) → wanted.asleep ≡ false → IsCmisJob job → LinkedJob job sim → ¬ (IsWatching job) → JobAt most job sim budget → asked job ≡ Some op → ((goal : Goal) (work : PatientProcedure) → job ≡ jobs.Provisioning work goal → ⊥)
-      → IsTurn wanted job reply turn → Leads most (left job) budget after turn
+      → IsAnyTurn wanted job reply turn → Leads most (left job) budget after turn
   turn_by wanted job turn awake cmis link stays at asks not is =
       turn_all (Leads most (left job) budget after) (λ why. tt) wanted job reply turn
       (λ next e. later_leads most budget sim job op next reply has cmis link stays at asks answers gives e)
       (follows_leads wanted job awake not (job_goes_on most sim job op reply budget has cmis link at asks answers gives)) is
 
-  pub turn_leads : (wanted : Wanted) (job : Job) (turn : Turn) → wanted.asleep ≡ false → IsCmisJob job → LinkedJob job sim → ¬ (IsWatching job) → JobAt most job sim budget → asked job ≡ Some op → IsTurn wanted job reply turn → Leads most (left job) budget after turn
+  pub turn_leads : (wanted : Wanted) (job : Job) (turn : Turn) → wanted.asleep ≡ false → IsCmisJob job → LinkedJob job sim → ¬ (IsWatching job) → JobAt most job sim budget → asked job ≡ Some op → IsAnyTurn wanted job reply turn → Leads most (left job) budget after turn
   turn_leads wanted (jobs.Provisioning job goal) turn awake cmis link stays at asks is =
       let on = job_goes_on most sim (jobs.Provisioning job goal) op reply budget has cmis link at asks answers gives in
       let next = procedure_after job reply in
-      ends_or_goes (procedure_wants next) (pause_of (jobs.Provisioning job goal) reply) (jobs.Provisioning next goal) (λ end turn. turn ≡ provisioned goal next.conversation.patience (fault_in end)) turn (Leads most (left (jobs.Provisioning job goal)) budget after) is
+      ends_or_goes (procedure_wants next) (pause_of (jobs.Provisioning job goal) reply) (jobs.Provisioning next goal) (λ end turn. turn ≡ provisioned goal next.conversation.patience (fault_in end)) turn (Leads most (left (jobs.Provisioning job goal)) budget after)
+      (takes_reply sim op reply wanted (jobs.Provisioning job goal) turn has gives asks is)
       (λ asked_next e. later_leads most budget sim (jobs.Provisioning job goal) op asked_next reply has cmis link stays at asks answers gives (ap op_of e))
       (λ time e. never_waits (wants_on paged_tasks) (after_on paged_tasks) job reply time (paged_never paged_tasks tasks_never) e)
       (λ spent e ended. subst (Leads most (left (jobs.Provisioning job goal)) budget after) (sym ended)

@@ -12,6 +12,7 @@ use Rattle.bus_model.specs.declared.operation.Reply.TheVariants.{Bytes, Done, Re
 use Rattle.bus_model.specs.ScriptedBus.{passed_on}
 use Rattle.conversations.specs.declared.next.Next.TheVariants.{Do}
 use Rattle.conversations.specs.declared.on_page.OnPage.{OnPage}
+use Rattle.conversations.specs.Pauses.{is_refused}
 use Rattle.conversations.specs.Selecting.{after_missing, chosen, lacked, lacked_by, taken_by}
 use Rattle.paged_memory.specs.declared.page_addressing.KnownPage.{KnownPage}
 use Rattle.paged_memory.specs.declared.page_addressing.KnownPage.TheVariants.{Page as Known}
@@ -21,14 +22,21 @@ use Rattle.paged_memory.specs.Keys.{upper_key}
 use Rattle.paged_memory.specs.KnownPages.{is_awaited, is_known, missing_page, selecting_first, selection_read, wanted}
 use Rattle.paged_memory.specs.PageAddressing.{read_selection}
 use Rattle.paged_memory.proofs.KnownPageLaws.{read_closes}
+use Rattle.port_manager.specs.declared.deciding.Wanted.{Wanted}
+use Rattle.port_manager.specs.declared.job.Job.{Job}
+use Rattle.port_manager.specs.Jobs.{asked}
 use Rattle.port_manager.specs.Patients.{Paged, after_on}
+use Rattle.port_manager.specs.RefusedApplies.{is_refused_apply}
+use Rattle.port_manager.specs.Turns.{IsTurnOf, Turn}
 use Rattle.port_manager.proofs.PageProgress.{Counted, ReadsOther}
 use Rattle.port_manager.proofs.PatientLaws.{doubting_if, trusting_if}
+use Rattle.port_manager.proofs.RefusedApplyLaws.{goes_on}
 use Rattle.sim_module.specs.declared.module.SimModule.{SimModule}
 use Rattle.sim_module.specs.Modules.{conduct}
 use Rattle.sim_module.specs.Ticks.{ticked}
 use Rattle.managed_module.specs.Managed.{HasHalves}
 use Rattle.managed_module.proofs.Halves.{IsSelected, answers_fetch, reads_back, selects, shown, shows_selected, shows_there, takes_store}
+use Rattle.port_manager.proofs.TurnCases.{IsAnyTurn}
 
 -- the operation is on device A0
 abbrev pub IsOnA0 : Op → Type 0
@@ -40,12 +48,27 @@ IsOnA0 (Store A2 offset bytes) = ⊥
 abbrev reply_of : SimModule → Op → Reply
 reply_of sim op = (passed_on conduct op sim).0
 
+without : (refused : Bool) → (refused && false) ≡ false
+without true = refl
+without false = refl
+
 -- nothing is refused
 pub not_refused : (sim : SimModule) (op : Op) → HasHalves sim → IsOnA0 op → reply_of sim op ≡ Refused → ⊥
 not_refused sim (Fetch A0 offset count) has on is = let (bytes, e) = answers_fetch sim offset count has in let same : Bytes (record { items = bytes }) ≡ Refused = sym e ∙ is in cc
 not_refused sim (Fetch A2 offset count) has on is = on
 not_refused sim (Store A0 offset bytes) has on is = let same : Done ≡ Refused = sym (takes_store sim offset bytes.items has) ∙ is in cc
 not_refused sim (Store A2 offset bytes) has on is = on
+
+-- an apply isn't either, so that each reply is taken by the job
+applies : (sim : SimModule) (op : Op) (reply : Reply) → HasHalves sim → reply ≡ reply_of sim op → is_refused_apply (Some op) reply ≡ false
+applies sim (Fetch dev offset count) reply has gives = without (is_refused reply)
+applies sim (Store A2 offset bytes) reply has gives = without (is_refused reply)
+applies sim (Store A0 offset bytes) reply has gives =
+    ap (λ (reply : Reply). is_refused_apply (Some (Store A0 offset bytes)) reply) (gives ∙ takes_store sim offset bytes.items has)
+
+pub takes_reply : (sim : SimModule) (op : Op) (reply : Reply) (wanted : Wanted) (job : Job) (turn : Turn) → HasHalves sim → reply ≡ reply_of sim op → asked job ≡ Some op → IsAnyTurn wanted job reply turn → IsTurnOf wanted job reply turn
+takes_reply sim op reply wanted job turn has gives asks is =
+    goes_on wanted job reply turn (ap (λ (found : Option Op). is_refused_apply found reply) asks ∙ applies sim op reply has gives) is
 
 -- ---- links
 

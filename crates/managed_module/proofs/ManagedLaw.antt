@@ -27,8 +27,8 @@ use Rattle.port_manager.specs.Requests.{granted}
 use Rattle.port_manager.specs.Progress.{IsGoing, IsGoingOn, IsUpStage, made_in, pauses_by}
 use Rattle.port_manager.specs.Stories.{Story, ask, drop, make, plug, pull, reconsider, acknowledge, hold, demand, hear}
 use Rattle.port_manager.specs.Standing.{IsWatching}
-use Rattle.port_manager.specs.Turns.{IsTurn, decided, going}
-use Rattle.port_manager.proofs.TurnCases.{Follows, later, pause_of, turn_all}
+use Rattle.port_manager.specs.Turns.{decided, going}
+use Rattle.port_manager.proofs.TurnCases.{Follows, IsAnyTurn, later, pause_of, turn_all}
 use Rattle.port_manager.proofs.TurnLaws.{IfOn, on_going}
 use Rattle.port_manager.proofs.TurnProgress.{dropped_step, is_up_or_not, left, left_in, plugged_left, same_outcome, turn_nearer, turn_up}
 use Rattle.sim_module.specs.declared.module.SimModule.{SimModule}
@@ -60,7 +60,7 @@ follows_linked sim wanted (jobs.Activating job goal) reply = tt
 follows_linked sim wanted (jobs.Watching job) reply = tt
 
 pub turn_linked : (sim : SimModule) (wanted : Wanted) (job : Job) (op : Op) (reply : Reply) (turn : Turn) → HasHalves sim → IsCmisJob job → LinkedJob job sim → asked job ≡ Some op → Answers op reply → reply ≡ (passed_on conduct op sim).0
-    → IsTurn wanted job reply turn → IfOn turn (λ job. LinkedJob job (ticked (passed_on conduct op sim).1))
+    → IsAnyTurn wanted job reply turn → IfOn turn (λ job. LinkedJob job (ticked (passed_on conduct op sim).1))
 turn_linked sim wanted job op reply turn has cmis link asks answers gives is =
     let after = ticked (passed_on conduct op sim).1 in
     turn_all (λ turn. IfOn turn (λ job. LinkedJob job after)) (λ why. tt) wanted job reply turn
@@ -96,7 +96,7 @@ follows_waits before op wanted (jobs.Activating job goal) reply = tt
 follows_waits before op wanted (jobs.Watching job) reply = tt
 
 turn_waits : (sim : SimModule) (wanted : Wanted) (job : Job) (op : Op) (reply : Reply) (turn : Turn) → HasHalves sim → IsCmisJob job → LinkedJob job sim → ¬ (IsWatching job) → asked job ≡ Some op → Answers op reply
-    → reply ≡ (passed_on conduct op sim).0 → IsTurn wanted job reply turn → Waits (left job) op turn
+    → reply ≡ (passed_on conduct op sim).0 → IsAnyTurn wanted job reply turn → Waits (left job) op turn
 turn_waits sim wanted job op reply turn has cmis link stays asks answers gives is =
     turn_all (Waits (left job) op) (λ why. tt) wanted job reply turn
     (λ next e. going_waits (left job) op (pause_of job reply) (later job reply) (job_waits sim job op reply has cmis link stays asks answers gives)) (follows_waits (left job) op wanted job reply) is
@@ -148,7 +148,7 @@ module _ (sim : SimModule) (wanted : Wanted) (job : Job) (op : Op) (reply : Repl
   turned_linked port (turns.Failed fault) goes linked = absurd goes
   turned_linked port (turns.Left reason) goes linked = absurd goes
 
-  turned_step : (port : Port) (turn : Turn) → IsTurn wanted job reply turn → IsGoing (outcome_of port turn now) → IsStep (stages.Working job) (waits_by op (outcome_of port turn now)) (turned port turn now).stage
+  turned_step : (port : Port) (turn : Turn) → IsAnyTurn wanted job reply turn → IsGoing (outcome_of port turn now) → IsStep (stages.Working job) (waits_by op (outcome_of port turn now)) (turned port turn now).stage
   turned_step port (turns.On next note) leads goes = λ not.
       let stays : ¬ (IsWatching job) = λ up. not (turn_up wanted reply job (turns.On next note) up leads) in
       (omega (arith, turn_nearer wanted op reply job (turns.On next note) stays asks answers leads), stays)
@@ -161,7 +161,7 @@ module _ (sim : SimModule) (wanted : Wanted) (job : Job) (op : Op) (reply : Repl
   turned_step port (turns.Failed fault) leads goes = absurd goes
   turned_step port (turns.Left reason) leads goes = absurd goes
 
-  pub turn_step : (port after : Port) (turn : Turn) (result : Outcome) → IsTurn wanted job reply turn → result ≡ outcome_of port turn now → IsGoing result → after ≡ turned (noting (answered port) (asked job) reply now) turn now
+  pub turn_step : (port after : Port) (turn : Turn) (result : Outcome) → IsAnyTurn wanted job reply turn → result ≡ outcome_of port turn now → IsGoing result → after ≡ turned (noting (answered port) (asked job) reply now) turn now
       → LinkedStage after.stage (ticked (passed_on conduct op sim).1) × IsStep (stages.Working job) (waits_by op result) after.stage
   turn_step port after turn result leads is goes becomes =
       let noted = noting (answered port) (asked job) reply now in
@@ -178,7 +178,7 @@ stage_step : (stage : Stage) (sim : SimModule) (port after : Port) (op : Op) (re
 stage_step stages.Absent sim port after op reply wanted now result has cmis link asks answers gives goes is = absurd (let same = asks in cc)
 stage_step (stages.Left reason) sim port after op reply wanted now result has cmis link asks answers gives goes is = absurd (let same = asks in cc)
 stage_step (stages.Working job) sim port after op reply wanted now result has cmis link asks answers gives goes (turn, leads, outcome, becomes) =
-    turn_step sim (granted port.request wanted) job op reply now has cmis link asks answers gives port after turn result leads outcome goes becomes
+    turn_step sim (granted port.request wanted) job op reply now has cmis link asks answers gives port after turn result (port.apply_refused, leads) outcome goes becomes
 
 taken_step : (o : Outstanding) (sim : SimModule) (port after : Port) (op : Op) (reply : Reply) (wanted : Wanted) (now : ℕ) (result : Outcome) → HasHalves sim → IsCmisStage port.stage → LinkedStage port.stage sim → awaited port ≡ Some op
     → IsAwaitedBy o port reply → reply ≡ (passed_on conduct op sim).0 → IsGoing result → IsTakenBy o port reply wanted now result after

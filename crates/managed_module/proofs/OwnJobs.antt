@@ -38,9 +38,9 @@ use Rattle.port_manager.specs.declared.job.Job.TheVariants as jobs
 use Rattle.port_manager.specs.declared.turn.ProcedureFault.{ProcedureFault}
 use Rattle.port_manager.specs.Jobs.{asked, paged_halves, reading_after, reading_wants, waking_after, procedure_after, procedure_wants, paged_tasks}
 use Rattle.port_manager.specs.Patients.{Patient, after_on, pause_after as pause_of_patient, wants_on}
-use Rattle.port_manager.specs.Turns.{GoesTo, IsRead, IsReadingTurn, IsTurn, Turn, activated, decided, fault_in, going, provisioned}
+use Rattle.port_manager.specs.Turns.{GoesTo, IsRead, IsReadingTurn, IsTurnOf, Turn, activated, decided, fault_in, going, provisioned}
 use Rattle.port_manager.proofs.PatientLaws.{never_waits, paged_never}
-use Rattle.port_manager.proofs.TurnCases.{halves_never}
+use Rattle.port_manager.proofs.TurnCases.{IsAnyTurn, halves_never}
 use Rattle.sim_module.specs.declared.module.SimModule.{SimModule}
 use Rattle.sim_module.specs.Modules.{conduct}
 use Rattle.managed_module.specs.Bounds.{IsSteady}
@@ -50,6 +50,7 @@ use Rattle.managed_module.specs.SuitedModules.{IsProvisionable}
 use Rattle.managed_module.specs.Succeeds.{AreWhole, IsAwaited, IsNoProcedure, Suits}
 use Rattle.managed_module.proofs.Halves.{halves_passed, halves_ticked}
 use Rattle.managed_module.proofs.JobTurns.{ends_or_goes}
+use Rattle.managed_module.proofs.Links.{takes_reply}
 use Rattle.managed_module.proofs.OwnAdverts.{IsPaged}
 use Rattle.managed_module.proofs.OwnDecisions.{IsGood, IsWholeImage, IsWork, decides, patience_same}
 use Rattle.managed_module.proofs.OwnHalves.{IsOwn}
@@ -181,7 +182,7 @@ module _ (most : ℕ) (sim : SimModule) (has : HasHalves sim) (whole : AreWhole 
         (λ op e. going_own most wanted first after (pause_of_patient (wants_on paged_halves) (after_on paged_halves) job reply) (jobs.Reading next woken) (now, spares_on))
         (λ time e. never_waits (wants_on paged_halves) (after_on paged_halves) job reply time (paged_never paged_halves halves_never) e) (λ spent e ended_in. ended spent turn e ended_in)
 
-  waking_own : (job : PatientPower) → IsOwnWaking most job sim → KeepsLanes first sim → asked (jobs.Waking job) ≡ Some op → (turn : Turn) → IsTurn wanted (jobs.Waking job) reply turn → OwnTurn most wanted first after turn
+  waking_own : (job : PatientPower) → IsOwnWaking most job sim → KeepsLanes first sim → asked (jobs.Waking job) ≡ Some op → (turn : Turn) → IsTurnOf wanted (jobs.Waking job) reply turn → OwnTurn most wanted first after turn
   waking_own job w spares asks turn is =
       let kept = waking_lanes most sim has job w op reply asks answers gives first spares in
       waking_turns most sim has job w op reply asks answers gives (OwnTurn most wanted first after)
@@ -208,21 +209,21 @@ module _ (most : ℕ) (sim : SimModule) (has : HasHalves sim) (whole : AreWhole 
   both (turns.Failed fault) fails well = (fails, λ may. (well may).1)
   both (turns.Left reason) left well = left
 
-  procedure_own : (job : Job) (turn : Turn) → (IsProvisionable most first → IsOnWay most first job sim) → asked job ≡ Some op → ProcedureTurn turn → IsTurn wanted job reply turn → OwnTurn most wanted first after turn
+  procedure_own : (job : Job) (turn : Turn) → (IsProvisionable most first → IsOnWay most first job sim) → asked job ≡ Some op → ProcedureTurn turn → IsAnyTurn wanted job reply turn → OwnTurn most wanted first after turn
   procedure_own job turn holds asks procedure is = both turn procedure (λ may. way_turns most first sim op reply has answers gives may.lasts wanted job turn (holds may) asks is)
 
-  pub turn_own : (job : Job) (turn : Turn) → OwnJob most first job sim → asked job ≡ Some op → IsTurn wanted job reply turn → OwnTurn most wanted first after turn
-  turn_own (jobs.Reading job woken) turn holds asks is = reading_turns woken job holds.0 holds.1 asks turn is
-  turn_own (jobs.Waking job) turn holds asks is = waking_own job holds.0 holds.1 asks turn is
+  pub turn_own : (job : Job) (turn : Turn) → OwnJob most first job sim → asked job ≡ Some op → IsAnyTurn wanted job reply turn → OwnTurn most wanted first after turn
+  turn_own (jobs.Reading job woken) turn holds asks is = reading_turns woken job holds.0 holds.1 asks turn (takes_reply sim op reply wanted (jobs.Reading job woken) turn has gives asks is)
+  turn_own (jobs.Waking job) turn holds asks is = waking_own job holds.0 holds.1 asks turn (takes_reply sim op reply wanted (jobs.Waking job) turn has gives asks is)
   turn_own (jobs.Sleeping job) turn holds asks is = absurd holds
   turn_own (jobs.Provisioning job goal) turn holds asks is =
       let next = procedure_after job reply in
       let procedure = later_by (procedure_wants next) (pause_of_patient (wants_on paged_tasks) (after_on paged_tasks) job reply) (jobs.Provisioning next goal) turn (λ end. provisioned goal next.conversation.patience (fault_in end)) tt
-      (λ end. provisioned_turn goal next.conversation.patience (fault_in end)) is in
+      (λ end. provisioned_turn goal next.conversation.patience (fault_in end)) (takes_reply sim op reply wanted (jobs.Provisioning job goal) turn has gives asks is) in
       procedure_own (jobs.Provisioning job goal) turn holds asks procedure is
   turn_own (jobs.Activating job goal) turn holds asks is =
       let next = procedure_after job reply in
       let procedure = later_by (procedure_wants next) (pause_of_patient (wants_on paged_tasks) (after_on paged_tasks) job reply) (jobs.Activating next goal) turn (λ end. activated goal next.conversation.patience (fault_in end)) tt
-      (λ end. activated_turn goal next.conversation.patience (fault_in end)) is in
+      (λ end. activated_turn goal next.conversation.patience (fault_in end)) (takes_reply sim op reply wanted (jobs.Activating job goal) turn has gives asks is) in
       procedure_own (jobs.Activating job goal) turn holds asks procedure is
   turn_own (jobs.Watching job) turn holds asks is = absurd holds

@@ -191,7 +191,7 @@ module _ (most : ℕ) (first : SimModule) (whole : AreWhole first.image) (paged 
   stage_timed (stages.Working job) holds timed own brief asks answers gives (turn, leads, outcome, becomes) goes not =
       let same : sim.image ≡ first.image = holds.image in
       let here : IsBriefJob (pause_for sim.image) job = subst (λ (memory : Memory). IsBriefJob (pause_for memory) job) (sym same) brief in
-      let turns_brief = own_brief most sim holds.halves (subst AreWhole (sym same) whole) (subst IsPaged (sym same) paged) op reply answers gives first (granted between.request wanted) job turn own asks here leads in
+      let turns_brief = own_brief most sim holds.halves (subst AreWhole (sym same) whole) (subst IsPaged (sym same) paged) op reply answers gives first (granted between.request wanted) job turn own asks here (between.apply_refused, leads) in
       becomes_timed longest start held between before timed op reply wanted now (asked job) turn result later (subst (λ (memory : Memory). IsBrief (pause_for memory) turn) same turns_brief)
       (outcome ∙ sym (told_outcome between (asked job) reply turn now)) becomes goes not
 

@@ -30,10 +30,10 @@ use Rattle.port_manager.specs.Jobs.{asked, paged_halves, paged_look, paged_tasks
 use Rattle.port_manager.specs.Patients.{Patient, advanced, after_on, pause_after, pause_in, replied, rested_if, wants_on}
 use Rattle.port_manager.specs.Readings.{IsWhole}
 use Rattle.port_manager.specs.Standing.{IsWatching}
-use Rattle.port_manager.specs.Turns.{IsTurn, Turn, decided, going}
+use Rattle.port_manager.specs.Turns.{Turn, decided, going}
 use Rattle.port_manager.specs.Turns as turns
 use Rattle.port_manager.proofs.PatientLaws.{NeverWaits, paged_never}
-use Rattle.port_manager.proofs.TurnCases.{Follows, halves_never, later, look_never, pause_of, power_never, tasks_never, turn_all}
+use Rattle.port_manager.proofs.TurnCases.{Follows, IsAnyTurn, halves_never, later, look_never, pause_of, power_never, tasks_never, turn_all}
 use Rattle.sim_module.specs.declared.module.SimModule.{SimModule}
 use Rattle.managed_module.specs.Managed.{HasHalves}
 use Rattle.managed_module.specs.Succeeds.{AreWhole}
@@ -161,7 +161,7 @@ follows_brief longest wanted (jobs.Provisioning job goal) reply first brief read
 follows_brief longest wanted (jobs.Activating job goal) reply first brief reads = (later_brief longest (jobs.Activating job goal) reply brief, tt)
 follows_brief longest wanted (jobs.Watching job) reply first brief reads = (later_brief longest (jobs.Watching job) reply brief, tt)
 
-turn_brief : (longest : ℕ) (wanted : Wanted) (job : Job) (reply : Reply) (turn : Turn) → pause_for finmap.empty ≤ longest → IsBriefJob longest job → ReadsBrief longest job reply → IsTurn wanted job reply turn → IsBrief longest turn
+turn_brief : (longest : ℕ) (wanted : Wanted) (job : Job) (reply : Reply) (turn : Turn) → pause_for finmap.empty ≤ longest → IsBriefJob longest job → ReadsBrief longest job reply → IsAnyTurn wanted job reply turn → IsBrief longest turn
 turn_brief longest wanted job reply turn first brief reads is =
     turn_all (IsBrief longest) (λ why. tt) wanted job reply turn
     (λ op e. going_brief longest (pause_of job reply) (later job reply) (later_brief longest job reply brief) (λ time pauses. subst (λ (time : ℕ). time ≤ longest) (job_pauses job reply time pauses) brief))
@@ -199,5 +199,5 @@ module _ (most : ℕ) (sim : SimModule) (has : HasHalves sim) (whole : AreWhole 
   reads_brief first (jobs.Activating job goal) own asks = tt
   reads_brief first (jobs.Watching job) own asks = tt
 
-  pub own_brief : (first : SimModule) (wanted : Wanted) (job : Job) (turn : Turn) → OwnJob most first job sim → asked job ≡ Some op → IsBriefJob (pause_for sim.image) job → IsTurn wanted job reply turn → IsBrief (pause_for sim.image) turn
+  pub own_brief : (first : SimModule) (wanted : Wanted) (job : Job) (turn : Turn) → OwnJob most first job sim → asked job ≡ Some op → IsBriefJob (pause_for sim.image) job → IsAnyTurn wanted job reply turn → IsBrief (pause_for sim.image) turn
   own_brief first wanted job turn own asks brief is = turn_brief (pause_for sim.image) wanted job reply turn (first_pause sim.image) brief (reads_brief first job own asks) is

@@ -14,7 +14,7 @@ use Rattle.port_manager.specs.declared.deciding.Wanted.{Wanted}
 use Rattle.port_manager.specs.declared.job.Job.{Job}
 use Rattle.port_manager.specs.Goals.{active_at, at_lane, conventions_of, has_all, is_active}
 use Rattle.port_manager.specs.Jobs.{activating, asked, provisioning}
-use Rattle.port_manager.specs.Turns.{IsTurn, Turn}
+use Rattle.port_manager.specs.Turns.{Turn}
 use Rattle.port_manager.specs.Turns as turns
 use Rattle.sim_liveness.specs.Accepted.{read_by}
 use Rattle.sim_module.specs.declared.module.SimModule.{SimModule}
@@ -30,6 +30,7 @@ use Rattle.managed_module.proofs.PlanJobs.{GoesWell, WellTurn, goes_paused}
 use Rattle.managed_module.proofs.PlanStories.{activates_first, in_time_by, provisions_first}
 use Rattle.managed_module.proofs.PlanTurns.{left_some, turn_well}
 use Rattle.managed_module.proofs.StagedBytes.{lane_is_of, lanes_are}
+use Rattle.port_manager.proofs.TurnCases.{IsAnyTurn}
 
 -- it goes well, after so many operations
 abbrev pub IsOnWay : ℕ → SimModule → Job → SimModule → Type 0
@@ -93,7 +94,7 @@ module _ (most : ℕ) (first sim : SimModule) (op : Op) (reply : Reply) (has : H
   as_way made (turns.Failed fault) late = late
   as_way made (turns.Left reason) left = left
 
-  pub way_turns : (wanted : Wanted) (job : Job) (turn : Turn) → IsOnWay most first job sim → asked job ≡ Some op → IsTurn wanted job reply turn → WellTurn ⊥ (λ job. IsOnWay most first job after) turn
+  pub way_turns : (wanted : Wanted) (job : Job) (turn : Turn) → IsOnWay most first job sim → asked job ≡ Some op → IsAnyTurn wanted job reply turn → WellTurn ⊥ (λ job. IsOnWay most first job after) turn
   way_turns wanted job turn (made, goes) asks is =
       let few : made + 1 ≤ most_made most = omega (arith, goes.few, left_some most (most_made most) patience made job sim op goes asks) in
       as_way (made + 1) turn (turn_well ⊥ most (most_made most) patience made sim op reply has answers gives wanted job turn goes asks (in_time_by most patience lasts made few job reply goes.time) is)

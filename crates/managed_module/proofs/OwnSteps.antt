@@ -29,7 +29,7 @@ use Rattle.port_manager.specs.declared.request.Request.TheVariants.{Wake}
 use Rattle.port_manager.specs.Jobs.{asked}
 use Rattle.port_manager.specs.Progress.{IsGoing, IsUpStage}
 use Rattle.port_manager.specs.Requests.{granted}
-use Rattle.port_manager.specs.Turns.{IsTurn, Turn}
+use Rattle.port_manager.specs.Turns.{Turn}
 use Rattle.port_manager.specs.Turns as turns
 use Rattle.sim_module.specs.declared.module.SimModule.{SimModule}
 use Rattle.sim_module.specs.Modules.{conduct}
@@ -41,6 +41,7 @@ use Rattle.managed_module.proofs.BoundLaw.{same_request}
 use Rattle.managed_module.proofs.OwnAdverts.{IsPaged}
 use Rattle.managed_module.proofs.OwnHalves.{is_cmis}
 use Rattle.managed_module.proofs.OwnTasks.{module_after, reply_of}
+use Rattle.port_manager.proofs.TurnCases.{IsAnyTurn}
 
 -- ---- nothing is asked for
 
@@ -143,21 +144,21 @@ module _ (most : ℕ) (sim : SimModule) (has : HasHalves sim) (whole : AreWhole 
   abbrev after : SimModule
   after = module_after sim op
 
-  job_step : (job : Job) (turn : Turn) → OwnJob most first job sim → asked job ≡ Some op → IsTurn (granted port.request wanted) job reply turn → result ≡ outcome_of port turn now
+  job_step : (job : Job) (turn : Turn) → OwnJob most first job sim → asked job ≡ Some op → IsAnyTurn (granted port.request wanted) job reply turn → result ≡ outcome_of port turn now
       → later ≡ turned (noting (answered port) (asked job) reply now) turn now → IsUpOrStep most wanted first result later after
   job_step job turn own asks leads outcome becomes =
       let noted = noting (answered port) (asked job) reply now in
       let same : granted port.request wanted ≡ wanted = ap (λ (request : Request). granted request wanted) wake ∙ granted_same wanted in
       let is : result ≡ outcome_of noted turn now = outcome ∙ sym (noted_outcome port (asked job) reply turn now) in
       let turned_own : OwnTurn most wanted first after turn =
-      turn_own most sim has whole paged awaited wanted first same_image same_advert suits op reply answers gives job turn own asks (subst (λ (wanted : Wanted). IsTurn wanted job reply turn) same leads) in
+      turn_own most sim has whole paged awaited wanted first same_image same_advert suits op reply answers gives job turn own asks (subst (λ (wanted : Wanted). IsAnyTurn wanted job reply turn) same leads) in
       subst (λ (later : Port). IsUpOrStep most wanted first result later after) (sym becomes)
       (subst (λ (result : Outcome). IsUpOrStep most wanted first result (turned noted turn now) after) (sym is) (turned_step most wanted first noted turn now after wake tt turned_own (subst (IsSpared most first) is early)))
 
   pub stage_step : (stage : Stage) → OwnStage most first stage sim → asked_in stage ≡ Some op → IsTurnedIn stage port reply wanted now result later → IsUpOrStep most wanted first result later after
   stage_step stages.Absent own asks is = absurd own
   stage_step (stages.Left reason) own asks is = absurd own
-  stage_step (stages.Working job) own asks (turn, leads, outcome, becomes) = job_step job turn own asks leads outcome becomes
+  stage_step (stages.Working job) own asks (turn, leads, outcome, becomes) = job_step job turn own asks (port.apply_refused, leads) outcome becomes
 
 pub not_up : (most : ℕ) (first : SimModule) (stage : Stage) (sim : SimModule) → OwnStage most first stage sim → IsUpStage stage → ⊥
 not_up most first stages.Absent sim own up = own

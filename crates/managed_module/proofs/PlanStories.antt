@@ -118,7 +118,7 @@ module _ (most : ℕ) (patience : Patience) (late : Type 0) (P : Outcome → Typ
       let noted = noting (answered port) (asked job) reply now in
       let same : result ≡ outcome_of noted turn now = outcome ∙ sym (same_outcome port (asked job) reply turn now) in
       let ends : IsTimely late job reply = in_time made (some_left made job sim op good asks) job reply good.time in
-      let well = turn_well late most (most_made most) patience made sim op reply has answers gives (granted port.request wanted) job turn good asks ends leads in
+      let well = turn_well late most (most_made most) patience made sim op reply has answers gives (granted port.request wanted) job turn good asks ends (port.apply_refused, leads) in
       subst (λ (result : Outcome). Follows (made + 1) result later (module_after sim op)) (sym same)
       (subst (λ (later : Port). Follows (made + 1) (outcome_of noted turn now) later (module_after sim op)) (sym becomes) (turned_follows (made + 1) (module_after sim op) noted turn now refl well (subst P same p)))
 

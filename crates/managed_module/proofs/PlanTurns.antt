@@ -15,9 +15,9 @@ use Rattle.port_manager.specs.declared.job.Job.{Job}
 use Rattle.port_manager.specs.declared.job.Job.TheVariants as jobs
 use Rattle.port_manager.specs.Jobs.{activating, activation_of, asked, paged_tasks, procedure_after, procedure_wants, provisioning_of}
 use Rattle.port_manager.specs.Patients.{after_on, wants_on}
-use Rattle.port_manager.specs.Turns.{IsTurn, Turn, activated, fault_in, provisioned}
+use Rattle.port_manager.specs.Turns.{IsTurnOf, Turn, activated, fault_in, provisioned}
 use Rattle.port_manager.proofs.PatientLaws.{asked_on, kept_within, never_waits, paged_never}
-use Rattle.port_manager.proofs.TurnCases.{pause_of, tasks_never}
+use Rattle.port_manager.proofs.TurnCases.{IsAnyTurn, pause_of, tasks_never}
 use Rattle.sim_module.specs.declared.module.SimModule.{SimModule}
 use Rattle.managed_module.specs.Managed.{HasHalves}
 use Rattle.managed_module.proofs.PlanActivation.{activation_well}
@@ -30,6 +30,7 @@ use Rattle.port_manager.proofs.PageProgress.{some_patient}
 use Rattle.port_manager.proofs.TurnProgress.{left}
 use Rattle.managed_module.proofs.JobSteps.{job_goes_on}
 use Rattle.managed_module.proofs.JobTurns.{ends_or_goes, procedure_ends, provisioning_ended}
+use Rattle.managed_module.proofs.Links.{takes_reply}
 use Rattle.managed_module.proofs.PlanNearer.{nearer_by}
 use Rattle.managed_module.proofs.PlanTime.{HasTime, advanced_time}
 use Rattle.managed_module.proofs.Waits.{procedure_linked, task_answered}
@@ -58,7 +59,7 @@ module _ (late : Type 0) (most total : ℕ) (patience : Patience) (made : ℕ) (
     procedure_time : HasTime patience made job → HasTime patience (made + 1) next
     procedure_time time = advanced_time (wants_on paged_tasks) (after_on paged_tasks) patience made job reply time
 
-    provisioning_turn : GoesWell most total patience made (jobs.Provisioning job goal) sim → asked (jobs.Provisioning job goal) ≡ Some op → EndsInTime late next → IsTurn wanted (jobs.Provisioning job goal) reply turn → WellTurn late Good turn
+    provisioning_turn : GoesWell most total patience made (jobs.Provisioning job goal) sim → asked (jobs.Provisioning job goal) ≡ Some op → EndsInTime late next → IsTurnOf wanted (jobs.Provisioning job goal) reply turn → WellTurn late Good turn
     provisioning_turn goes asks timely is =
         let own = goes.fine in
         let on = job_goes_on most sim (jobs.Provisioning job goal) op reply goes.less has tt goes.linked goes.at asks answers gives in
@@ -99,7 +100,7 @@ module _ (late : Type 0) (most total : ℕ) (patience : Patience) (made : ℕ) (
         })
         (λ because end. no_fault next spent because fine.none e end)))
 
-    activating_turn : GoesWell most total patience made (jobs.Activating job goal) sim → asked (jobs.Activating job goal) ≡ Some op → EndsInTime late next → IsTurn wanted (jobs.Activating job goal) reply turn → WellTurn late Good turn
+    activating_turn : GoesWell most total patience made (jobs.Activating job goal) sim → asked (jobs.Activating job goal) ≡ Some op → EndsInTime late next → IsTurnOf wanted (jobs.Activating job goal) reply turn → WellTurn late Good turn
     activating_turn goes asks timely is =
         let own = goes.fine in
         let on = job_goes_on most sim (jobs.Activating job goal) op reply goes.less has tt goes.linked goes.at asks answers gives in
@@ -123,10 +124,12 @@ module _ (late : Type 0) (most total : ℕ) (patience : Patience) (made : ℕ) (
         (λ wait e. never_waits (wants_on paged_tasks) (after_on paged_tasks) job reply wait (paged_never paged_tasks tasks_never) e)
         (λ spent e ended. subst (WellTurn late Good) (sym ended) (activated_well late Good goal next.conversation.patience spent.end (timely spent e) (λ because end. no_fault next spent because fine.none e end)))
 
-  pub turn_well : (wanted : Wanted) (job : Job) (turn : Turn) → GoesWell most total patience made job sim → asked job ≡ Some op → IsTimely late job reply → IsTurn wanted job reply turn → WellTurn late Good turn
+  pub turn_well : (wanted : Wanted) (job : Job) (turn : Turn) → GoesWell most total patience made job sim → asked job ≡ Some op → IsTimely late job reply → IsAnyTurn wanted job reply turn → WellTurn late Good turn
   turn_well wanted (jobs.Reading job woken) turn goes asks timely is = absurd goes.fine
   turn_well wanted (jobs.Waking job) turn goes asks timely is = absurd goes.fine
   turn_well wanted (jobs.Sleeping job) turn goes asks timely is = absurd goes.fine
-  turn_well wanted (jobs.Provisioning job goal) turn goes asks timely is = provisioning_turn wanted job goal turn goes asks timely is
-  turn_well wanted (jobs.Activating job goal) turn goes asks timely is = activating_turn wanted job goal turn goes asks timely is
+  turn_well wanted (jobs.Provisioning job goal) turn goes asks timely is =
+      provisioning_turn wanted job goal turn goes asks timely (takes_reply sim op reply wanted (jobs.Provisioning job goal) turn has gives asks is)
+  turn_well wanted (jobs.Activating job goal) turn goes asks timely is =
+      activating_turn wanted job goal turn goes asks timely (takes_reply sim op reply wanted (jobs.Activating job goal) turn has gives asks is)
   turn_well wanted (jobs.Watching job) turn goes asks timely is = absurd goes.fine

@@ -74,6 +74,7 @@ TookTooLong (faults.Provisioning because) = IsLate because
 TookTooLong (faults.Activating because) = IsLate because
 TookTooLong faults.Unseen = ⊥
 TookTooLong faults.Changed = ⊥
+TookTooLong faults.ApplyRefused = ⊥
 
 abbrev pub IsInTime : Outcome → Type 0
 IsInTime outcome.Dropped = Unit {0}

@@ -91,6 +91,7 @@ IsNoProcedure faults.Unseen = Unit {0}
 IsNoProcedure (faults.Provisioning why) = ⊥
 IsNoProcedure (faults.Activating why) = ⊥
 IsNoProcedure faults.Changed = Unit {0}
+IsNoProcedure faults.ApplyRefused = ⊥
 
 abbrev pub NoProcedureFails : Outcome → Type 0
 NoProcedureFails outcome.Dropped = Unit {0}

@@ -41,9 +41,9 @@ use Rattle.port_manager.specs.Progress.{NeverStops}
 use Rattle.port_manager.specs.Requests.{granted}
 use Rattle.port_manager.specs.Runs.{Becomes, Runs}
 use Rattle.port_manager.specs.Stories.{Event, Story, ask, drop, make, plug, pull, reconsider, acknowledge, hold, demand, hear}
-use Rattle.port_manager.specs.Turns.{IsTurn, decided}
+use Rattle.port_manager.specs.Turns.{decided}
 use Rattle.port_manager.specs.Waits.{left}
-use Rattle.port_manager.proofs.TurnCases.{Follows, later, pause_of, turn_all}
+use Rattle.port_manager.proofs.TurnCases.{Follows, IsAnyTurn, later, pause_of, turn_all}
 use Rattle.port_manager.proofs.TurnLaws.{IfOn, on_going}
 
 abbrev Asks : Job → Type 0
@@ -77,7 +77,7 @@ follows_asks wanted (jobs.Provisioning job goal) reply = (_, refl)
 follows_asks wanted (jobs.Activating job goal) reply = (_, refl)
 follows_asks wanted (jobs.Watching job) reply = (_, refl)
 
-turn_asks : (wanted : Wanted) (reply : Reply) (job : Job) (turn : Turn) → IsTurn wanted job reply turn → IfOn turn Asks
+turn_asks : (wanted : Wanted) (reply : Reply) (job : Job) (turn : Turn) → IsAnyTurn wanted job reply turn → IfOn turn Asks
 turn_asks wanted reply job turn is =
     turn_all (λ turn. IfOn turn Asks) (λ why. tt) wanted job reply turn (λ op e. on_going Asks (pause_of job reply) (later job reply) (op, e)) (follows_asks wanted job reply) is
 
@@ -96,7 +96,7 @@ turned_in_asks : (stage : Stage) (port : Port) (reply : Reply) (wanted : Wanted)
 turned_in_asks stages.Absent port reply wanted now result after asks (gives, is) = subst (λ (after : Port). StageAsks after.stage) (sym is) asks
 turned_in_asks (stages.Left reason) port reply wanted now result after asks (gives, is) = subst (λ (after : Port). StageAsks after.stage) (sym is) asks
 turned_in_asks (stages.Working job) port reply wanted now result after asks (turn, leads, gives, is) =
-    subst (λ (after : Port). StageAsks after.stage) (sym is) (turned_asks (noting (answered port) (asked job) reply now) turn now (turn_asks (granted port.request wanted) reply job turn leads))
+    subst (λ (after : Port). StageAsks after.stage) (sym is) (turned_asks (noting (answered port) (asked job) reply now) turn now (turn_asks (granted port.request wanted) reply job turn (port.apply_refused, leads)))
 
 restarted_in_asks : (stage : Stage) (port : Port) (reply : Reply) (now : ℕ) (result : Outcome) (after : Port) → StageAsks port.stage → IsRestartedIn stage port reply now result after → StageAsks after.stage
 restarted_in_asks stages.Absent port reply now result after asks (gives, is) = subst (λ (after : Port). StageAsks after.stage) (sym is) asks

@@ -39,10 +39,11 @@ use Rattle.port_manager.specs.Runs.{Becomes, Runs}
 use Rattle.port_manager.specs.Stories.{Event, Story, ask, drop, make, plug, pull, reconsider, acknowledge, hold, demand, hear}
 use Rattle.port_manager.specs.Readings.{IsWhole}
 use Rattle.port_manager.specs.Standing.{IsWatching}
-use Rattle.port_manager.specs.Turns.{GoesTo, IsRead, IsTurn, decided, going}
+use Rattle.port_manager.specs.Turns.{GoesTo, IsRead, decided, going}
+use Rattle.port_manager.proofs.RefusedApplyLaws.{reading_goes_on}
 use Rattle.port_manager.proofs.StoreLaws.{stage_only}
 use Rattle.port_manager.proofs.StoryLaws.{asks_in, asks_when}
-use Rattle.port_manager.proofs.TurnCases.{later, pause_of, turn_all}
+use Rattle.port_manager.proofs.TurnCases.{IsAnyTurn, later, pause_of, turn_all}
 
 -- ---- what is up is held
 
@@ -88,8 +89,9 @@ ended_watches wanted woken after next pause turn (steps, ends) up is =
     held_watches woken (patience_for after.conversation.conversation.conversation.image) decision turn (holds wanted after.conversation.conversation.conversation.image decision up judged) leads
 
 reading_watches : (wanted : Wanted) (woken : Bool) (job : Patient (OnPage Halves)) (reply : Reply) (turn : Turn) → IsWhole (reading_wants (reading_after job reply)) → IsUp wanted (reading_after job reply).conversation.conversation.conversation.image
-    → IsTurn wanted (jobs.Reading job woken) reply turn → Watches turn
-reading_watches wanted woken job reply turn whole up is = ended_watches wanted woken (reading_after job reply) (reading_wants (reading_after job reply)) (pause_of (jobs.Reading job woken) reply) turn whole up is
+    → IsAnyTurn wanted (jobs.Reading job woken) reply turn → Watches turn
+reading_watches wanted woken job reply turn whole up is =
+    ended_watches wanted woken (reading_after job reply) (reading_wants (reading_after job reply)) (pause_of (jobs.Reading job woken) reply) turn whole up (reading_goes_on wanted woken job reply turn is)
 
 -- ---- a port that watches goes on watching
 
@@ -125,7 +127,7 @@ going_watches : (port : Port) (now : ℕ) (pause : Option ℕ) (job : Job) → I
 going_watches port now None job watches = λ calm. watches
 going_watches port now (Some time) job watches = λ calm. watches
 
-job_watches : (port : Port) (wanted : Wanted) (job : Job) (reply : Reply) (turn : Turn) (now : ℕ) → IsWatching job → IsTurn wanted job reply turn → CalmWatches port now turn
+job_watches : (port : Port) (wanted : Wanted) (job : Job) (reply : Reply) (turn : Turn) (now : ℕ) → IsWatching job → IsAnyTurn wanted job reply turn → CalmWatches port now turn
 job_watches port wanted (jobs.Reading job woken) reply turn now watching is = absurd watching
 job_watches port wanted (jobs.Waking job) reply turn now watching is = absurd watching
 job_watches port wanted (jobs.Sleeping job) reply turn now watching is = absurd watching
@@ -143,7 +145,7 @@ turned_settles (stages.Left reason) port reply wanted now result after e watchin
     subst IsSettled (sym is) (subst (λ (stage : Stage). IfWorking stage IsWatching) (sym e) tt, tt)
 turned_settles (stages.Working job) port reply wanted now result after e watching calm (turn, leads, gives, is) =
     subst IsSettled (sym is)
-    (settled_by (noting (answered port) (asked job) reply now) turn now refl (job_watches port (granted port.request wanted) job reply turn now watching leads (subst IsCalmOutcome gives calm)))
+    (settled_by (noting (answered port) (asked job) reply now) turn now refl (job_watches port (granted port.request wanted) job reply turn now watching (port.apply_refused, leads) (subst IsCalmOutcome gives calm)))
 
 taken_settles : (o : Outstanding) (port : Port) (reply : Reply) (wanted : Wanted) (now : ℕ) (result : Outcome) (after : Port) → IfWorking port.stage IsWatching → IsFresh o → IsCalmOutcome result
     → IsTakenBy o port reply wanted now result after → IsSettled after
@@ -186,7 +188,7 @@ reading_settles : (port between : Port) (job : Patient (OnPage Halves)) (woken :
     → IsUp (granted port.request wanted) (reading_after job reply).conversation.conversation.conversation.image → IsTurnedIn (stages.Working (jobs.Reading job woken)) port reply wanted now result between → IsSettled between
 reading_settles port between job woken reply wanted now result ends up (turn, leads, gives, is) =
     subst IsSettled (sym is)
-    (settled_by (noting (answered port) (asked (jobs.Reading job woken)) reply now) turn now refl (reading_watches (granted port.request wanted) woken job reply turn ends up leads))
+    (settled_by (noting (answered port) (asked (jobs.Reading job woken)) reply now) turn now refl (reading_watches (granted port.request wanted) woken job reply turn ends up (port.apply_refused, leads)))
 
 pub leaves_what_is_up : LeavesWhatIsUp
 leaves_what_is_up port between after job woken reply wanted now moment result more op waits reads ends up is ran calm asks =

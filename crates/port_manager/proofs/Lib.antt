@@ -6,6 +6,7 @@ pub mod SinceLaws
 pub mod TurnLaws
 pub mod StoryLaws
 pub mod StoreLaws
+pub mod RefusedApplyLaws
 pub mod IdleLaws
 pub mod Asking
 pub mod PageProgress

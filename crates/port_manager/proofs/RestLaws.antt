@@ -38,8 +38,8 @@ use Rattle.port_manager.specs.Progress.{IsGoing, IsGoingOn, IsUpStage, made_in, 
 use Rattle.port_manager.specs.Requests.{ended, granted, is_sleep}
 use Rattle.port_manager.specs.Runs.{Becomes, Runs}
 use Rattle.port_manager.specs.Stories.{Event, Story, acknowledge, ask, demand, drop, hear, hold, make, plug, pull, reconsider}
-use Rattle.port_manager.specs.Turns.{IsTurn, decided}
-use Rattle.port_manager.proofs.TurnCases.{Follows, later, pause_of, turn_all}
+use Rattle.port_manager.specs.Turns.{decided}
+use Rattle.port_manager.proofs.TurnCases.{Follows, IsAnyTurn, later, pause_of, turn_all}
 use Rattle.port_manager.proofs.TurnLaws.{IfOn, on_going}
 use Rattle.port_manager.proofs.TurnProgress.{begun_reading, dropped_step, is_up_or_not, left_in, runs_nearer}
 
@@ -108,7 +108,7 @@ follows_rests wanted (jobs.Provisioning job goal) reply asleep rests = absurd re
 follows_rests wanted (jobs.Activating job goal) reply asleep rests = absurd rests
 follows_rests wanted (jobs.Watching job) reply asleep rests = absurd rests
 
-turn_rests : (wanted : Wanted) (reply : Reply) (job : Job) (turn : Turn) → wanted.asleep ≡ true → IsResting job → IsTurn wanted job reply turn → IfOn turn IsResting
+turn_rests : (wanted : Wanted) (reply : Reply) (job : Job) (turn : Turn) → wanted.asleep ≡ true → IsResting job → IsAnyTurn wanted job reply turn → IfOn turn IsResting
 turn_rests wanted reply job turn asleep rests is =
     turn_all (λ turn. IfOn turn IsResting) (λ why. tt) wanted job reply turn
     (λ next e. on_going IsResting (pause_of job reply) (later job reply) (later_rests job reply rests)) (follows_rests wanted job reply asleep rests) is
@@ -150,7 +150,7 @@ turned_in_sleeps (stages.Left reason) port reply wanted now result after sleeps 
 turned_in_sleeps (stages.Working job) port reply wanted now result after sleeps rests goes (turn, leads, gives, is) =
     subst Sleeps (sym is)
     (turned_sleeps (noting (answered port) (asked job) reply now) turn now sleeps.sleep
-    (turn_rests (granted port.request wanted) reply job turn (or_true wanted.asleep (is_sleep port.request) sleeps.sleep) rests leads))
+    (turn_rests (granted port.request wanted) reply job turn (or_true wanted.asleep (is_sleep port.request) sleeps.sleep) rests (port.apply_refused, leads)))
 
 taken_sleeps : (o : Outstanding) (port : Port) (reply : Reply) (wanted : Wanted) (now : ℕ) (result : Outcome) (after : Port) → Sleeps port → IsGoing result → IsTakenBy o port reply wanted now result after → Sleeps after
 taken_sleeps outstanding.Nothing port reply wanted now result after sleeps goes (gives, is) = absurd (subst IsGoing gives goes)

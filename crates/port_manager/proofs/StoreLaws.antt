@@ -176,7 +176,7 @@ at_may story port op now at is =
 
 -- ---- a module that is as it is wanted
 
-nothing_else : (op : Op) → May (λ op. ⊥) (λ op. ⊥) op → StoresNothing op
+pub nothing_else : (op : Op) → May (λ op. ⊥) (λ op. ⊥) op → StoresNothing op
 nothing_else op (inl fetches) = inl fetches
 nothing_else op (inr (inl selects)) = inr selects
 nothing_else op (inr (inr (inl never))) = absurd never

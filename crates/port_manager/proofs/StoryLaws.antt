@@ -1,6 +1,6 @@
 -- What a port is after each event of a story.
 use Rattle.std.proofs.Common.{◌≡◌, ◌≤◌, ◌⊎◌, inl, inr, ℕ, Bool, true, false, [], ◌∷◌, Option, Some, None, refl, sym, ap, subst, ◌∙◌, arith}
-use Rattle.std.specs.Prelude.{◌||◌, max, nat_lt, if◌then◌else◌}
+use Rattle.std.specs.Prelude.{◌||◌, ◌&&◌, not, max, nat_lt, if◌then◌else◌}
 use Rattle.std.proofs.lemmas.Bool.{ltb-false}
 use Rattle.bus_model.specs.declared.operation.Op.{Op}
 use Rattle.bus_model.specs.declared.operation.Reply.{Reply}
@@ -30,15 +30,15 @@ use Rattle.port_manager.specs.declared.request.Request.{Request}
 use Rattle.port_manager.specs.declared.silence.Silence.{Silence}
 use Rattle.port_manager.specs.Requests.{ended, granted}
 use Rattle.port_manager.specs.Silences as silences
-use Rattle.port_manager.specs.Ports.{acknowledged_to, asked_for, request_after, silent, IfWorking, IsAwaitedBy, IsRestartedIn, IsTakenBy, IsTurnedIn, absent, answered, asked_in, asking, awaited, begun_in, forsaken, holding, is_vain, next_at, next_in, next_of, next_when, noted_of, noting, outcome_of, plugged, pulled, reconsidered, reconsidered_by, restarted, turned, vain_after}
+use Rattle.port_manager.specs.Ports.{acknowledged_to, asked_for, request_after, silent, IfWorking, IsAwaitedBy, IsRestartedIn, IsTakenBy, IsTurnedIn, absent, answered, asked_in, asking, awaited, begun_in, forsaken, holding, is_vain, next_at, next_in, next_of, next_when, noted_of, noting, outcome_of, plugged, pulled, reconsidered, reconsidered_by, restarted, turned, vain_after, is_apply_refused, is_settled_by}
 use Rattle.port_manager.specs.Runs.{Becomes, Reaches, Runs}
 use Rattle.port_manager.specs.Stories.{Event, Story, ask, drop, keeper_in, make, outstanding_in, plug, pull, reconsider, acknowledge, request_in, settled_in, staled, step_with, steps_of, hold, demand, hear, held_in}
 use Rattle.port_manager.specs.Readings.{GivesActivation, GivesGoal, GivesProvisioning, GivesSleep, GivesWaking, SinceRead}
 use Rattle.port_manager.specs.Standing.{IfTrue, IsAt, IsFounded, IsNamed, IsTame, IsWatching, UnlessStale}
-use Rattle.port_manager.specs.Turns.{IsTurn}
 use Rattle.port_manager.specs.Waits.{later}
 use Rattle.port_manager.specs.Waits.{left}
 use Rattle.port_manager.proofs.TurnLaws.{IfOn, NamesNext, Settles, begun_founded, turn_founded, turn_names, turn_settles, turn_tame}
+use Rattle.port_manager.proofs.TurnCases.{IsAnyTurn}
 
 -- ---- what is dropped with the next reply
 
@@ -97,13 +97,13 @@ if_itself false = tt
 -- ---- each event
 
 pub new_at : (times : Times) → IsAt [] (absent times outstanding.Nothing no_flags false)
-new_at times = record { lawful = tt; outstanding = refl; waits = arith_le; held = refl; request = refl; silence = refl; founded = tt; vain = refl; tame = tt; settled = tt; kept = refl; named = tt } where
+new_at times = record { lawful = tt; outstanding = refl; waits = arith_le; held = refl; request = refl; silence = refl; apply_refused = refl; founded = tt; vain = refl; tame = tt; settled = tt; kept = refl; named = tt } where
   arith_le : 0 ≤ 0
   arith_le = omega arith
 
 pub pull_at : (story : Story) (port : Port) → IsAt story port → IsAt (pull ∷ story) (pulled port)
 pull_at story port at =
-    record { lawful = at.lawful; outstanding = ap forsaken at.outstanding; waits = omega arith; held = at.held; request = refl; silence = refl; founded = tt; vain = refl; tame = tt; settled = tt; kept = ap (λ (keeper : FlagKeeper). unread keeper.flags) at.kept; named = fresh (forsaken port.outstanding) (Unit {0}) tt }
+    record { lawful = at.lawful; outstanding = ap forsaken at.outstanding; waits = omega arith; held = at.held; request = refl; silence = refl; apply_refused = refl; founded = tt; vain = refl; tame = tt; settled = tt; kept = ap (λ (keeper : FlagKeeper). unread keeper.flags) at.kept; named = fresh (forsaken port.outstanding) (Unit {0}) tt }
 
 pub plug_at : (story : Story) (port : Port) (now : ℕ) → IsAt story port → IsAt (plug now ∷ story) (plugged now port)
 plug_at story port now at =
@@ -114,6 +114,7 @@ plug_at story port now at =
       held = at.held;
       request = refl;
       silence = refl;
+      apply_refused = refl;
       founded = begun_founded [] false;
       vain = refl;
       tame = tt;
@@ -131,6 +132,7 @@ restart_at story port at is =
       held = at.held;
       request = at.request;
       silence = at.silence;
+      apply_refused = at.apply_refused;
       founded = restarted_founded port.stage (steps_of story);
       vain = refl;
       tame = tt;
@@ -141,7 +143,7 @@ restart_at story port at is =
 
 stale_at : (story : Story) (port : Port) → IsAt story port → outstanding.Stale ≡ staled (outstanding_in story) → IsAt (reconsider ∷ story) (record port { outstanding = outstanding.Stale; vain = false })
 stale_at story port at is =
-    record { lawful = at.lawful; outstanding = is; waits = at.waits; held = at.held; request = at.request; silence = at.silence; founded = at.founded; vain = refl; tame = tt; settled = tt; kept = at.kept; named = tt }
+    record { lawful = at.lawful; outstanding = is; waits = at.waits; held = at.held; request = at.request; silence = at.silence; apply_refused = at.apply_refused; founded = at.founded; vain = refl; tame = tt; settled = tt; kept = at.kept; named = tt }
 
 reconsider_by : (o : Outstanding) (story : Story) (port : Port) → port.outstanding ≡ o → IsAt story port → IsAt (reconsider ∷ story) (reconsidered_by o (record port { vain = false }))
 reconsider_by outstanding.Nothing story port e at = restart_at story port at (e ∙ ap staled (sym e ∙ at.outstanding))
@@ -161,6 +163,7 @@ held_restart held story port at is =
       held = refl;
       request = at.request;
       silence = at.silence;
+      apply_refused = at.apply_refused;
       founded = restarted_founded port.stage (steps_of story);
       vain = refl;
       tame = tt;
@@ -171,7 +174,7 @@ held_restart held story port at is =
 
 held_stale : (held : Bool) (story : Story) (port : Port) → IsAt story port → outstanding.Stale ≡ staled (outstanding_in story) → IsAt (hold held ∷ story) (record port { outstanding = outstanding.Stale; vain = false; held = held })
 held_stale held story port at is =
-    record { lawful = at.lawful; outstanding = is; waits = at.waits; held = refl; request = at.request; silence = at.silence; founded = at.founded; vain = refl; tame = tt; settled = tt; kept = at.kept; named = tt }
+    record { lawful = at.lawful; outstanding = is; waits = at.waits; held = refl; request = at.request; silence = at.silence; apply_refused = at.apply_refused; founded = at.founded; vain = refl; tame = tt; settled = tt; kept = at.kept; named = tt }
 
 hold_by : (o : Outstanding) (held : Bool) (story : Story) (port : Port) → port.outstanding ≡ o → IsAt story port → IsAt (hold held ∷ story) (reconsidered_by o (record port { vain = false; held = held }))
 hold_by outstanding.Nothing held story port e at = held_restart held story port at (e ∙ ap staled (sym e ∙ at.outstanding))
@@ -191,6 +194,7 @@ demand_restart request story port at is =
       held = at.held;
       request = refl;
       silence = at.silence;
+      apply_refused = at.apply_refused;
       founded = restarted_founded port.stage (steps_of story);
       vain = refl;
       tame = tt;
@@ -202,7 +206,7 @@ demand_restart request story port at is =
 demand_stale : (request : Request) (story : Story) (port : Port) → IsAt story port → outstanding.Stale ≡ staled (outstanding_in story)
     → IsAt (demand request ∷ story) (record port { outstanding = outstanding.Stale; vain = false; request = request })
 demand_stale request story port at is =
-    record { lawful = at.lawful; outstanding = is; waits = at.waits; held = at.held; request = refl; silence = at.silence; founded = at.founded; vain = refl; tame = tt; settled = tt; kept = at.kept; named = tt }
+    record { lawful = at.lawful; outstanding = is; waits = at.waits; held = at.held; request = refl; silence = at.silence; apply_refused = at.apply_refused; founded = at.founded; vain = refl; tame = tt; settled = tt; kept = at.kept; named = tt }
 
 demand_by : (o : Outstanding) (request : Request) (story : Story) (port : Port) → port.outstanding ≡ o → IsAt story port → IsAt (demand request ∷ story) (reconsidered_by o (record port { vain = false; request = request }))
 demand_by outstanding.Nothing request story port e at = demand_restart request story port at (e ∙ ap staled (sym e ∙ at.outstanding))
@@ -222,6 +226,7 @@ hear_at story port alive began at =
       held = at.held;
       request = at.request;
       silence = ap (λ (silence : Silence). silences.after silence alive began) at.silence;
+      apply_refused = at.apply_refused;
       founded = at.founded;
       vain = at.vain;
       tame = at.tame;
@@ -239,6 +244,7 @@ acknowledge_at story port past at =
       held = at.held;
       request = at.request;
       silence = at.silence;
+      apply_refused = at.apply_refused;
       founded = at.founded;
       vain = at.vain;
       tame = at.tame;
@@ -300,6 +306,7 @@ ask_at story port op now is at =
       held = at.held;
       request = at.request;
       silence = at.silence;
+      apply_refused = at.apply_refused;
       founded = at.founded;
       vain = at.vain;
       tame = at.tame;
@@ -317,6 +324,7 @@ drop_at story port named at =
       held = at.held;
       request = at.request;
       silence = at.silence;
+      apply_refused = at.apply_refused;
       founded = at.founded;
       vain = at.vain;
       tame = at.tame;
@@ -344,7 +352,7 @@ module _ (story : Story) (port : Port) (job : Job) (op : Op) (reply : Reply) (wa
   abbrev wishes : Wanted
   wishes = granted (request_in story) wanted
 
-  tame_after : (vain : Bool) (turn : Turn) → IfTrue vain (IsTame job) → IsTurn wishes job reply turn → IfTrue vain (IfOn turn IsTame)
+  tame_after : (vain : Bool) (turn : Turn) → IfTrue vain (IsTame job) → IsAnyTurn wishes job reply turn → IfTrue vain (IfOn turn IsTame)
   tame_after true turn tame is = turn_tame wishes reply job turn tame is
   tame_after false turn tame is = tt
 
@@ -367,6 +375,7 @@ module _ (story : Story) (port : Port) (job : Job) (op : Op) (reply : Reply) (wa
         held = w.at.held;
         request = ap (λ (request : Request). request_after request note) w.at.request;
         silence = w.at.silence;
+        apply_refused = ap (λ (refused : Bool). refused && not (is_settled_by note)) w.at.apply_refused;
         founded = founded;
         vain = w.at.vain;
         tame = tame;
@@ -382,6 +391,7 @@ module _ (story : Story) (port : Port) (job : Job) (op : Op) (reply : Reply) (wa
         held = w.at.held;
         request = w.at.request;
         silence = w.at.silence;
+        apply_refused = w.at.apply_refused;
         founded = founded;
         vain = w.at.vain;
         tame = tame;
@@ -397,6 +407,7 @@ module _ (story : Story) (port : Port) (job : Job) (op : Op) (reply : Reply) (wa
         held = w.at.held;
         request = w.at.request;
         silence = w.at.silence;
+        apply_refused = ap (λ (refused : Bool). refused || is_apply_refused why) w.at.apply_refused;
         founded = begun_founded (step_with op reply ∷ steps_of story) (vain_after port why);
         vain = ap (λ (vain : Bool). vain || is_vain why) w.at.vain;
         tame = if_itself (vain_after port why);
@@ -412,6 +423,7 @@ module _ (story : Story) (port : Port) (job : Job) (op : Op) (reply : Reply) (wa
         held = w.at.held;
         request = ap ended w.at.request;
         silence = w.at.silence;
+        apply_refused = w.at.apply_refused;
         founded = tt;
         vain = w.at.vain;
         tame = if_any port.vain;
@@ -420,7 +432,7 @@ module _ (story : Story) (port : Port) (job : Job) (op : Op) (reply : Reply) (wa
         named = tt;
       }
 
-  turned_at : (turn : Turn) → port.outstanding ≡ outstanding.Awaited → IsTurn wishes job reply turn → IsAt (make op reply wanted now (outcome_of port turn now) ∷ story) (turned (noting (answered port) (asked job) reply now) turn now)
+  turned_at : (turn : Turn) → port.outstanding ≡ outstanding.Awaited → IsAnyTurn wishes job reply turn → IsAt (make op reply wanted now (outcome_of port turn now) ∷ story) (turned (noting (answered port) (asked job) reply now) turn now)
   turned_at turn asked_for is =
       let founded = stage_is (IsFounded (steps_of story)) w.at.founded in
       make_at turn
@@ -439,6 +451,7 @@ module _ (story : Story) (port : Port) (job : Job) (op : Op) (reply : Reply) (wa
         held = w.at.held;
         request = w.at.request;
         silence = w.at.silence;
+        apply_refused = w.at.apply_refused;
         founded = begun_founded (step_with op reply ∷ steps_of story) port.vain;
         vain = w.at.vain;
         tame = if_itself port.vain;
@@ -467,7 +480,7 @@ take_by outstanding.Awaited story op reply wanted now result port after waits e 
     subst (λ (after : Port). IsAt (make op reply wanted now result ∷ story) after) (sym becomes)
     (subst (λ (result : Outcome). IsAt (make op reply wanted now result ∷ story) (turned (noting (answered port) (asked job) reply now) turn now)) (sym gives)
     (turned_at story port job op reply wanted now (works_of story port job op reply at works wants answers) turn e
-    (subst (λ (request : Request). IsTurn (granted request wanted) job reply turn) at.request leads)))
+    (subst (λ (request : Request). IsAnyTurn (granted request wanted) job reply turn) at.request (port.apply_refused, leads))))
 take_by outstanding.Stale story op reply wanted now result port after waits e at asks answers is =
     let (job, works, wants) = asks_job port.stage op asks in
     let (gives, becomes) = subst (λ (stage : Stage). IsRestartedIn stage port reply now result after) works is in

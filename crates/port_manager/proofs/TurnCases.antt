@@ -1,5 +1,6 @@
 -- What holds of each turn holds if it holds of the job that goes on, and of what comes after each job.
 use Rattle.std.proofs.Common.{◌≡◌, ℕ, Bool, true, false, Option, Some, None, refl, sym, ap, subst}
+use Rattle.std.specs.Prelude.{not, ◌&&◌}
 use Rattle.bus_model.specs.declared.operation.Op.{Op}
 use Rattle.bus_model.specs.declared.operation.Reply.{Reply}
 use Rattle.conversations.specs.declared.next.Next.{Next}
@@ -39,7 +40,8 @@ use Rattle.port_manager.specs.Jobs.{activating, asked, paged_halves, paged_look,
 use Rattle.port_manager.specs.Looks as looks
 use Rattle.port_manager.specs.Patients.{Patient, after_on, pause_after, wants_on}
 use Rattle.port_manager.specs.Readings.{IsWhole}
-use Rattle.port_manager.specs.Turns.{GoesTo, IsRead, IsTurn, activated, decided, fault_in, going, provisioned, seen, slept, woken_up}
+use Rattle.port_manager.specs.RefusedApplies.{is_refused_apply}
+use Rattle.port_manager.specs.Turns.{GoesTo, IsRead, IsTurn, IsTurnOf, UnlessApplyRefused, activated, decided, fault_in, going, provisioned, seen, slept, woken_up}
 use Rattle.port_manager.proofs.PatientLaws.{NeverWaits, never_waits, paged_never}
 
 -- ---- none waits by itself
@@ -92,6 +94,10 @@ pause_of (Provisioning job goal) reply = pause_after (wants_on paged_tasks) (aft
 pause_of (Activating job goal) reply = pause_after (wants_on paged_tasks) (after_on paged_tasks) job reply
 pause_of (Watching job) reply = pause_after (wants_on paged_look) (after_on paged_look) job reply
 
+-- whether an apply was refused before or not
+abbrev pub IsAnyTurn : Wanted → Job → Reply → Turn → Type 0
+IsAnyTurn wanted job reply turn = (apply_refused : Bool) × IsTurn apply_refused wanted job reply turn
+
 -- it holds of what comes after the job
 abbrev pub Follows : (Turn → Type 0) → Wanted → Job → Reply → Type 0
 Follows Q wanted (Reading job woken) reply =
@@ -140,35 +146,44 @@ module _ (Q : Turn → Type 0) (failed : (why : PortFault) → Q (Failed why)) w
   after_reading wanted woken later steps (Some Overdue) turn q e is = subst Q (sym is) (failed fault.Unread)
   after_reading wanted woken later steps (Some (InTime end)) turn q e (decision, judged, is) = subst Q (sym is) (q decision (steps, e) judged)
 
-  pub turn_all : (wanted : Wanted) (job : Job) (reply : Reply) (turn : Turn) → ((op : Op) → asked (later job reply) ≡ Some op → Q (going (pause_of job reply) (later job reply)))
-      → Follows Q wanted job reply → IsTurn wanted job reply turn → Q turn
-  turn_all wanted (Reading job woken) reply turn goes_on follows is =
+  taken_all : (wanted : Wanted) (job : Job) (reply : Reply) (turn : Turn) → ((op : Op) → asked (later job reply) ≡ Some op → Q (going (pause_of job reply) (later job reply)))
+      → Follows Q wanted job reply → IsTurnOf wanted job reply turn → Q turn
+  taken_all wanted (Reading job woken) reply turn goes_on follows is =
       let after = reading_after job reply in
       goes (reading_wants after) (pause_of (Reading job woken) reply) (Reading after woken) (λ end turn. IsRead wanted woken after.conversation.conversation.conversation.image end turn) turn Q is
       (λ op e. goes_on op (ap op_of e)) (λ time e. never_waits (wants_on paged_halves) (after_on paged_halves) job reply time (paged_never paged_halves halves_never) e)
       (λ spent e ended. after_reading wanted woken after spent.steps spent.end turn follows e ended)
-  turn_all wanted (Waking job) reply turn goes_on follows is =
+  taken_all wanted (Waking job) reply turn goes_on follows is =
       let after = waking_after job reply in
       goes (waking_wants after) (pause_of (Waking job) reply) (Waking after) (λ end turn. turn ≡ woken_up (fault_in end)) turn Q is
       (λ op e. goes_on op (ap op_of e)) (λ time e. never_waits power_wants change_after job reply time power_never e)
       (λ spent e ended. subst Q (sym ended) (after_waking (fault_in spent.end) follows))
-  turn_all wanted (Sleeping job) reply turn goes_on follows is =
+  taken_all wanted (Sleeping job) reply turn goes_on follows is =
       let after = waking_after job reply in
       goes (waking_wants after) (pause_of (Sleeping job) reply) (Sleeping after) (λ end turn. turn ≡ slept (fault_in end)) turn Q is
       (λ op e. goes_on op (ap op_of e)) (λ time e. never_waits power_wants change_after job reply time power_never e)
       (λ spent e ended. subst Q (sym ended) (after_sleeping (fault_in spent.end) follows))
-  turn_all wanted (Provisioning job goal) reply turn goes_on follows is =
+  taken_all wanted (Provisioning job goal) reply turn goes_on follows is =
       let after = procedure_after job reply in
       goes (procedure_wants after) (pause_of (Provisioning job goal) reply) (Provisioning after goal) (λ end turn. turn ≡ provisioned goal after.conversation.patience (fault_in end)) turn Q is
       (λ op e. goes_on op (ap op_of e)) (λ time e. never_waits (wants_on paged_tasks) (after_on paged_tasks) job reply time (paged_never paged_tasks tasks_never) e)
       (λ spent e ended. subst Q (sym ended) (after_provisioning goal after.conversation.patience (fault_in spent.end) follows))
-  turn_all wanted (Activating job goal) reply turn goes_on follows is =
+  taken_all wanted (Activating job goal) reply turn goes_on follows is =
       let after = procedure_after job reply in
       goes (procedure_wants after) (pause_of (Activating job goal) reply) (Activating after goal) (λ end turn. turn ≡ activated goal after.conversation.patience (fault_in end)) turn Q is
       (λ op e. goes_on op (ap op_of e)) (λ time e. never_waits (wants_on paged_tasks) (after_on paged_tasks) job reply time (paged_never paged_tasks tasks_never) e)
       (λ spent e ended. subst Q (sym ended) (after_activating goal after.conversation.patience (fault_in spent.end) follows))
-  turn_all wanted (Watching job) reply turn goes_on follows is =
+  taken_all wanted (Watching job) reply turn goes_on follows is =
       let after = look_after job reply in
       goes (look_wants after) (pause_of (Watching job) reply) (Watching after) (λ end turn. turn ≡ seen after.conversation.conversation.conversation.goal after.conversation.patience end) turn Q is
       (λ op e. goes_on op (ap op_of e)) (λ time e. never_waits (wants_on paged_look) (after_on paged_look) job reply time (paged_never paged_look look_never) e)
       (λ spent e ended. subst Q (sym ended) (after_look after.conversation.conversation.conversation.goal after.conversation.patience spent.end follows))
+
+  unless_refused : (refused : Bool) (wanted : Wanted) (job : Job) (reply : Reply) (turn : Turn) → ((op : Op) → asked (later job reply) ≡ Some op → Q (going (pause_of job reply) (later job reply)))
+      → Follows Q wanted job reply → UnlessApplyRefused refused (IsTurnOf wanted job reply) turn → Q turn
+  unless_refused true wanted job reply turn goes_on follows is = subst Q (sym is) (failed fault.ApplyRefused)
+  unless_refused false wanted job reply turn goes_on follows is = taken_all wanted job reply turn goes_on follows is
+
+  pub turn_all : (wanted : Wanted) (job : Job) (reply : Reply) (turn : Turn) → ((op : Op) → asked (later job reply) ≡ Some op → Q (going (pause_of job reply) (later job reply)))
+      → Follows Q wanted job reply → IsAnyTurn wanted job reply turn → Q turn
+  turn_all wanted job reply turn goes_on follows (again, is) = unless_refused (not again && is_refused_apply (asked job) reply) wanted job reply turn goes_on follows is

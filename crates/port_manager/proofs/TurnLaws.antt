@@ -47,10 +47,10 @@ use Rattle.port_manager.specs.Requests.{granted}
 use Rattle.port_manager.specs.Stories.{Story, make, request_in, settled_note, step_with, steps_of}
 use Rattle.port_manager.specs.Readings.{GivesActivation, GivesGoal, GivesProvisioning, GivesSleep, GivesWaking, IsJustRead, IsWhole, RestsIn}
 use Rattle.port_manager.specs.Standing.{IfTrue, IsFounded, IsNamed, IsReadingOf, IsTame, IsWatching}
-use Rattle.port_manager.specs.Turns.{IsTurn, decided, going}
+use Rattle.port_manager.specs.Turns.{decided, going}
 use Rattle.port_manager.proofs.PatientLaws.{kept_on, kept_within}
 use Rattle.port_manager.proofs.SinceLaws.{activation_goal, provisioned_activates, since_map}
-use Rattle.port_manager.proofs.TurnCases.{Follows, later, pause_of, turn_all}
+use Rattle.port_manager.proofs.TurnCases.{Follows, IsAnyTurn, later, pause_of, turn_all}
 
 abbrev pub IfOn : Turn → (Job → Type 0) → Type 0
 IfOn (On job note) P = P job
@@ -97,7 +97,7 @@ follows_founded history wanted (Provisioning job goal) reply = tt
 follows_founded history wanted (Activating job goal) reply = tt
 follows_founded history wanted (Watching job) reply = tt
 
-pub turn_founded : (history : History) (wanted : Wanted) (op : Op) (reply : Reply) (job : Job) (turn : Turn) → IsFounded history job → asked job ≡ Some op → Answers op reply → IsTurn wanted job reply turn
+pub turn_founded : (history : History) (wanted : Wanted) (op : Op) (reply : Reply) (job : Job) (turn : Turn) → IsFounded history job → asked job ≡ Some op → Answers op reply → IsAnyTurn wanted job reply turn
     → IfOn turn (IsFounded (step_with op reply ∷ history))
 turn_founded history wanted op reply job turn of asks answers is =
     turn_all (λ turn. IfOn turn (IsFounded (step_with op reply ∷ history))) (λ why. tt) wanted job reply turn
@@ -137,7 +137,7 @@ follows_tame wanted (Provisioning job goal) reply tame = tt
 follows_tame wanted (Activating job goal) reply tame = tt
 follows_tame wanted (Watching job) reply tame = tt
 
-pub turn_tame : (wanted : Wanted) (reply : Reply) (job : Job) (turn : Turn) → IsTame job → IsTurn wanted job reply turn → IfOn turn IsTame
+pub turn_tame : (wanted : Wanted) (reply : Reply) (job : Job) (turn : Turn) → IsTame job → IsAnyTurn wanted job reply turn → IfOn turn IsTame
 turn_tame wanted reply job turn tame is =
     turn_all (λ turn. IfOn turn IsTame) (λ why. tt) wanted job reply turn (λ next e. on_going IsTame (pause_of job reply) (later job reply) (later_tame job reply tame)) (follows_tame wanted job reply tame) is
 
@@ -181,7 +181,7 @@ follows_settles before wanted (Provisioning job goal) reply = tt
 follows_settles before wanted (Activating job goal) reply = tt
 follows_settles before wanted (Watching job) reply = tt
 
-pub turn_settles : (before : Bool) (wanted : Wanted) (reply : Reply) (job : Job) (turn : Turn) → IfTrue before (IsWatching job) → IsTurn wanted job reply turn → Settles before turn
+pub turn_settles : (before : Bool) (wanted : Wanted) (reply : Reply) (job : Job) (turn : Turn) → IfTrue before (IsWatching job) → IsAnyTurn wanted job reply turn → Settles before turn
 turn_settles before wanted reply job turn watches is =
     turn_all (Settles before) (λ why. tt) wanted job reply turn (λ next e. settles_going before (pause_of job reply) job reply watches) (follows_settles before wanted job reply) is
 
@@ -329,6 +329,6 @@ module _ (story : Story) (op : Op) (reply : Reply) (wanted : Wanted) (now : ℕ)
   follows_names (Activating job goal) answers asks of named = inr (since_map (GivesActivation goal) (GivesGoal goal) (activation_goal goal) story named.1)
   follows_names (Watching job) answers asks of named = goal_kept (λ goal. RestsIn story goal) job reply named
 
-  pub turn_names : (job : Job) (turn : Turn) → Answers op reply → asked job ≡ Some op → IsFounded (steps_of story) job → IsNamed story job → IsTurn wishes job reply turn → NamesNext turn
+  pub turn_names : (job : Job) (turn : Turn) → Answers op reply → asked job ≡ Some op → IsFounded (steps_of story) job → IsNamed story job → IsAnyTurn wishes job reply turn → NamesNext turn
   turn_names job turn answers asks of named is =
       turn_all NamesNext (λ why. tt) wishes job reply turn (λ next e. going_named (pause_of job reply) (later job reply) (later_named job named)) (follows_names job answers asks of named) is

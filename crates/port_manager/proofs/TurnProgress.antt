@@ -30,10 +30,10 @@ use Rattle.port_manager.specs.Requests.{granted}
 use Rattle.port_manager.specs.Runs.{Runs}
 use Rattle.port_manager.specs.Stories.{Story, ask, drop, make, plug, pull, reconsider, acknowledge, hold, demand, hear}
 use Rattle.port_manager.specs.Standing.{IsWatching}
-use Rattle.port_manager.specs.Turns.{IsTurn, decided, going}
+use Rattle.port_manager.specs.Turns.{decided, going}
 use Rattle.port_manager.proofs.LeftLaws.{halves_counted, left_of_half, left_of_halves, left_of_tasks, left_of_waking, near_waking, some_waking, tasks_counted}
 use Rattle.port_manager.proofs.PageProgress.{gained, left_of, near_patient, some_patient}
-use Rattle.port_manager.proofs.TurnCases.{Follows, later, pause_of, turn_all}
+use Rattle.port_manager.proofs.TurnCases.{Follows, IsAnyTurn, later, pause_of, turn_all}
 use Rattle.port_manager.proofs.TurnLaws.{IfOn, on_going}
 
 -- ---- what is left until the module is up
@@ -110,13 +110,13 @@ follows_nearer wanted (jobs.Provisioning job goal) op reply not asks =
 follows_nearer wanted (jobs.Activating job goal) op reply not asks = omega (arith, some_patient paged_tasks left_of_tasks tasks_counted job op asks)
 follows_nearer wanted (jobs.Watching job) op reply not asks = absurd (not tt)
 
-pub turn_nearer : (wanted : Wanted) (op : Op) (reply : Reply) (job : Job) (turn : Turn) → ¬ (IsWatching job) → asked job ≡ Some op → Answers op reply → IsTurn wanted job reply turn → IsNearer (left job) turn
+pub turn_nearer : (wanted : Wanted) (op : Op) (reply : Reply) (job : Job) (turn : Turn) → ¬ (IsWatching job) → asked job ≡ Some op → Answers op reply → IsAnyTurn wanted job reply turn → IsNearer (left job) turn
 turn_nearer wanted op reply job turn not asks answers is =
     turn_all (IsNearer (left job)) (λ why. tt) wanted job reply turn (λ next e. later_nearer job op next reply not asks answers e) (follows_nearer wanted job op reply not asks) is
 
 -- ---- a story in which nothing fails
 
-pub turn_up : (wanted : Wanted) (reply : Reply) (job : Job) (turn : Turn) → IsWatching job → IsTurn wanted job reply turn → IfOn turn IsWatching
+pub turn_up : (wanted : Wanted) (reply : Reply) (job : Job) (turn : Turn) → IsWatching job → IsAnyTurn wanted job reply turn → IfOn turn IsWatching
 turn_up wanted reply (jobs.Reading job woken) turn up is = absurd up
 turn_up wanted reply (jobs.Waking job) turn up is = absurd up
 turn_up wanted reply (jobs.Sleeping job) turn up is = absurd up
@@ -137,7 +137,7 @@ IsStep before made paused after = (made + left_in after ≤ left_in before + 3 *
 same_stage : (before after : Stage) → after ≡ before → ¬ (IsUpStage after) → IsStep before 0 0 after
 same_stage before after e not = (omega (arith, ap left_in e), λ up. not (subst IsUpStage (sym e) up))
 
-going_step : (port : Port) (wanted : Wanted) (job : Job) (op : Op) (reply : Reply) (now : ℕ) (turn : Turn) → asked job ≡ Some op → Answers op reply → IsTurn wanted job reply turn → IsGoing (outcome_of port turn now)
+going_step : (port : Port) (wanted : Wanted) (job : Job) (op : Op) (reply : Reply) (now : ℕ) (turn : Turn) → asked job ≡ Some op → Answers op reply → IsAnyTurn wanted job reply turn → IsGoing (outcome_of port turn now)
     → ¬ (IsUpStage (turned port turn now).stage) → IsStep (stages.Working job) 1 (pauses_by (outcome_of port turn now)) (turned port turn now).stage
 going_step port wanted job op reply now (turns.On next note) asks answers leads goes not =
     let stays : ¬ (IsWatching job) = λ up. not (turn_up wanted reply job (turns.On next note) up leads) in
@@ -164,7 +164,7 @@ turned_step (stages.Working job) port op reply wanted now result after asks answ
     let outcome : result ≡ outcome_of noted turn now = gives ∙ sym (same_outcome port (asked job) reply turn now) in
     subst (λ (after : Port). ¬ (IsUpStage after.stage) → IsStep (stages.Working job) 1 (pauses_by result) after.stage) (sym is)
     (λ not. subst (λ (result : Outcome). IsStep (stages.Working job) 1 (pauses_by result) (turned noted turn now).stage) (sym outcome)
-    (going_step noted (granted port.request wanted) job op reply now turn asks answers leads (subst IsGoing outcome goes) not)) not
+    (going_step noted (granted port.request wanted) job op reply now turn asks answers (port.apply_refused, leads) (subst IsGoing outcome goes) not)) not
 
 pub dropped_step : (stage : Stage) (port : Port) (reply : Reply) (now : ℕ) (result : Outcome) (after : Port) → IsGoing result → IsRestartedIn stage port reply now result after → ⊥
 dropped_step stages.Absent port reply now result after goes (gives, is) = subst IsGoing gives goes
@@ -215,9 +215,16 @@ is_up_or_not (stages.Working (jobs.Watching job)) = inl tt
 pub plugged_left : (port : Port) (now : ℕ) → left_in (plugged now port).stage ≡ 61
 plugged_left port now = begun_reading false
 
-pub comes_up : (port after : Port) (now : ℕ) (story : Story) → Runs (plugged now port) story after → IsGoingOn story → 61 + 3 * paused_in story < made_in story → IsUpStage after.stage
-comes_up port after now story ran goes many =
+begun_left : (woken : Bool) → left (reading woken) ≤ 61
+begun_left true = omega (arith, begun_reading true)
+begun_left false = omega (arith, begun_reading false)
+
+pub comes_up_anew : (port after : Port) (woken : Bool) (story : Story) → port.stage ≡ stages.Working (reading woken) → Runs port story after → IsGoingOn story → 61 + 3 * paused_in story < made_in story → IsUpStage after.stage
+comes_up_anew port after woken story begins ran goes many =
     elim (is_up_or_not after.stage) as (λ _. IsUpStage after.stage) [
       | inl up ↦ up
-      | inr not ↦ absurd (omega (arith, runs_nearer (plugged now port) after story ran goes not, plugged_left port now, many))
+      | inr not ↦ absurd (omega (arith, runs_nearer port after story ran goes not, ap left_in begins, begun_left woken, many))
     ]
+
+pub comes_up : (port after : Port) (now : ℕ) (story : Story) → Runs (plugged now port) story after → IsGoingOn story → 61 + 3 * paused_in story < made_in story → IsUpStage after.stage
+comes_up port after now story ran goes many = comes_up_anew (plugged now port) after false story refl ran goes many

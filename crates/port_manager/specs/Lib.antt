@@ -10,6 +10,7 @@ pub mod Changes
 pub mod Patients
 pub mod Looks
 pub mod Jobs
+pub mod RefusedApplies
 pub mod Turns
 pub mod Ports
 pub mod Stories
@@ -17,6 +18,7 @@ pub mod Readings
 pub mod Standing
 pub mod Runs
 pub mod Stores
+pub mod ReadAnew
 pub mod Idle
 pub mod KeptFlags
 pub mod Progress

@@ -49,6 +49,7 @@ absent times outstanding flags held =
       held = held;
       request = Wake;
       silence = silences.none;
+      apply_refused = false;
     }
 
 abbrev pub forsaken : Outstanding → Outstanding
@@ -178,6 +179,27 @@ is_vain faults.Unseen = false
 is_vain (faults.Provisioning why) = false
 is_vain (faults.Activating why) = false
 is_vain faults.Changed = false
+is_vain faults.ApplyRefused = false
+
+abbrev pub is_apply_refused : PortFault → Bool
+is_apply_refused faults.ApplyRefused = true
+is_apply_refused faults.Unread = false
+is_apply_refused faults.Asleep = false
+is_apply_refused (faults.Waking why) = false
+is_apply_refused (faults.Sleeping why) = false
+is_apply_refused (faults.Provisioning why) = false
+is_apply_refused (faults.Activating why) = false
+is_apply_refused faults.Unseen = false
+is_apply_refused faults.Changed = false
+
+-- the control bytes are active, or the module is as it is wanted
+abbrev pub is_settled_by : Note → Bool
+is_settled_by notes.Provisioned = true
+is_settled_by notes.CameUp = true
+is_settled_by notes.Held = true
+is_settled_by notes.Quiet = false
+is_settled_by notes.Identified = false
+is_settled_by notes.Woken = false
 
 -- a look is followed by a longer pause
 abbrev pub wait_of : Times → Note → ℕ
@@ -208,7 +230,12 @@ request_after request notes.Provisioned = request
 
 abbrev pub waiting : Port → Note → ℕ → Port
 waiting port note now =
-    record port { due = max port.due (later now (wait_of port.times note)); back_off = back_off_after port note; request = request_after port.request note }
+    record port {
+      due = max port.due (later now (wait_of port.times note));
+      back_off = back_off_after port note;
+      request = request_after port.request note;
+      apply_refused = port.apply_refused && not (is_settled_by note);
+    }
 
 -- when it may be tried again
 abbrev pub again : Port → ℕ → ℕ
@@ -221,7 +248,13 @@ abbrev pub turned : Port → Turn → ℕ → Port
 turned port (turn.On job note) now = waiting (record port { stage = Working job }) note now
 turned port (turn.Paused job time) now = record port { stage = Working job; due = max port.due (later now time) }
 turned port (turn.Failed why) now =
-    record port { stage = Working (reading (vain_after port why)); due = again port now; back_off = min (2 * port.back_off) port.times.most; vain = vain_after port why }
+    record port {
+      stage = Working (reading (vain_after port why));
+      due = again port now;
+      back_off = min (2 * port.back_off) port.times.most;
+      vain = vain_after port why;
+      apply_refused = port.apply_refused || is_apply_refused why;
+    }
 turned port (turn.Left reason) now = record port { stage = Left reason; request = ended port.request }
 
 abbrev pub outcome_of : Port → Turn → ℕ → Outcome
@@ -249,7 +282,7 @@ abbrev pub IsTurnedIn : Stage → Port → Reply → Wanted → ℕ → Outcome 
 IsTurnedIn Absent port reply wanted now result later = IsDropped port result later
 IsTurnedIn (Left reason) port reply wanted now result later = IsDropped port result later
 IsTurnedIn (Working job) port reply wanted now result later =
-    (turn : Turn) × IsTurn (granted port.request wanted) job reply turn × (result ≡ outcome_of port turn now) × (later ≡ turned (noting (answered port) (asked job) reply now) turn now)
+    (turn : Turn) × IsTurn port.apply_refused (granted port.request wanted) job reply turn × (result ≡ outcome_of port turn now) × (later ≡ turned (noting (answered port) (asked job) reply now) turn now)
 
 -- the module is read anew after the reply
 abbrev pub IsRestartedIn : Stage → Port → Reply → ℕ → Outcome → Port → Type 0

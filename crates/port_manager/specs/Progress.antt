@@ -1,5 +1,5 @@
 -- After how many operations a module is up. (this project's own)
-use Rattle.std.specs.Prelude.{◌≡◌, false, ℕ, ◌<◌, ◌≤◌, ◌+◌, ◌*◌, [], ◌∷◌}
+use Rattle.std.specs.Prelude.{◌≡◌, Bool, false, ℕ, ◌<◌, ◌≤◌, ◌+◌, ◌*◌, [], ◌∷◌}
 use Rattle.bus_model.specs.declared.operation.Op.{Op}
 use Rattle.port_manager.specs.declared.job.Job.{Job}
 use Rattle.port_manager.specs.declared.port.Outcome.{Outcome}
@@ -9,6 +9,7 @@ use Rattle.port_manager.specs.declared.port.Port.{Port}
 use Rattle.conversations.specs.declared.next.Next.TheVariants.{Do}
 use Rattle.port_manager.specs.declared.port.Stage.{Stage}
 use Rattle.port_manager.specs.declared.port.Stage.TheVariants as stages
+use Rattle.port_manager.specs.Jobs.{reading}
 use Rattle.port_manager.specs.Ports.{next_at, plugged}
 use Rattle.port_manager.specs.Runs.{Reaches, Runs}
 use Rattle.port_manager.specs.Stories.{Story, plug, pull, reconsider, acknowledge, ask, make, drop, hold, demand, hear}
@@ -81,6 +82,12 @@ abbrev pub ComesUp : Type 0
 ComesUp =
     (port later : Port) (now : ℕ) (story : Story) → Runs (plugged now port) story later → IsGoingOn story → 61 + 3 * paused_in story < made_in story
     → IsUpStage later.stage
+
+-- once so many were made since the module began to be read anew, as after each failure, it is up too
+abbrev pub ComesUpAnew : Type 0
+ComesUpAnew =
+    (port later : Port) (woken : Bool) (story : Story) → port.stage ≡ stages.Working (reading woken) → Runs port story later → IsGoingOn story
+    → 61 + 3 * paused_in story < made_in story → IsUpStage later.stage
 
 -- a port that works, and isn't to hold still, asks for an operation once it may
 abbrev pub NeverStops : Type 0

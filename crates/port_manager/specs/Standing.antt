@@ -13,7 +13,7 @@ use Rattle.port_manager.specs.declared.port.Port.{Port}
 use Rattle.port_manager.specs.Jobs.{activation_of, provisioning_of}
 use Rattle.port_manager.specs.Patients.{Patient}
 use Rattle.port_manager.specs.Ports.{IfWorking}
-use Rattle.port_manager.specs.Stories.{Story, acknowledge, again_in, ask, drop, held_in, hold, demand, hear, keeper_in, make, outstanding_in, plug, pull, reconsider, request_in, settled_in, silence_in, steps_of, vain_in}
+use Rattle.port_manager.specs.Stories.{Story, acknowledge, again_in, apply_refused_in, ask, drop, held_in, hold, demand, hear, keeper_in, make, outstanding_in, plug, pull, reconsider, request_in, settled_in, silence_in, steps_of, vain_in}
 use Rattle.port_manager.specs.Readings.{GivesActivation, GivesProvisioning, RestsIn, SinceRead, SleepsIn, TookSteps, WakesIn}
 
 -- the job works for the goal of the last reading, wakes up or goes to low power
@@ -97,6 +97,7 @@ pub record IsAt (story : Story) (port : Port) : Type 0 where
   pub held : port.held ≡ held_in story
   pub request : port.request ≡ request_in story
   pub silence : port.silence ≡ silence_in story
+  pub apply_refused : port.apply_refused ≡ apply_refused_in story
   pub founded : IfWorking port.stage (IsFounded (steps_of story))
   pub vain : port.vain ≡ vain_in story
   pub tame : IfTrue port.vain (IfWorking port.stage IsTame)

@@ -1,5 +1,5 @@
 -- What happened to a port, the newest first. (this project's own)
-use Rattle.std.specs.Prelude.{◌||◌, ℕ, max, Bool, true, false, List, [], ◌∷◌}
+use Rattle.std.specs.Prelude.{◌||◌, ◌&&◌, not, ℕ, max, Bool, true, false, List, [], ◌∷◌}
 use Rattle.bus_model.specs.declared.operation.Op.{Op}
 use Rattle.bus_model.specs.declared.operation.Reply.{Reply}
 use Rattle.bus_model.specs.declared.operation.Step.{Step}
@@ -16,7 +16,7 @@ use Rattle.port_manager.specs.Flags.{acknowledged, no_flags, noted, unread}
 use Rattle.port_manager.specs.declared.request.Request.{Request}
 use Rattle.port_manager.specs.declared.request.Request.TheVariants.{Wake}
 use Rattle.port_manager.specs.declared.silence.Silence.{Silence}
-use Rattle.port_manager.specs.Ports.{forsaken, is_vain, request_after}
+use Rattle.port_manager.specs.Ports.{forsaken, is_apply_refused, is_settled_by, is_vain, request_after}
 use Rattle.port_manager.specs.Requests.{ended}
 use Rattle.port_manager.specs.Silences as silences
 
@@ -124,6 +124,28 @@ vain_in (hear alive began ∷ before) = vain_in before
 vain_in (ask op moment ∷ before) = vain_in before
 vain_in (make op reply wanted now result ∷ before) = vain_by result (vain_in before)
 vain_in (drop ∷ before) = vain_in before
+
+-- an apply was refused, or was before, unless the control bytes became active, or the module was as wanted
+abbrev pub apply_refused_by : Outcome → Bool → Bool
+apply_refused_by outcome.Dropped before = before
+apply_refused_by (outcome.Went note) before = before && not (is_settled_by note)
+apply_refused_by (outcome.Paused moment) before = before
+apply_refused_by (outcome.Failed fault moment) before = before || is_apply_refused fault
+apply_refused_by (outcome.Left reason) before = before
+
+-- so it was since the module was plugged
+abbrev pub apply_refused_in : Story → Bool
+apply_refused_in [] = false
+apply_refused_in (plug now ∷ before) = false
+apply_refused_in (pull ∷ before) = false
+apply_refused_in (reconsider ∷ before) = apply_refused_in before
+apply_refused_in (hold held ∷ before) = apply_refused_in before
+apply_refused_in (demand request ∷ before) = apply_refused_in before
+apply_refused_in (acknowledge past ∷ before) = apply_refused_in before
+apply_refused_in (hear alive began ∷ before) = apply_refused_in before
+apply_refused_in (ask op moment ∷ before) = apply_refused_in before
+apply_refused_in (make op reply wanted now result ∷ before) = apply_refused_by result (apply_refused_in before)
+apply_refused_in (drop ∷ before) = apply_refused_in before
 
 -- the module is as it is wanted
 abbrev pub settled_note : Note → Bool → Bool

@@ -1,5 +1,5 @@
 -- What the reply to the operation of a job leads to, exactly. (this project's own)
-use Rattle.std.specs.Prelude.{◌≡◌, ℕ, Bool, true, false, Option, Some, None}
+use Rattle.std.specs.Prelude.{◌≡◌, ℕ, Bool, true, false, not, ◌&&◌, Option, Some, None}
 use Rattle.bus_model.specs.declared.operation.Reply.{Reply}
 use Rattle.conversations.specs.declared.next.Next.{Next}
 use Rattle.conversations.specs.declared.next.Next.TheVariants.{Do, Wait, End}
@@ -33,7 +33,8 @@ use Rattle.port_manager.specs.declared.turn.PortFault.TheVariants as fault
 use Rattle.port_manager.specs.declared.turn.ProcedureFault.{ProcedureFault}
 use Rattle.port_manager.specs.declared.turn.ProcedureFault.TheVariants as why
 use Rattle.port_manager.specs.Decisions.{IsDecision}
-use Rattle.port_manager.specs.Jobs.{activating, begun_by, paged_halves, paged_look, look_after, look_wants, procedure_after, procedure_wants, provisioning, sleeping, reading, reading_after, reading_wants, paged_tasks, waking, waking_after, waking_wants, watching}
+use Rattle.port_manager.specs.RefusedApplies.{is_refused_apply}
+use Rattle.port_manager.specs.Jobs.{activating, asked, begun_by, paged_halves, paged_look, look_after, look_wants, procedure_after, procedure_wants, provisioning, sleeping, reading, reading_after, reading_wants, paged_tasks, waking, waking_after, waking_wants, watching}
 use Rattle.port_manager.specs.Patients.{Patient, after_on, pause_after, wants_on}
 
 pub data Turn : Type 0 where
@@ -152,10 +153,19 @@ IsWatchingTurn job reply turn =
     GoesTo (look_wants later) (pause_after (wants_on paged_look) (after_on paged_look) job reply) (Watching later)
     (λ end turn. turn ≡ seen later.conversation.conversation.conversation.goal later.conversation.patience end) turn
 
-abbrev pub IsTurn : Wanted → Job → Reply → Turn → Type 0
-IsTurn wanted (Reading job woken) reply turn = IsReadingTurn wanted job woken reply turn
-IsTurn wanted (Waking job) reply turn = IsWakingTurn job reply turn
-IsTurn wanted (Sleeping job) reply turn = IsSleepingTurn job reply turn
-IsTurn wanted (Provisioning job goal) reply turn = IsProvisioningTurn job goal reply turn
-IsTurn wanted (Activating job goal) reply turn = IsActivatingTurn job goal reply turn
-IsTurn wanted (Watching job) reply turn = IsWatchingTurn job reply turn
+-- the job takes the reply
+abbrev pub IsTurnOf : Wanted → Job → Reply → Turn → Type 0
+IsTurnOf wanted (Reading job woken) reply turn = IsReadingTurn wanted job woken reply turn
+IsTurnOf wanted (Waking job) reply turn = IsWakingTurn job reply turn
+IsTurnOf wanted (Sleeping job) reply turn = IsSleepingTurn job reply turn
+IsTurnOf wanted (Provisioning job goal) reply turn = IsProvisioningTurn job goal reply turn
+IsTurnOf wanted (Activating job goal) reply turn = IsActivatingTurn job goal reply turn
+IsTurnOf wanted (Watching job) reply turn = IsWatchingTurn job reply turn
+
+-- unless the reply refuses an apply, and none was refused before: the module may have taken it, so it is read anew
+abbrev pub UnlessApplyRefused : Bool → (Turn → Type 0) → Turn → Type 0
+UnlessApplyRefused true GoesOn turn = turn ≡ Failed fault.ApplyRefused
+UnlessApplyRefused false GoesOn turn = GoesOn turn
+
+abbrev pub IsTurn : Bool → Wanted → Job → Reply → Turn → Type 0
+IsTurn apply_refused wanted job reply turn = UnlessApplyRefused (not apply_refused && is_refused_apply (asked job) reply) (IsTurnOf wanted job reply) turn

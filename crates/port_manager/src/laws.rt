@@ -21,7 +21,8 @@ ghost use Rattle.port_manager.specs.Idle.{LeavesWhatIsUp};
 ghost use Rattle.port_manager.specs.KeptFlags.{NoFlagIsLost};
 ghost use Rattle.port_manager.specs.Ports.{next_at};
 ghost use Rattle.port_manager.specs.Presences.{IsPulledBySilence};
-ghost use Rattle.port_manager.specs.Progress.{ComesUp, NeverStops};
+ghost use Rattle.port_manager.specs.Progress.{ComesUp, ComesUpAnew, NeverStops};
+ghost use Rattle.port_manager.specs.ReadAnew.{ReadsAnew};
 ghost use Rattle.port_manager.specs.Requested.{IsRequestDone};
 ghost use Rattle.port_manager.specs.Runs.{Reaches};
 ghost use Rattle.port_manager.specs.Stores.{IsStoreOf, MayMakeIn, StoresNothing, TakesPermitted};
@@ -51,6 +52,14 @@ pub fn what_is_up_is_left_alone()
     ensures image { LeavesWhatIsUp }
 {}
 
+/// After any story, an apply that was refused led to a failure, or to nothing if the module was to be read anew in any case: so nothing
+/// is stored before the module is read and judged anew, and an apply that the module took, and the bus refused, isn't stored again to
+/// lanes that came up by it. Of several that are refused, before the control bytes are active or the module is as wanted, that holds of
+/// the first.
+pub fn a_refused_apply_is_not_repeated_unread()
+    ensures { (story : Story) (port : Port) → Reaches story port → ReadsAnew story }
+{}
+
 /// What the calls of a port give, one after the other, is a story of which all that is said of stories holds: one operation at a
 /// time, none before the moment that the pause after an operation in vain, or a failure, leads to, and flags as they were read and
 /// acknowledged.
@@ -58,10 +67,11 @@ pub fn stories_are_lawful()
     ensures { (story : Story) (port : Port) → Reaches story port → IsAt story port }
 {}
 
-/// After a module was plugged, unless something fails, it is left alone, pulled or wanted otherwise: once more operations were made
-/// than 61, and 3 for each that was followed by a pause, it is up as it is wanted.
+/// After a module was plugged, or began to be read anew, as after each failure, unless something fails, it is left alone, pulled or
+/// wanted otherwise: once more operations were made than 61, and 3 for each that was followed by a pause, it is up as it is wanted.
 pub fn a_module_comes_up()
-    ensures { ComesUp }
+    ensures plugged { ComesUp }
+    ensures anew { ComesUpAnew }
 {}
 
 /// After any story, a port that is to hold still asks for nothing.

@@ -90,6 +90,9 @@ pub struct Port {
     pub request: Request,
     /// For how long its module hasn't answered.
     pub silence: Silence,
+    /// An apply was refused since the module was last provisioned or as wanted, and the module read anew for that: the next one that is
+    /// refused is stored again.
+    pub apply_refused: bool,
 }
 
 impl Port {
@@ -236,7 +239,7 @@ impl Port {
         match (due, &mut self.stage) {
             (Outstanding::Awaited, Stage::Working(job)) => {
                 note(&mut self.keeper, job, reply, now);
-                let course = job.turn(reply, &self.request.granted(wanted));
+                let course = job.turn(reply, &self.request.granted(wanted), self.apply_refused);
                 self.turned(course, now)
             }
             (Outstanding::Stale, Stage::Working(job)) => {
@@ -273,6 +276,7 @@ impl Port {
                 self.begin(Beginning::Reading(self.vain));
                 self.due = again;
                 self.back_off = doubled(self.back_off, self.times.most);
+                self.apply_refused = self.apply_refused || is_apply_refused(fault);
                 Outcome::Failed(fault, again)
             }
             Course::Left(reason) => {
@@ -302,6 +306,7 @@ impl Port {
             self.request = self.request.ended();
         }
         self.due = self.due.max(later(now, wait_of(self.times, note)));
+        self.apply_refused = self.apply_refused && !is_settled_by(note);
     }
 }
 
@@ -336,7 +341,34 @@ fn is_vain(fault: PortFault) -> bool
         | PortFault::Provisioning(_)
         | PortFault::Activating(_)
         | PortFault::Unseen
-        | PortFault::Changed => { false }
+        | PortFault::Changed
+        | PortFault::ApplyRefused => { false }
+    }
+}
+
+fn is_apply_refused(fault: PortFault) -> bool
+    ensures { result ≡ spec.is_apply_refused fault }
+{
+    match fault {
+        PortFault::ApplyRefused => true,
+        PortFault::Unread
+        | PortFault::Asleep
+        | PortFault::Waking(_)
+        | PortFault::Sleeping(_)
+        | PortFault::Provisioning(_)
+        | PortFault::Activating(_)
+        | PortFault::Unseen
+        | PortFault::Changed => false,
+    }
+}
+
+// The control bytes are active, or the module is as it is wanted.
+fn is_settled_by(note: Note) -> bool
+    ensures { result ≡ spec.is_settled_by note }
+{
+    match note {
+        Note::Provisioned | Note::CameUp | Note::Held => true,
+        Note::Quiet | Note::Identified | Note::Woken => false,
     }
 }
 
@@ -354,6 +386,7 @@ fn empty(times: Times, outstanding: Outstanding, flags: Flags, held: bool) -> Po
         held,
         request: Request::Wake,
         silence: Silence::none(),
+        apply_refused: false,
     }
 }
 

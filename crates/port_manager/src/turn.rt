@@ -2,7 +2,8 @@
 ghost use Rattle.std.specs.Prelude.{◌≡◌, Option};
 ghost use Rattle.conversations.specs.Wanted as conversations;
 ghost use Rattle.port_manager.specs.Jobs.{IsReplyTo, asked, look_wants, procedure_wants, reading_wants, waking_wants};
-ghost use Rattle.port_manager.specs.Turns.{IsRead, IsTurn, activated, decided, going, provisioned, seen, slept, turn_by, woken_up};
+ghost use Rattle.port_manager.specs.RefusedApplies.{is_refused_apply};
+ghost use Rattle.port_manager.specs.Turns.{IsRead, IsTurn, IsTurnOf, activated, decided, going, provisioned, seen, slept, turn_by, woken_up};
 ghost use Rattle.port_manager.specs.Turns as spec;
 ghost use Rattle.port_manager.specs.declared.job.Job.{Job};
 ghost use Rattle.port_manager.specs.declared.job.Job.TheVariants as jobs;
@@ -10,8 +11,8 @@ ghost use Rattle.port_manager.specs.declared.job.Job.TheVariants as jobs;
 use crate::deciding::{Decision, Goal, LeftBecause, Wanted, decide};
 use crate::job::{Beginning, Job, ReadingJob, WatchingJob};
 use crate::patient::advance;
-use bus_model::Reply;
-use control_sets::{PatientPower, PatientProcedure, ProvisionFault, patience_for};
+use bus_model::{Op, Reply};
+use control_sets::{PatientPower, PatientProcedure, ProvisionFault, is_apply, patience_for};
 use conversations::{Conversation, Next, Patience, Timed};
 use paged_memory::Image;
 
@@ -60,6 +61,8 @@ pub enum PortFault {
     Unseen,
     /// It is no longer as it was wanted.
     Changed,
+    /// An apply was refused, which the module may have taken all the same: before it is stored again, the module is read.
+    ApplyRefused,
 }
 
 /// What a reply leads to, beside what it makes of the job.
@@ -78,10 +81,22 @@ pub enum Course {
 }
 
 impl Job {
-    /// Takes the reply to the operation that was to be made. It is worked at in its place, since a reading takes much of a stack.
-    pub fn turn(&mut self, reply: &Reply, wanted: &Wanted) -> Course
+    /// Takes the reply to the operation that was to be made. An apply that is refused is stored again if one was refused before; else the
+    /// job fails by it. It is worked at in its place, since a reading takes much of a stack.
+    pub fn turn(&mut self, reply: &Reply, wanted: &Wanted, apply_refused: bool) -> Course
         requires { IsReplyTo (asked self.old) reply.now }
-        ensures { IsTurn wanted.now self.old reply.now (turn_by self.new result) }
+        ensures { IsTurn apply_refused wanted.now self.old reply.now (turn_by self.new result) }
+    {
+        if !apply_refused && is_refused_apply(&self.op(), reply) {
+            Course::Failed(PortFault::ApplyRefused)
+        } else {
+            self.turn_on(reply, wanted)
+        }
+    }
+
+    fn turn_on(&mut self, reply: &Reply, wanted: &Wanted) -> Course
+        requires { IsReplyTo (asked self.old) reply.now }
+        ensures { IsTurnOf wanted.now self.old reply.now (turn_by self.new result) }
     {
         match self {
             Job::Reading(reading, woken) => reading_turn(reading, *woken, reply, wanted),
@@ -91,6 +106,15 @@ impl Job {
             Job::Activating(procedure, goal) => activating_turn(procedure, *goal, reply),
             Job::Watching(look) => watching_turn(look, reply),
         }
+    }
+}
+
+fn is_refused_apply(asked: &Option<Op>, reply: &Reply) -> bool
+    ensures { result ≡ is_refused_apply asked.now reply.now }
+{
+    match (asked, reply) {
+        (Some(op), Reply::Refused) => is_apply(op),
+        (_, _) => false,
     }
 }
 
@@ -105,7 +129,7 @@ fn going(pause: Option<u32>) -> Course
 
 fn reading_turn(reading: &mut ReadingJob, woken: bool, reply: &Reply, wanted: &Wanted) -> Course
     requires { conversations.IsReplyTo (reading_wants reading.old) reply.now }
-    ensures { IsTurn wanted.now (jobs.Reading reading.old woken) reply.now (turn_by (jobs.Reading reading.new woken) result) }
+    ensures { IsTurnOf wanted.now (jobs.Reading reading.old woken) reply.now (turn_by (jobs.Reading reading.new woken) result) }
 {
     let pause = advance(reading, reply);
     match reading.next() {

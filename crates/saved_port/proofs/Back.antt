@@ -174,11 +174,13 @@ pub record Stands (saved : SavedPort) (port : Port) : Type 0 where
   pub request : request_in saved.request saved.request_lanes ≡ port.request
   pub refusals : saved.refusals ≡ port.silence.refusals
   pub since : saved.silent_since ≡ port.silence.since
+  pub apply_refused : saved.apply_refused ≡ number_of port.apply_refused
 
 with_stage : (saved : SavedPort) (port : Port) → Stands saved port → port_with saved port.stage ≡ port
 with_stage saved port stands =
     let vain = ap (λ (n : ℕ). n == 1) stands.vain ∙ yes_back port.vain in
     let held = ap (λ (n : ℕ). n == 1) stands.held ∙ yes_back port.held in
+    let apply_refused = ap (λ (n : ℕ). n == 1) stands.apply_refused ∙ yes_back port.apply_refused in
     let selected =
     ap (λ (n : ℕ). page_in n saved.page) stands.selection
     ∙ ap (λ (n : ℕ). page_in (numbers_of_page port.keeper.selected).0 n) stands.page
@@ -194,6 +196,7 @@ with_stage saved port stands =
       held = held i;
       request = stands.request i;
       silence = record { refusals = stands.refusals i; since = stands.since i };
+      apply_refused = apply_refused i;
     }
 
 pub saved_back : (saved : SavedPort) (port : Port) (image : Memory) → Stands saved port →

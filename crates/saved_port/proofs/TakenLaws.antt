@@ -18,8 +18,8 @@ use Rattle.port_manager.specs.Turns as turns
 use Rattle.port_manager.specs.Jobs.{IsReplyTo, activation_of, asked, provisioning_of, reading}
 use Rattle.port_manager.specs.Ports.{IfWorking, IsAwaitedBy, IsRestartedIn, IsTakenBy, IsTurnedIn, answered, asked_in, noting, turned, vain_after}
 use Rattle.port_manager.specs.Requests.{granted}
-use Rattle.port_manager.specs.Turns.{IsTurn, decided}
-use Rattle.port_manager.proofs.TurnCases.{Follows, later, pause_of, turn_all}
+use Rattle.port_manager.specs.Turns.{decided}
+use Rattle.port_manager.proofs.TurnCases.{Follows, IsAnyTurn, later, pause_of, turn_all}
 use Rattle.port_manager.proofs.TurnLaws.{IfOn, on_going}
 use Rattle.saved_port.specs.Known.{Begins, IsKnown, IsKnownJob, IsReadingAfter, ReadsOn, TellsSo}
 use Rattle.saved_port.proofs.ToldLaws.{begun_told, procedure_told}
@@ -60,7 +60,7 @@ follows_known wanted (Provisioning job goal) reply = begun_told (activation_of g
 follows_known wanted (Activating job goal) reply = tt
 follows_known wanted (Watching job) reply = tt
 
-turn_known : (wanted : Wanted) (reply : Reply) (job : Job) (turn : Turn) → TellsSo reply job → IsReplyTo (asked job) reply → IsKnownJob job → IsTurn wanted job reply turn → IfOn turn IsKnownJob
+turn_known : (wanted : Wanted) (reply : Reply) (job : Job) (turn : Turn) → TellsSo reply job → IsReplyTo (asked job) reply → IsKnownJob job → IsAnyTurn wanted job reply turn → IfOn turn IsKnownJob
 turn_known wanted reply job turn tells answers known is =
     turn_all (λ turn. IfOn turn IsKnownJob) (λ why. tt) wanted job reply turn
     (λ op e. on_going IsKnownJob (pause_of job reply) (later job reply) (later_known job reply tells answers known)) (follows_known wanted job reply) is
@@ -73,7 +73,7 @@ module _ (port : Port) (reply : Reply) (wanted : Wanted) (now : ℕ) (result : O
   turned_known Absent tells holds answers is = same_known is.1
   turned_known (Left reason) tells holds answers is = same_known is.1
   turned_known (Working job) tells holds answers (turn, leads, gives, is) =
-      subst (λ (p : Port). IsKnown p) (sym is) (turned_has IsKnownJob (λ woken. tt) (noting (answered port) (asked job) reply now) turn now (turn_known (granted port.request wanted) reply job turn tells answers holds leads))
+      subst (λ (p : Port). IsKnown p) (sym is) (turned_has IsKnownJob (λ woken. tt) (noting (answered port) (asked job) reply now) turn now (turn_known (granted port.request wanted) reply job turn tells answers holds (port.apply_refused, leads)))
 
   restarted_known : (stage : Stage) → IsRestartedIn stage port reply now result after → IsKnown after
   restarted_known Absent is = same_known is.1
@@ -114,7 +114,7 @@ module _ (before : Stage) (reply : Reply) where
   follows_reads wanted (Activating job goal) = tt
   follows_reads wanted (Watching job) = tt
 
-  turn_reads : (wanted : Wanted) (job : Job) (turn : Turn) → before ≡ Working job → IsTurn wanted job reply turn → IfOn turn (ReadsOn before reply)
+  turn_reads : (wanted : Wanted) (job : Job) (turn : Turn) → before ≡ Working job → IsAnyTurn wanted job reply turn → IfOn turn (ReadsOn before reply)
   turn_reads wanted job turn at is =
       turn_all (λ turn. IfOn turn (ReadsOn before reply)) (λ why. tt) wanted job reply turn
       (λ op e. on_going (ReadsOn before reply) (pause_of job reply) (later job reply) (later_reads job at)) (follows_reads wanted job) is
@@ -137,7 +137,7 @@ module _ (port : Port) (reply : Reply) (wanted : Wanted) (now : ℕ) (result : O
   turned_reads (Left reason) at is = idle_still (ReadsOn port.stage reply) (Left reason) after.stage (ap stage_of is.1 ∙ at) tt
   turned_reads (Working job) at (turn, leads, gives, is) =
       subst (λ (p : Port). IfWorking p.stage (ReadsOn port.stage reply)) (sym is)
-      (turned_has (ReadsOn port.stage reply) (λ woken. inr refl) (noting (answered port) (asked job) reply now) turn now (turn_reads port.stage reply (granted port.request wanted) job turn at leads))
+      (turned_has (ReadsOn port.stage reply) (λ woken. inr refl) (noting (answered port) (asked job) reply now) turn now (turn_reads port.stage reply (granted port.request wanted) job turn at (port.apply_refused, leads)))
 
   restarted_reads : (stage : Stage) → port.stage ≡ stage → IsRestartedIn stage port reply now result after → IfWorking after.stage Begins
   restarted_reads Absent at is = idle_still Begins Absent after.stage (ap stage_of is.1 ∙ at) tt

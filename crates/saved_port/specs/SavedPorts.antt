@@ -206,6 +206,7 @@ port_with saved stage = record {
   held = saved.held == 1;
   request = request_in saved.request saved.request_lanes;
   silence = record { refusals = saved.refusals; since = saved.silent_since };
+  apply_refused = saved.apply_refused == 1;
 }
 
 -- the port that has these numbers, and whose reading has read this; none for memory that is no port

@@ -78,3 +78,4 @@ pub record IsShown (port : Port) (saved : SavedPort) : Type 0 where
   pub left : saved.left ≡ left_in port.stage
   pub request : saved.request ≡ number_of_request port.request
   pub lanes : saved.request_lanes ≡ lanes_of_request port.request
+  pub apply_refused : saved.apply_refused ≡ number_of port.apply_refused

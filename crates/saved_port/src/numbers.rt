@@ -112,6 +112,6 @@ pub struct SavedPort {
     pub request_lanes: u8,
     /// Byte 0 of the lower memory, as it was last read, or 0.
     pub identifier: u8,
-    /// A zero, by which the halves begin where C has them.
-    pub spare: u8,
+    /// 1 if an apply was refused, for which the module was read anew.
+    pub apply_refused: u8,
 }

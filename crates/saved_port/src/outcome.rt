@@ -103,6 +103,7 @@ fn number_of_failure(fault: PortFault) -> u8
         PortFault::Unseen => 6,
         PortFault::Changed => 7,
         PortFault::Sleeping(_) => 8,
+        PortFault::ApplyRefused => 9,
     }
 }
 
@@ -114,9 +115,11 @@ fn numbers_of_fault(fault: PortFault) -> SavedFault
         | PortFault::Sleeping(fault)
         | PortFault::Provisioning(fault)
         | PortFault::Activating(fault) => numbers_of_procedure(fault),
-        PortFault::Unread | PortFault::Asleep | PortFault::Unseen | PortFault::Changed => {
-            SavedFault::of(None)
-        }
+        PortFault::Unread
+        | PortFault::Asleep
+        | PortFault::Unseen
+        | PortFault::Changed
+        | PortFault::ApplyRefused => SavedFault::of(None),
     }
 }
 

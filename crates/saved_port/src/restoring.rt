@@ -57,6 +57,7 @@ fn put_rest(saved: &SavedPort, port: &mut Port)
         refusals: saved.refusals,
         since: saved.silent_since,
     };
+    port.apply_refused = saved.apply_refused == 1;
 }
 
 fn times_in(saved: SavedTimes) -> Times

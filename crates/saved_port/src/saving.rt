@@ -36,6 +36,7 @@ pub fn save(port: &Port, half_count: u16) -> SavedPort
     let outstanding = number_of_outstanding(port.outstanding);
     let vain = work::number_of(port.vain);
     let request = numbers_of_request(port.request);
+    let apply_refused = work::number_of(port.apply_refused);
     let stage = numbers_of(&port.stage);
     SavedPort {
         flags,
@@ -58,7 +59,7 @@ pub fn save(port: &Port, half_count: u16) -> SavedPort
         request: request.number,
         request_lanes: request.lanes,
         identifier: port.keeper.identifier,
-        spare: 0,
+        apply_refused,
     }
 }
 

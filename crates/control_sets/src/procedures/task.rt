@@ -5,7 +5,7 @@ ghost use Rattle.control_sets.specs.RegisterOperations as operations;
 
 use crate::control_set::ControlSet;
 use arrayvec::ArrayVec;
-use bus_model::{MAX_STORE, Op};
+use bus_model::{Dev, MAX_STORE, Op};
 use field_tables::{LaneSet, Register, register};
 
 /// One thing that a procedure brings about, by one operation that is made until its reply is as wanted. In a byte of bits
@@ -73,6 +73,20 @@ impl Task {
             Task::AwaitApplied(_) => Register::CConfigStatus,
             Task::CheckActive(_) => Register::CActiveControl,
         }
+    }
+}
+
+/// Whether the operation stores ApplyDPInit, if page 10h shows.
+pub fn is_apply(op: &Op) -> bool
+    ensures { result ≡ operations.is_apply op.now }
+{
+    match op {
+        Op::Store {
+            dev: Dev::A0,
+            offset,
+            ..
+        } => *offset == register(Register::CApplyDPInit).first,
+        _ => false,
     }
 }
 

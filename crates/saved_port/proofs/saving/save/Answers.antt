@@ -19,6 +19,7 @@ returns-clause-same c image read known =
       request = c.numbers_of_request-request.ensures.same;
       refusals = refl;
       since = refl;
+      apply_refused = c.number_of-apply_refused.ensures;
     }) (c.numbers_of-stage.ensures.same image read known)
 
 pub returns-clause-shown : goal.returns-clause-shown
@@ -27,4 +28,5 @@ returns-clause-shown c = record {
   left = c.numbers_of-stage.ensures.left;
   request = c.numbers_of_request-request.ensures.number;
   lanes = c.numbers_of_request-request.ensures.lanes;
+  apply_refused = c.number_of-apply_refused.ensures;
 }
