@@ -73,3 +73,8 @@ pub none_within : (outcome : Outcome) (wanted : Next (Spent (Timed Outcome))) �
 none_within outcome (Do op) none = none
 none_within outcome (Wait time) none = none
 none_within outcome (End spent) none = none
+
+pub none_ending : (outcome : Outcome) (wanted : Next (Spent (Timed Outcome))) → ¬ (IsWait (ending_as outcome wanted)) → ¬ (IsWait wanted)
+none_ending outcome (Do op) none = none
+none_ending outcome (Wait time) none = none
+none_ending outcome (End spent) none = none

@@ -169,7 +169,9 @@ impl Conversation for Attempt {
     }
 
     fn waited(&mut self) {
-        self.rested();
+        if self.outcome.is_none() {
+            self.rested();
+        }
     }
 
     fn asked(&mut self, _number: u32) {}

@@ -103,6 +103,7 @@ impl Conversation for Delivery {
         ensures told { (events : Events) (time : ℕ) → delivery_wants self.old ≡ Wait time → ToldDelivery events self.old →
             ToldDelivery (Waited time ∷ events) self.new }
         ensures once { ¬ (IsWait (delivery_wants self.new)) }
+        ensures out_of_turn { ¬ (IsWait (delivery_wants self.old)) → self.new ≡ self.old }
         ensures rested { IsRested self.old self.new }
     {
         self.patient.waited();

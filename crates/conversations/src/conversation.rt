@@ -57,12 +57,13 @@ pub trait Conversation {
         ensures told { (events : Events) (op : Op) → wants self.old ≡ Do op → told events self.old →
             told (made op reply.now ∷ events) self.new };
 
-    /// So long as was asked for has passed. Where no wait is wanted, all that it promises is that none is wanted then either.
+    /// So long as was asked for has passed. Where no wait is wanted, nothing changes.
     fn waited(&mut self)
         ensures topic { topic self.new ≡ topic self.old }
         ensures told { (events : Events) (time : ℕ) → wants self.old ≡ Wait time → told events self.old →
             told (Waited time ∷ events) self.new }
-        ensures once { ¬ (IsWait (wants self.new)) };
+        ensures once { ¬ (IsWait (wants self.new)) }
+        ensures out_of_turn { ¬ (IsWait (wants self.old)) → self.new ≡ self.old };
 
     /// The caller says this, whatever comes next. A conversation that knows no such number goes on as it was.
     fn asked(&mut self, number: u32)

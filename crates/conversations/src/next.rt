@@ -15,6 +15,18 @@ pub enum Next<E> {
     End(E),
 }
 
+impl<E> Next<E> {
+    ghost use Rattle.std.specs.Prelude.{◌↔◌, IsTrue};
+    ghost use Rattle.conversations.specs.Wanted.{IsWait};
+
+    /// Whether time is to pass.
+    pub fn is_wait(&self) -> bool
+        ensures { IsTrue result ↔ IsWait self.now }
+    {
+        matches!(self, Next::Wait(_))
+    }
+}
+
 /// Whether the operation can have a reply of this kind, with so many bytes.
 pub fn can_have(op: &Op, reply: &Reply) -> bool
     ensures { IsTrue result ↔ Answers op.now reply.now }

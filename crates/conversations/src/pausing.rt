@@ -95,6 +95,9 @@ where
     }
 
     fn waited(&mut self) {
+        if !self.next().is_wait() {
+            return;
+        }
         match op_in(self.conversation.next()) {
             Some(_op) => self.idle = self.idle.saturating_add(self.patience.pause),
             None => self.conversation.waited(),

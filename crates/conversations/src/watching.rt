@@ -100,8 +100,10 @@ where
     }
 
     fn waited(&mut self) {
-        self.conversation.waited();
-        self.look = look_after_wait(self.watches, self.look);
+        if self.conversation.next().is_wait() {
+            self.conversation.waited();
+            self.look = look_after_wait(self.watches, self.look);
+        }
     }
 
     fn asked(&mut self, number: u32) {

@@ -32,7 +32,9 @@ impl Conversation for VdmReading {
     }
 
     fn waited(&mut self) {
-        self.due = false;
+        if self.wanted().is_wait() {
+            self.due = false;
+        }
     }
 
     fn asked(&mut self, _number: u32) {}

@@ -1,8 +1,9 @@
-use Rattle.std.proofs.Common.{subst, sym}
-use Rattle.command_block.specs.Deliveries.{Terms, attempt_in, patient_wants}
+use Rattle.std.proofs.Common.{ap, subst, sym}
+use Rattle.command_block.specs.declared.delivery.Delivery.{Delivery}
+use Rattle.command_block.specs.Deliveries.{Patient, Terms, attempt_in, patient_wants}
 use Rattle.command_block.specs.Phases.{known}
 use Rattle.command_block.specs.Turns.{HasTurned}
-use Rattle.command_block.proofs.Delivered.{none_within, wait_within}
+use Rattle.command_block.proofs.Delivered.{none_ending, none_within, wait_within}
 use Rattle.command_block.proofs.delivery.DeliveryConversation.waited.Goals as goal
 
 pub returns-clause-rested : goal.returns-clause-rested
@@ -19,3 +20,9 @@ returns-clause-told c events time asks told =
     let old = c.args.self.now in
     let rested = returns-clause-rested c in
     (rested.told events time asks told.0, (old, subst (λ (t : Terms). HasTurned t events old) (sym rested.terms) told.1, asks, rested))
+
+pub returns-clause-out_of_turn : goal.returns-clause-out_of_turn
+returns-clause-out_of_turn c none =
+    let patient = c.args.self.now.patient in
+    let delivery_of : Patient → Delivery = λ it. record { patient = it } in
+    ap delivery_of (c.waited.ensures.out_of_turn (none_ending (known (attempt_in patient)) (patient_wants patient) none))

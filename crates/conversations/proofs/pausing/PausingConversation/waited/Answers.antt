@@ -15,7 +15,7 @@ returns-clause-told g c events time asks (own, adds, at) =
     let wanted = g.C.Conversation.wants old.conversation in
     let Told : Pausing g.row.C.Denot → Type 0 = λ pausing.
     WithPauses pausing.patience (λ own. g.C.Conversation.told own pausing.conversation) (op_of (g.C.Conversation.wants pausing.conversation)) false pausing.idle (Waited time ∷ events) in
-    let found : c.op_in.result ≡ op_of wanted = c.op_in.ensures ∙ ap (λ (n : Next g.row.C-End.Denot). op_of n) c.next.ensures.value in
+    let found : c.op_in.result ≡ op_of wanted = c.op_in.ensures ∙ ap (λ (n : Next g.row.C-End.Denot). op_of n) c.next-2.ensures.value in
     elim c.match-op_in.branch [
       | in-Some w ↦
           let op_is : op_of wanted ≡ Some w.in-Some._op = sym found ∙ w.in-Some.is in
