@@ -73,6 +73,74 @@ static void stop_if_no_operation(const struct dovecounter_operation *it) {
     stop_if(it->offset + it->count > 256 || (it->offset < 128 && it->offset + it->count > 128), "two halves");
 }
 
+/* ---- what conversations have in common ---- */
+
+enum { STATUS = 37, SELECTION = 126, FILE_BYTES = 300 };
+
+static uint8_t selected[2];
+
+/* What comes of an operation. */
+struct made {
+    uint8_t outcome;
+    const uint8_t *bytes;
+    size_t count;
+};
+
+/* On a bus that refuses one of eight, a module shows the page that was selected and success, and else bytes of the input. */
+static struct made made_of(struct dovecounter_operation operation) {
+    uint8_t how = byte();
+    stop_if_no_operation(&operation);
+    if (operation.kind == DOVECOUNTER_WAIT) return (struct made){DOVECOUNTER_WAITED, room(OUT, 0), 0};
+    if (how % 8 == 7) return (struct made){DOVECOUNTER_REFUSED, room(OUT, 0), 0};
+    if (operation.kind == DOVECOUNTER_STORE) {
+        if (operation.offset == SELECTION) memcpy(selected, operation.bytes, 2);
+        return (struct made){DOVECOUNTER_STORED, room(OUT, 0), 0};
+    }
+    uint8_t *bytes = filled(OUT, operation.count);
+    if (operation.offset == SELECTION && operation.count == 2 && how < 0xF0) memcpy(bytes, selected, 2);
+    if (operation.offset == STATUS && how < 0xE0) bytes[0] = 1;
+    return (struct made){DOVECOUNTER_FETCHED, bytes, operation.count};
+}
+
+/* reply_to_NAME: a reply, of any kind, to the conversation of NAME, which is kept at `kept`. REPLY(it, outcome, bytes, count) is the call. */
+#define REPLY_TO(name, kept, reply)                                                                                    \
+    static uint32_t reply_to_##name(uint8_t outcome, const uint8_t *bytes, size_t count) {                             \
+        void *it = copied(BYTES, &kept, sizeof kept);                                                                  \
+        uint32_t status = reply(it, outcome, bytes, count);                                                            \
+        judge(status, #reply, LIST(31, 32, 34), it, 0);                                                                \
+        stop_if(status != 0 && memcmp(it, &kept, sizeof kept) != 0, "a refused reply changes " #kept);                 \
+        memcpy(&kept, it, sizeof kept);                                                                                \
+        return status;                                                                                                 \
+    }
+
+/* go_on_with_NAME: some operations, as many as a byte says times `each`, and replies by made_of. NEXT(it) is the call. */
+#define GO_ON_WITH(name, each, next)                                                                                   \
+    static void go_on_with_##name(void) {                                                                              \
+        for (int steps = byte() * (each); steps > 0; steps--) {                                                        \
+            ASK(struct dovecounter_operation, operation, LIST(31, 32), next);                                          \
+            if (status) break;                                                                                         \
+            struct made made = made_of(*operation);                                                                    \
+            stop_if(reply_to_##name(made.outcome, made.bytes, made.count) != 0, "a reply after " #next);               \
+        }                                                                                                              \
+        end_##name();                                                                                                  \
+    }
+
+/* disturb_NAME: a changed number, or a reply of any kind, by the byte that it answers. After that call_NAME only ends. */
+#define DISTURB(name, kept)                                                                                            \
+    static uint8_t disturb_##name(void) {                                                                              \
+        uint8_t what = byte();                                                                                         \
+        if (what & 1) change(&kept, sizeof kept);                                                                      \
+        size_t size = byte();                                                                                          \
+        if (what & 4) reply_to_##name(what >> 4, filled(OUT, size), size);                                             \
+        return what;                                                                                                   \
+    }
+#define CALL(name, kept)                                                                                               \
+    DISTURB(name, kept)                                                                                                \
+    static void call_##name(void) {                                                                                    \
+        disturb_##name();                                                                                              \
+        end_##name();                                                                                                  \
+    }
+
 /* ---- conversations ---- */
 
 static struct dovecounter_conversation conversation;
@@ -99,14 +167,8 @@ static void begin_conversation(void) {
     if (!judge(status, "begin", LIST(36), it, sizeof *it)) conversation = *it;
 }
 
-static uint32_t reply(uint8_t outcome, const uint8_t *bytes, size_t count) {
-    struct dovecounter_conversation *it = copied(BYTES, &conversation, sizeof conversation);
-    uint32_t status = dovecounter_reply(it, read_halves, outcome, bytes, count);
-    judge(status, "reply", LIST(31, 32, 34), it, 0);
-    stop_if(status && memcmp(it, &conversation, sizeof *it), "a refused reply changes the conversation");
-    conversation = *it;
-    return status;
-}
+#define REPLY(it, outcome, bytes, count) dovecounter_reply(it, read_halves, outcome, bytes, count)
+REPLY_TO(conversation, conversation, REPLY)
 
 static uint32_t end_conversation(void) {
 #define END(it) dovecounter_end(&conversation, read_halves, it)
@@ -129,7 +191,7 @@ static void go_on(void) {
             outcome = operation.kind == DOVECOUNTER_STORE ? DOVECOUNTER_STORED : DOVECOUNTER_FETCHED;
         }
         size_t count = outcome == DOVECOUNTER_FETCHED ? operation.count : 0;
-        stop_if(reply(outcome, room(OUT, count), count) != 0, "a reply that fits");
+        stop_if(reply_to_conversation(outcome, room(OUT, count), count) != 0, "a reply that fits");
     }
     end_conversation();
 }
@@ -140,16 +202,14 @@ static void call_conversation(void) {
     if (what & 1) change(&conversation, sizeof conversation);
     if (what & 2) change(read_halves, DOVECOUNTER_MOST_READ * sizeof *halves);
     size_t size = byte();
-    if (what & 4) reply(what >> 4, filled(OUT, size), size);
+    if (what & 4) reply_to_conversation(what >> 4, filled(OUT, size), size);
     end_conversation();
 }
 
 /* ---- firmware ---- */
 
-enum { STATUS = 37, SELECTION = 126, FILE_BYTES = 300 };
-
 static struct dovecounter_update update;
-static uint8_t *file, selected[2];
+static uint8_t *file;
 static size_t file_size;
 
 static void begin_update(void) {
@@ -168,16 +228,17 @@ static void begin_update(void) {
     update = *it;
 }
 
-static uint32_t reply_to_update(uint8_t outcome, const uint8_t *bytes, size_t count) {
-    struct dovecounter_update *it = copied(BYTES, &update, sizeof update);
-    uint32_t status = dovecounter_update_reply(it, file, file_size, outcome, bytes, count);
-    judge(status, "update_reply", LIST(31, 32, 34), it, 0);
-    stop_if(status && memcmp(it, &update, sizeof *it), "a refused reply changes the update");
-    update = *it;
-    return status;
+#define UPDATE_REPLY(it, outcome, bytes, count) dovecounter_update_reply(it, file, file_size, outcome, bytes, count)
+REPLY_TO(update, update, UPDATE_REPLY)
+
+static void look_at_update(void) {
+#define PROGRESS(it) dovecounter_update_progress(&update, file, file_size, it)
+    ASK(struct dovecounter_update_progress, found, LIST(31), PROGRESS);
+    if (!status) stop_if(found->sent > found->all || found->known > 9, "progress");
 }
 
 static void end_update(void) {
+    look_at_update();
 #define UPDATE_END(it) dovecounter_update_end(&update, file, file_size, it)
     ASK(struct dovecounter_update_ending, found, LIST(31, 33), UPDATE_END);
     if (status) return;
@@ -187,54 +248,13 @@ static void end_update(void) {
     stop_if(banks->running > 2 || banks->committed > 2, "banks");
 }
 
-static void look_at_update(void) {
-#define PROGRESS(it) dovecounter_update_progress(&update, file, file_size, it)
-    ASK(struct dovecounter_update_progress, found, LIST(31), PROGRESS);
-    if (!status) stop_if(found->sent > found->all || found->known > 9, "progress");
-}
-
-/* What comes of an operation. */
-struct made {
-    uint8_t outcome;
-    const uint8_t *bytes;
-    size_t count;
-};
-
-/* On a bus that refuses one of eight, a module shows the page that was selected and success, and else bytes of the input. */
-static struct made made_of(struct dovecounter_operation operation) {
-    uint8_t how = byte();
-    stop_if_no_operation(&operation);
-    if (operation.kind == DOVECOUNTER_WAIT) return (struct made){DOVECOUNTER_WAITED, room(OUT, 0), 0};
-    if (how % 8 == 7) return (struct made){DOVECOUNTER_REFUSED, room(OUT, 0), 0};
-    if (operation.kind == DOVECOUNTER_STORE) {
-        if (operation.offset == SELECTION) memcpy(selected, operation.bytes, 2);
-        return (struct made){DOVECOUNTER_STORED, room(OUT, 0), 0};
-    }
-    uint8_t *bytes = filled(OUT, operation.count);
-    if (operation.offset == SELECTION && operation.count == 2 && how < 0xF0) memcpy(bytes, selected, 2);
-    if (operation.offset == STATUS && how < 0xE0) bytes[0] = 1;
-    return (struct made){DOVECOUNTER_FETCHED, bytes, operation.count};
-}
-
-static void go_on_with_update(void) {
-    for (int steps = byte() * 4; steps > 0; steps--) {
 #define UPDATE_NEXT(it) dovecounter_update_next(&update, file, file_size, it)
-        ASK(struct dovecounter_operation, next, LIST(31, 32), UPDATE_NEXT);
-        if (status) break;
-        struct made made = made_of(*next);
-        stop_if(reply_to_update(made.outcome, made.bytes, made.count) != 0, "a reply");
-    }
-    look_at_update();
-    end_update();
-}
+GO_ON_WITH(update, 4, UPDATE_NEXT)
+DISTURB(update, update)
 
-/* A reply of any kind, or a changed number; and what a module advertises. */
+/* Also what a module advertises. */
 static void call_update(void) {
-    uint8_t what = byte();
-    if (what & 1) change(&update, sizeof update);
-    size_t size = byte();
-    if (what & 4) reply_to_update(what >> 4, filled(OUT, size), size);
-    look_at_update();
+    disturb_update();
     end_update();
     struct dovecounter_command_block *block = painted(OUT, sizeof *block);
     dovecounter_command_block(filled(SMALL, 4), block);
@@ -253,14 +273,8 @@ static void begin_change(void) {
     if (!status) changing = *found;
 }
 
-static uint32_t reply_to_change(uint8_t outcome, const uint8_t *bytes, size_t count) {
-    struct dovecounter_changing_lanes *it = copied(BYTES, &changing, sizeof changing);
-    uint32_t status = dovecounter_lane_reply(it, outcome, bytes, count);
-    judge(status, "lane_reply", LIST(31, 32, 34), it, 0);
-    stop_if(status && memcmp(it, &changing, sizeof *it), "a refused reply changes the change");
-    changing = *it;
-    return status;
-}
+#define LANE_REPLY(it, outcome, bytes, count) dovecounter_lane_reply(it, outcome, bytes, count)
+REPLY_TO(change, changing, LANE_REPLY)
 
 static void end_change(void) {
 #define LANE_END(it) dovecounter_lane_end(&changing, it)
@@ -270,25 +284,9 @@ static void end_change(void) {
     stop_if(found->lanes != 0 && found->outcome != DOVECOUNTER_LANES_NOT_PERMITTED, "lanes of another end");
 }
 
-static void go_on_with_change(void) {
-    for (int steps = byte(); steps > 0; steps--) {
 #define LANE_NEXT(it) dovecounter_lane_next(&changing, it)
-        ASK(struct dovecounter_operation, next, LIST(31, 32), LANE_NEXT);
-        if (status) break;
-        struct made made = made_of(*next);
-        stop_if(reply_to_change(made.outcome, made.bytes, made.count) != 0, "a reply");
-    }
-    end_change();
-}
-
-/* A reply of any kind, or a changed number. */
-static void call_change(void) {
-    uint8_t what = byte();
-    if (what & 1) change(&changing, sizeof changing);
-    size_t size = byte();
-    if (what & 4) reply_to_change(what >> 4, filled(OUT, size), size);
-    end_change();
-}
+GO_ON_WITH(change, 1, LANE_NEXT)
+CALL(change, changing)
 
 /* ---- links ---- */
 
@@ -311,14 +309,8 @@ static void begin_test(void) {
     if (!status) testing = *found;
 }
 
-static uint32_t reply_to_test(uint8_t outcome, const uint8_t *bytes, size_t count) {
-    struct dovecounter_link_test *it = copied(BYTES, &testing, sizeof testing);
-    uint32_t status = dovecounter_link_test_reply(it, outcome, bytes, count);
-    judge(status, "link_test_reply", LIST(31, 32, 34), it, 0);
-    stop_if(status && memcmp(it, &testing, sizeof *it), "a refused reply changes the test");
-    testing = *it;
-    return status;
-}
+#define LINK_REPLY(it, outcome, bytes, count) dovecounter_link_test_reply(it, outcome, bytes, count)
+REPLY_TO(test, testing, LINK_REPLY)
 
 static void end_test(void) {
 #define LINK_END(it) dovecounter_link_test_end(&testing, it)
@@ -336,28 +328,17 @@ static void end_test(void) {
     stop_if(!status && found->outcome > DOVECOUNTER_LINK_GAVE_UP, "the end of a test");
 }
 
-static void go_on_with_test(void) {
-    for (int steps = byte(); steps > 0; steps--) {
 #define LINK_NEXT(it) dovecounter_link_test_next(&testing, it)
-        ASK(struct dovecounter_operation, next, LIST(31, 32), LINK_NEXT);
-        if (status) break;
-        struct made made = made_of(*next);
-        stop_if(reply_to_test(made.outcome, made.bytes, made.count) != 0, "a reply");
-    }
-    end_test();
-}
+GO_ON_WITH(test, 1, LINK_NEXT)
+DISTURB(test, testing)
 
-/* A reply of any kind, a stop, or a changed number. */
+/* Also a stop. */
 static void call_test(void) {
-    uint8_t what = byte();
-    if (what & 1) change(&testing, sizeof testing);
-    if (what & 2) {
+    if (disturb_test() & 2) {
         struct dovecounter_link_test *it = copied(BYTES, &testing, sizeof testing);
         judge(dovecounter_link_test_stop(it), "link_test_stop", LIST(31), it, 0);
         testing = *it;
     }
-    size_t size = byte();
-    if (what & 4) reply_to_test(what >> 4, filled(OUT, size), size);
     end_test();
 }
 
@@ -374,18 +355,16 @@ static void begin_vdm(void) {
     statistics = *found;
 }
 
-static uint32_t reply_to_vdm(uint8_t outcome, const uint8_t *bytes, size_t count) {
-    struct dovecounter_vdm *it = copied(BYTES, &statistics, sizeof statistics);
+/* Nor does a refused reply change halves. */
+static uint32_t vdm_reply(struct dovecounter_vdm *it, uint8_t outcome, const uint8_t *bytes, size_t count) {
     struct dovecounter_half before[DOVECOUNTER_MOST_VDM];
     memcpy(before, read_statistics, sizeof before);
     uint32_t status = dovecounter_vdm_reply(it, read_statistics, outcome, bytes, count);
-    judge(status, "vdm_reply", LIST(31, 32, 34), it, 0);
-    stop_if(status && memcmp(it, &statistics, sizeof *it), "a refused reply changes the reading");
     stop_if(status && memcmp(before, read_statistics, sizeof before), "a refused reply changes halves");
     stop_if(!status && it->halves > DOVECOUNTER_MOST_VDM, "more halves than may be");
-    statistics = *it;
     return status;
 }
+REPLY_TO(vdm, statistics, vdm_reply)
 
 static void end_vdm(void) {
 #define VDM_END(it) dovecounter_vdm_end(&statistics, read_statistics, it)
@@ -395,25 +374,9 @@ static void end_vdm(void) {
     stop_if(found->release != statistics.release, "another release at the end");
 }
 
-static void go_on_with_vdm(void) {
-    for (int steps = byte(); steps > 0; steps--) {
 #define VDM_NEXT(it) dovecounter_vdm_next(&statistics, read_statistics, it)
-        ASK(struct dovecounter_operation, next, LIST(31, 32), VDM_NEXT);
-        if (status) break;
-        struct made made = made_of(*next);
-        stop_if(reply_to_vdm(made.outcome, made.bytes, made.count) != 0, "a reply");
-    }
-    end_vdm();
-}
-
-/* A reply of any kind, or a changed number. */
-static void call_vdm(void) {
-    uint8_t what = byte();
-    if (what & 1) change(&statistics, sizeof statistics);
-    size_t size = byte();
-    if (what & 4) reply_to_vdm(what >> 4, filled(OUT, size), size);
-    end_vdm();
-}
+GO_ON_WITH(vdm, 1, VDM_NEXT)
+CALL(vdm, statistics)
 
 /* ---- ports ---- */
 

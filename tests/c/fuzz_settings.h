@@ -29,14 +29,8 @@ static void begin_settings(void) {
     if (!status) tuning = *found;
 }
 
-static uint32_t reply_to_settings(uint8_t outcome, const uint8_t *bytes, size_t count) {
-    struct dovecounter_changing_settings *it = copied(BYTES, &tuning, sizeof tuning);
-    uint32_t status = dovecounter_settings_reply(it, outcome, bytes, count);
-    judge(status, "settings_reply", LIST(31, 32, 34), it, 0);
-    stop_if(status && memcmp(it, &tuning, sizeof *it), "a refused reply changes the settings");
-    tuning = *it;
-    return status;
-}
+#define SETTINGS_REPLY(it, outcome, bytes, count) dovecounter_settings_reply(it, outcome, bytes, count)
+REPLY_TO(settings, tuning, SETTINGS_REPLY)
 
 static void end_settings(void) {
 #define SETTINGS_END(it) dovecounter_settings_end(&tuning, it)
@@ -46,23 +40,12 @@ static void end_settings(void) {
     stop_if(found->reached > 2, "what it reached");
 }
 
-static void go_on_with_settings(void) {
-    for (int steps = byte(); steps > 0; steps--) {
 #define SETTINGS_NEXT(it) dovecounter_settings_next(&tuning, it)
-        ASK(struct dovecounter_operation, next, LIST(31, 32), SETTINGS_NEXT);
-        if (status) break;
-        struct made made = made_of(*next);
-        stop_if(reply_to_settings(made.outcome, made.bytes, made.count) != 0, "a reply about settings");
-    }
-    end_settings();
-}
+GO_ON_WITH(settings, 1, SETTINGS_NEXT)
+DISTURB(settings, tuning)
 
-/* A reply of any kind, or a changed number. */
 static void call_tuning(void) {
-    uint8_t what = byte();
-    if (what & 1) change(&tuning, sizeof tuning);
-    size_t size = byte();
-    if (what & 4) reply_to_settings(what >> 4, filled(OUT, size), size);
+    disturb_settings();
     end_settings();
 }
 
@@ -80,14 +63,8 @@ static void begin_explicit(void) {
     kept_count = 0, kept = room(KEPT, 0);
 }
 
-static uint32_t reply_to_explicit(uint8_t outcome, const uint8_t *bytes, size_t count) {
-    struct dovecounter_explicit *it = copied(BYTES, &provisioning, sizeof provisioning);
-    uint32_t status = dovecounter_explicit_reply(it, outcome, bytes, count);
-    judge(status, "explicit_reply", LIST(31, 32, 34), it, 0);
-    stop_if(status && memcmp(it, &provisioning, sizeof *it), "a refused reply changes provisioning with settings");
-    provisioning = *it;
-    return status;
-}
+#define EXPLICIT_REPLY(it, outcome, bytes, count) dovecounter_explicit_reply(it, outcome, bytes, count)
+REPLY_TO(explicit, provisioning, EXPLICIT_REPLY)
 
 static void end_explicit(void) {
 #define EXPLICIT_END(it) dovecounter_explicit_end(&provisioning, it)
@@ -98,24 +75,7 @@ static void end_explicit(void) {
     stop_if(found->fault.code > 10 || (found->fault.code && found->steps), "a failure with steps");
 }
 
-static void go_on_with_explicit(void) {
-    for (int steps = byte(); steps > 0; steps--) {
 #define EXPLICIT_NEXT(it) dovecounter_explicit_next(&provisioning, it)
-        ASK(struct dovecounter_operation, next, LIST(31, 32), EXPLICIT_NEXT);
-        if (status) break;
-        struct made made = made_of(*next);
-        stop_if(reply_to_explicit(made.outcome, made.bytes, made.count) != 0,
-                "a reply while provisioning with settings");
-    }
-    end_explicit();
-}
-
-/* A reply of any kind, or a changed number. */
-static void call_explicit(void) {
-    uint8_t what = byte();
-    if (what & 1) change(&provisioning, sizeof provisioning);
-    size_t size = byte();
-    if (what & 4) reply_to_explicit(what >> 4, filled(OUT, size), size);
-    end_explicit();
-}
+GO_ON_WITH(explicit, 1, EXPLICIT_NEXT)
+CALL(explicit, provisioning)
 #endif
