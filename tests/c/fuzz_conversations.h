@@ -242,7 +242,8 @@ static void end_update(void) {
 #define UPDATE_END(it) dovecounter_update_end(&update, file, file_size, it)
     ASK(struct dovecounter_update_ending, found, LIST(31, 33), UPDATE_END);
     if (status) return;
-    stop_if(found->fault > 6 || found->known > 9 || found->count > 128, "the end of an update");
+    stop_if(found->fault > DOVECOUNTER_UPDATE_LEFT_OPEN || found->known > 9 || found->count > 128,
+            "the end of an update");
     struct dovecounter_banks *banks = painted(OTHER, sizeof *banks);
     dovecounter_banks(copied(SMALL, found->reply, found->count), found->count, banks);
     stop_if(banks->running > 2 || banks->committed > 2, "banks");
