@@ -14,6 +14,8 @@
 
 enum { LINE_SIZE = 1 << 16, LETS_GO = 10000, BUS_SIZE = 128 }; /* bytes; milliseconds; bytes */
 
+const char no_module[] = "there is no module, as cmisd has it";
+
 /* A connection to the cmisd that runs, or -1. */
 int connect_to_manager(void) {
     struct sockaddr_un name = {.sun_family = AF_UNIX};
@@ -119,7 +121,7 @@ static void take_wanted(struct port *port, const char *answer, char text[LINE_SI
 /* Says how old the memory is; or why there is none. */
 static bool say_age(const struct port *port, const char *answer) {
     const char *age = member(answer, "age");
-    if (!is_on(answer, "present")) return warnx("%s: there is no module, as cmisd has it", port->bus.name), false;
+    if (!is_on(answer, "present")) return warnx("%s: %s", port->bus.name, no_module), false;
     if (age == NULL || port->half_count == 0) return warnx("%s: cmisd is reading it: ask again", port->bus.name), false;
     warnx("%s: as cmisd read it %.1f s ago", port->bus.name, strtod(age, NULL) / 1000);
     return true;

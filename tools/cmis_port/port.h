@@ -70,6 +70,7 @@ uint8_t transact(struct port *port, const struct dovecounter_operation *operatio
 uint8_t transact_in_pieces(struct port *port, const struct dovecounter_operation *operation, uint8_t bytes[128]);
 
 /* manager.c */
+extern const char no_module[]; /* why nothing comes of a command about an empty port */
 int connect_to_manager(void);
 bool is_on(const char *line, const char *name);
 size_t take_text(const char *line, const char *name, char *text, size_t size);

@@ -65,7 +65,7 @@ static const char *obstacle_in(const char *port) {
     char waits_for[TEXT_SIZE];
     take_text(port, "waits_for", waits_for, sizeof waits_for);
     if (is_on(port, "held")) return "held";
-    if (!is_on(port, "present")) return "there is no module, as cmisd has it";
+    if (!is_on(port, "present")) return no_module;
     return strcmp(waits_for, "its bus") == 0 ? "cmisd can't open its bus, and tries again" : "";
 }
 
@@ -119,7 +119,7 @@ static void withdraw(int manager, const struct port *port, const char *name, FIL
 enum status request(struct port *port, const char *command) {
     char name[TEXT_SIZE];
     take_text(port->told, "port", name, sizeof name);
-    if (!is_on(port->told, "present")) return warnx("%s: there is no module, as cmisd has it", port->bus.name), REFUSED;
+    if (!is_on(port->told, "present")) return warnx("%s: %s", port->bus.name, no_module), REFUSED;
     int manager = connect_to_manager();
     FILE *lines = manager >= 0 ? fdopen(manager, "r") : NULL;
     if (lines == NULL) return warnx("%s: cmisd has ended", port->bus.name), REFUSED;
