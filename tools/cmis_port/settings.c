@@ -47,11 +47,14 @@ static bool read_pair(struct port *port, const char *word) {
     return false;
 }
 
+/* Whether they name lanes and at least one setting. */
 bool read_targets(struct port *port, char **words, int count) {
+    bool is_tuned = false;
     memset(port->tuned, -1, sizeof port->tuned);
     for (int i = 0; i < count; i++)
         if (!read_pair(port, words[i])) return false;
-    return count > 1 && port->tuned_lanes != 0;
+    for (unsigned i = 0; i < SETTINGS; i++) is_tuned = is_tuned || port->tuned[i] >= 0;
+    return is_tuned && port->tuned_lanes != 0;
 }
 
 /* The same, in one word of the command line. */
