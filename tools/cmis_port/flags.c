@@ -1,7 +1,10 @@
 /* The flags that a reading has cleared in the module. */
 #include "port.h"
 
+#include <string.h>
+
 enum { MODULE_FLAGS = 8 }; /* four bytes of the lower half; the second one is that of temperature and voltage */
+enum { LANES_PAGE = 0x11 };
 
 /* A line, or a member of the list in JSON, in which `before` is a comma after the first one. */
 struct printer {
@@ -70,11 +73,21 @@ static void print_all(const struct port *port, struct printer *printer, const st
     if (flags->family == DOVECOUNTER_CMIS) print_module_flags(printer, bytes_at(port, MODULE_FLAGS));
 }
 
+/* The flags of what was read; whether they are known. As long as page 11h wasn't read, no flag of a lane was cleared. */
+static bool find_flags(const struct port *port, struct dovecounter_flags *flags) {
+    struct dovecounter_half halves[DOVECOUNTER_MOST_READ + 1];
+    size_t count = port->half_count;
+    memcpy(halves, port->halves, count * sizeof *halves);
+    if (bytes_at(port, ACTIVE) == NULL)
+        halves[count++] = (struct dovecounter_half){.device = 0xA0, .upper = 1, .page = LANES_PAGE};
+    return dovecounter_flags(halves, count, flags) == DOVECOUNTER_DONE;
+}
+
 /* In the lines and in the order of cmisctl's report `flags`, but no line if none is raised; in JSON the member `flags`. */
 void print_flags(const struct port *port) {
     struct printer printer = {port->json, ""};
     struct dovecounter_flags flags;
-    bool known = dovecounter_flags(port->halves, port->half_count, &flags) == DOVECOUNTER_DONE;
+    bool known = find_flags(port, &flags);
     if (port->json) fputs("\"flags\": [", stdout);
     if (known) print_all(port, &printer, &flags);
     if (port->json) putchar(']');

@@ -3,10 +3,12 @@
 
 #include <err.h>
 
-/* Reads the module again, and prints its state. Says why it can't, or if the state is another one than was wanted. */
+/* Reads the module again, unless it is silent, and prints its flags, also if it can be read in part alone, and its state. Says why it can't,
+   or if the state is another one than was wanted. */
 static bool is_in(struct port *port, unsigned wanted, bool done) {
-    bool known = port->ending != SILENT && read_module(port, false) && bytes_at(port, MODULE_STATE) != NULL;
-    if (known) print_flags(port);
+    bool reads = port->ending != SILENT, whole = reads && read_module(port, false);
+    bool known = whole && bytes_at(port, MODULE_STATE) != NULL;
+    if (reads) print_flags(port);
     printf("state %s\n", known ? module_states[state_of(port)] : "unknown");
     if (known && done && state_of(port) != wanted)
         warnx("%s: the module does not stay in %s", port->bus.name, module_states[wanted]);
