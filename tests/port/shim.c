@@ -99,6 +99,7 @@ static void read_firmware_word(const char *word, unsigned value) {
     if (strcmp(word, "stays-open") == 0) firmware->stays_open = true;
     if (strcmp(word, "aborts-none") == 0) firmware->aborts_none = true;
     if (strncmp(word, "left-open=", 10) == 0) firmware->open = true, firmware->not_again = (uint8_t)value;
+    if (strncmp(word, "no-block=", 9) == 0) firmware->no_block = (uint8_t)value;
     if (strcmp(word, "both-run") == 0) firmware->valid[0] = false;
     if (strncmp(word, "instances=", 10) == 0) firmware->instances = (uint8_t)value;
     if (strncmp(word, "start=", 6) == 0) firmware->start_size = (uint8_t)value;

@@ -139,6 +139,7 @@ static uint8_t abort_download(struct two_banks *module) {
 static uint8_t take_block(struct two_banks *module, const uint8_t *body, uint8_t count) {
     uint32_t at = module->start_size + read_32(body), length = count - 4U;
     if (!module->open) return NOT_NOW;
+    if (module->no_block != 0) return module->no_block;
     if (count <= 4 || at > module->covered || at + length > module->size) return BAD_PARAMETER;
     memcpy(module->images[1 - module->running] + at, body + 4, length);
     if (at + length > module->covered) module->covered = at + length;

@@ -32,6 +32,7 @@ struct two_banks {
     uint8_t reply_count; /* bytes of the reply about the banks */
     uint8_t instances;   /* that page 01h advertises */
     uint8_t not_again;   /* the status of a Start while a download is open; 0: that one begins anew */
+    uint8_t no_block;    /* the status of each block, none of which is taken; 0: they are taken */
     bool stays_open;     /* a download is open even after an abort that succeeded */
     bool aborts_none;    /* it has no command that gives up a download */
     bool background;     /* it answers while it is busy */
