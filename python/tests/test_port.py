@@ -60,12 +60,14 @@ class Machine:
             if self.port.place is not None:
                 self.places.add(self.port.place)
             refused = refuse_each and self.made % refuse_each == 0
-            reply = False if refused else self.module.transact(step)
-            outcome = self.port.take(reply, self.wanted, self.now)
+            outcome = self.port.take(False if refused else self.reply(step), self.wanted, self.now)
             self.now += 1
             if until(outcome):
                 return outcome
         raise AssertionError("it goes on for ever")
+
+    def reply(self, operation: Operation) -> Reply:
+        return self.module.transact(operation)
 
     def comes_up(self, refuse_each: int = 0) -> None:
         assert self.drive(lambda outcome: outcome.note is Note.CAME_UP, refuse_each) is not None
@@ -162,6 +164,27 @@ def test_each_lane_has_its_own_changes() -> None:
         assert (lane.state == PathState.DPDeactivated) == is_down
         assert (lane.state_changes > old.state_changes) == is_down
         assert (lane.state_since != old.state_since) == is_down
+
+
+class EachItsOwn(Machine):
+    """One whose lanes show the statuses 0 to 7 when page 11h is read as a whole."""
+
+    def reply(self, operation: Operation) -> Reply:
+        reply = super().reply(operation)
+        if self.port.place != page(0x11):
+            return reply
+        assert isinstance(reply, bytes)
+        return reply[: 202 - 128] + bytes.fromhex("10325476") + reply[206 - 128 :]
+
+
+def test_each_lane_has_its_own_status() -> None:
+    machine = EachItsOwn(SimulatedModule(DR4))
+    machine.port.plug(0)
+    machine.drive(lambda _: machine.port.place == page(0x11))
+    for lane in machine.port.lanes:
+        assert lane.status == ConfigStatus(lane.lane - 1)
+        assert lane.status_changes == (0 if lane.lane == 1 else 1)
+        assert lane.status_since == (None if lane.lane == 1 else machine.now - 1)
 
 
 def test_wrong_replies_and_numbers_are_refused() -> None:
