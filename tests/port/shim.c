@@ -126,6 +126,7 @@ static void read_word(const char *word) {
     if (strncmp(word, "unplug=", 7) == 0) shim.unplug = value;
     if (strncmp(word, "swap=", 5) == 0) shim.swap = value;
     if (strncmp(word, "interrupt=", 10) == 0) shim.interrupt = value;
+    if (strncmp(word, "interrupt-print=", 16) == 0) shim.print = value;
     if (strncmp(word, "signal=", 7) == 0) shim.signal = value;
     if (strncmp(word, "fault=", 6) == 0) shim.fault = value;
     if (strncmp(word, "lose=", 5) == 0) shim.lose = value;
@@ -246,13 +247,15 @@ static bool is_muted(void) {
     return microseconds() < shim.muted || (shim.answers != 0 && shim.made % shim.answers != 0);
 }
 
+static void interrupt(void) { kill(getpid(), shim.signal != 0 ? (int)shim.signal : SIGINT); }
+
 /* Whether the next transaction reaches the module; else errno says why. */
 static bool reaches(void) {
     shim.made++;
     if (shim.made == 10 && shim.hold[0] != 0) wait_for_removal(shim.hold);
     shim.microseconds += 300; /* of the transaction */
     if (shim.made == shim.swap) shim.module = shim.fresh;
-    if (shim.made == shim.interrupt) kill(getpid(), shim.signal != 0 ? (int)shim.signal : SIGINT);
+    if (shim.made == shim.interrupt) interrupt();
     if (shim.made == shim.fault) enter_state(&shim.module, 5);
     if (shim.made == shim.lose) shim.module.present[0x11] = false;
     for (int64_t until = microseconds() / 1000; shim.lived < until; shim.lived++) {
@@ -377,6 +380,12 @@ ssize_t pwrite(int file, const void *bytes, size_t count, off_t place) {
 }
 
 /* ---- files ---- */
+
+int fflush(FILE *file) {
+    static unsigned printed;
+    if (file == stdout && shim.print != 0 && ++printed == shim.print) interrupt();
+    return REAL(fflush)(file);
+}
 
 int open(const char *path, int flags, ...) {
     mode_t mode = 0;

@@ -16,6 +16,7 @@ struct shim {
     unsigned made;         /* transactions */
     unsigned unplug, swap; /* after so many of them the module is gone, or is a fresh one; 0 for never */
     unsigned interrupt;    /* after so many of them the program gets SIGINT */
+    unsigned print;        /* or while it prints for this time */
     unsigned signal;       /* or this signal; 0 for SIGINT */
     unsigned fault, lose;  /* after so many of them the module is in ModuleFault, or lacks page 11h; 0 for never */
     bool smbus;            /* the adapter is for SMBus alone */
