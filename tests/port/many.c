@@ -1,6 +1,6 @@
 /* Runs cmis-port, linked in, on modules made by chance: `many FIRST COUNT`. Each success has the plan active, lanes that are kept never
    leave DPActivated, nothing is stored but what the plan allows, nothing that is up is taken down without --force or --ensure, and by
-   --ensure alone no path that the plan has. */
+   --ensure alone no path that the plan has. Faults are planted in how runs have ended, each of which has to be found. */
 #include "dovecounter.h"
 #include "shim.h"
 
@@ -16,6 +16,7 @@ struct run {
     uint64_t random;
     struct dovecounter_half halves[3]; /* what planning looks at */
     struct dovecounter_path paths[8];  /* those that are active */
+    uint8_t lanes[8];                  /* host lanes of each */
     size_t path_count, kept_count;     /* the first of them are kept */
     uint8_t up;                        /* host lanes of these paths */
     uint32_t weights[256];
@@ -87,6 +88,7 @@ static void make_active(struct run *run) {
             if (lanes >> lane & 1)
                 shim.module.pages[0x11][206 - 128 + lane] =
                     (uint8_t)(run->paths[i].application << 4 | (run->paths[i].host - 1) << 1);
+        run->lanes[i] = (uint8_t)lanes;
         run->up |= (uint8_t)lanes;
     }
 }
@@ -193,9 +195,106 @@ static const char *judge(const struct run *run, int status) {
     return status <= 1 || status == 4 || (status == 3 && disturbed) ? NULL : "not provisioned";
 }
 
+/* ---- what is wrong on purpose ---- */
+
+enum { ENOUGH = 20, EACH = 500 }; /* so often a fault is planted; in so many runs each is */
+
+static const char *const faults[] = {"no plan",
+                                     "a kept lane went down",
+                                     "a kept lane was asked to go down",
+                                     "a kept lane was applied to",
+                                     "a store went astray",
+                                     "a lane went down without --force",
+                                     "a kept lane came up unasked",
+                                     "stored, and refused",
+                                     "another plan is active",
+                                     "a lane is not up",
+                                     "refused",
+                                     "refused what is up",
+                                     "not provisioned"};
+enum { FAULTS = sizeof faults / sizeof *faults };
+
+static uint8_t kept_lanes(const struct run *run) {
+    unsigned lanes = 0;
+    for (size_t i = 0; i < run->kept_count; i++) lanes |= run->lanes[i];
+    return (uint8_t)lanes;
+}
+
+/* The first of these lanes, counted from 0, or 8. */
+static unsigned first_of(uint8_t lanes) {
+    unsigned lane = 0;
+    while (lane < 8 && !(lanes >> lane & 1)) lane++;
+    return lane;
+}
+
+/* The first lane of an active path, or 8. */
+static unsigned first_active(void) {
+    unsigned lane = 0;
+    while (lane < 8 && shim.module.pages[0x11][206 - 128 + lane] >> 4 == 0) lane++;
+    return lane;
+}
+
+/* Has a run that was good end with this fault; whether it can. */
+static bool plant(unsigned fault, struct run *run, int *status) {
+    struct emulator *module = &shim.module;
+    const uint8_t kept = kept_lanes(run), others = (uint8_t)~kept;
+    bool is_free = !run->force && !run->ensure, is_last = shim.made == shim.swap;
+    bool is_disturbed = shim.swap + shim.unplug + shim.interrupt > 0;
+    unsigned lane = first_of(kept), active = first_active();
+    switch (fault) {
+    case 0: return run->halves[0].bytes[0] = 0, true;
+    case 1: return module->left_activated |= kept, kept != 0;
+    case 2: return module->deinit |= kept, kept != 0;
+    case 3: return module->applies |= kept, kept != 0;
+    case 4: return module->astray++, shim.swap == 0;
+    case 5: return module->left_activated |= others, is_free && others != 0;
+    case 6:
+        shim.fresh.path[lane % 8] = DEACTIVATED, module->path[lane % 8] = ACTIVATED;
+        return !run->force && !run->activate && shim.swap == 0 && lane < 8;
+    case 7: return module->deinit |= others, (*status == 1 || *status == 4) && !run->ensure && others != 0;
+    case 8: return module->pages[0x11][206 - 128] ^= 0x10, *status == 0 && !is_last;
+    case 9: module->path[active % 8] = INIT; return *status == 0 && run->activate && !is_last && active < 8;
+    default: module->deinit = module->applies = 0;
+    }
+    *status = fault == 10 ? 1 : fault == 11 ? 4 : 3;
+    return fault == 10 ? run->force && !is_disturbed : fault == 11 ? !is_free && !is_last : !is_disturbed;
+}
+
+/* Plants each fault that it can have, and counts those that aren't found. */
+static unsigned plant_faults(FILE *out, const struct run *run, int status, unsigned planted[FAULTS]) {
+    static struct emulator ended, began;
+    unsigned unseen = 0;
+    ended = shim.module, began = shim.fresh;
+    for (unsigned fault = 0; fault < FAULTS; fault++) {
+        struct run other = *run;
+        int other_status = status;
+        if (planted[fault] < ENOUGH && plant(fault, &other, &other_status)) {
+            const char *wrong = judge(&other, other_status);
+            bool is_seen = wrong != NULL && strcmp(wrong, faults[fault]) == 0;
+            if (!is_seen) fprintf(out, "many: planted: %s; and found: %s\n", faults[fault], wrong ? wrong : "nothing");
+            planted[fault]++;
+            unseen += !is_seen;
+        }
+        shim.module = ended, shim.fresh = began;
+    }
+    return unseen;
+}
+
+/* How many were planted. Each has to have been, unless there were few runs: `bad` counts those that were not. */
+static unsigned count_planted(FILE *out, uint64_t runs, const unsigned planted[FAULTS], unsigned *bad) {
+    unsigned all = 0;
+    for (unsigned fault = 0; fault < FAULTS; fault++) {
+        all += planted[fault];
+        if (runs < EACH || planted[fault] > 0) continue;
+        fprintf(out, "many: never planted: %s\n", faults[fault]);
+        ++*bad;
+    }
+    return all;
+}
+
 int main(int count, char **words) {
     char weights[] = "/tmp/cmis-port-many.XXXXXX";
-    unsigned ends[8] = {0}, bad = 0;
+    unsigned ends[8] = {0}, planted[FAULTS] = {0}, bad = 0;
     FILE *out = fdopen(dup(STDOUT_FILENO), "w");
     int file = mkstemp(weights);
     if (count != 3 || out == NULL || file < 0) return 2;
@@ -211,10 +310,12 @@ int main(int count, char **words) {
         ends[status & 7]++;
         if (wrong != NULL) fprintf(out, "many: run %llu: status %d: %s\n", (unsigned long long)number, status, wrong);
         bad += wrong != NULL;
+        if (wrong == NULL) bad += plant_faults(out, &run, status, planted);
     }
     unlink(weights);
-    fprintf(out, "many: %u provisioned, %u refused, %u else, %u wrong\n", ends[0], ends[1] + ends[4],
-            ends[2] + ends[3] + ends[6], bad);
+    unsigned all = count_planted(out, end - first, planted, &bad);
+    fprintf(out, "many: %u provisioned, %u refused, %u else, %u planted, %u wrong\n", ends[0], ends[1] + ends[4],
+            ends[2] + ends[3] + ends[6], all, bad);
     fclose(out);
     return bad != 0;
 }
