@@ -11,7 +11,7 @@
 #include <unistd.h>
 
 enum { SECOND = 1000, SOON = 100, LONGEST = 64 * SECOND }; /* milliseconds */
-enum { PERIODS = 6, READ_WITHIN = 300 * SECOND };          /* between two readings of what can't be managed */
+enum { PERIODS = 6, READ_WITHIN = 300 * SECOND };          /* between two readings of what is left alone */
 
 /* What hangs on one adapter, beyond all multiplexers, has one thread. */
 struct adapter {
@@ -240,13 +240,11 @@ static void carry_out(struct port *port, const struct dovecounter_port_next *nex
     take_answer(port, answered, began);
 }
 
-/* A module that can't be managed is left alone for good, but its files are to show what it measures. */
+/* Nobody looks at a module that is left alone, but its files are to show what it measures, and it may be as wanted one day. */
 static bool is_to_be_read_again(const struct port *port) {
-    uint8_t reason = port->core.left.reason;
-    bool is_manageable = reason > DOVECOUNTER_LEFT_NO_PAGE_11 && reason <= DOVECOUNTER_LEFT_ASLEEP;
     int64_t wait = PERIODS * (int64_t)port->entry.times.period;
     int64_t moment = port->read_at + (wait < SECOND ? SECOND : wait < READ_WITHIN ? wait : READ_WITHIN);
-    return port->core.stage == DOVECOUNTER_PORT_LEFT && !is_manageable && moment <= now();
+    return port->core.stage == DOVECOUNTER_PORT_LEFT && moment <= now();
 }
 
 static void read_again(struct port *port) {

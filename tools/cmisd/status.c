@@ -227,6 +227,12 @@ static const char *const stages[] = {
     [DOVECOUNTER_PORT_SLEEPING] = "going to sleep",
 };
 
+/* Whether it is shown as left alone: also while its module is read again. */
+static bool is_left(const struct port *port) {
+    bool is_read = port->is_read_again && port->core.stage == DOVECOUNTER_PORT_READING;
+    return is_read || port->core.stage == DOVECOUNTER_PORT_LEFT;
+}
+
 static void print_wait(FILE *out, const struct port *port) {
     const char *what = "its next look";
     if (!port->entry.manage)
@@ -241,7 +247,7 @@ static void print_wait(FILE *out, const struct port *port) {
         what = "a reply";
     else if (!is_there(port))
         what = "a module";
-    else if (port->core.stage == DOVECOUNTER_PORT_LEFT)
+    else if (is_left(port))
         what = "another module, another configuration or a command";
     else if (port->core.stage != DOVECOUNTER_PORT_WATCHING)
         what = "its next operation";
@@ -264,10 +270,10 @@ void begin_port(FILE *out, const struct port *port) {
     char words[WORDS_SIZE];
     print_text(out, "{", "port", port->entry.name);
     print_text(out, ", ", "bus", port->entry.bus);
-    print_text(out, ", ", "stage", stages[port->core.stage]);
+    print_text(out, ", ", "stage", stages[is_left(port) ? DOVECOUNTER_PORT_LEFT : port->core.stage]);
     print_moment(out, ", ", "since", port->since);
-    if (port->core.stage == DOVECOUNTER_PORT_LEFT) {
-        say_reason(words, &port->core.left);
+    if (is_left(port)) {
+        say_reason(words, &port->left);
         print_text(out, ", ", "why", words);
     }
     print_flag(out, ", ", "present", is_there(port));
@@ -312,7 +318,7 @@ void print_memory(FILE *out, const struct port *port) {
     print_flag(out, ", ", "paired", port->entry.wanted.paired);
     print_flag(out, ", ", "counts_by_id", port->entry.wanted.counts_by_id);
     print_number(out, ", ", "stay", port->entry.wanted.stay);
-    if (port->half_count > 0 && (port->is_read_again || port->core.stage != DOVECOUNTER_PORT_READING)) {
+    if (port->half_count > 0 && (is_left(port) || port->core.stage != DOVECOUNTER_PORT_READING)) {
         print_number(out, ", ", "age", (uint64_t)(now() - port->read_at));
         fputs(", \"image\": \"", out);
         print_image_of(out, port, "\\n");

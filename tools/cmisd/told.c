@@ -29,9 +29,10 @@ static void tell_listeners(const char *name, const char *event, const char *word
     free(line);
 }
 
+/* A module that is only read again is left alone since then. */
 void tell(struct port *port, const char *event, const char *words) {
-    if (port->stage != port->core.stage) port->since = now();
-    port->stage = port->core.stage;
+    if (!port->is_read_again && port->stage != port->core.stage) port->since = now();
+    if (!port->is_read_again) port->stage = port->core.stage;
     log_event(port->entry.name, event, words);
     tell_listeners(port->entry.name, event, words);
     put_status(port);
@@ -107,18 +108,19 @@ static void find_plan(struct port *port) {
                      wanted->stay, NULL, 0, &port->plan);
 }
 
-/* What was read as a whole becomes the image. */
+/* What was read as a whole becomes the image. A module at which something is done, or has failed, is no longer only read again. */
 void hear(struct port *port, const struct dovecounter_port_outcome *outcome) {
     char words[WORDS_SIZE];
+    bool has_failed = outcome->kind == DOVECOUNTER_PORT_FAILED;
+    if (has_failed || outcome->note != DOVECOUNTER_PORT_QUIET) port->is_read_again = false;
     if (outcome->kind == DOVECOUNTER_PORT_LEAVES || outcome->note != DOVECOUNTER_PORT_QUIET) put_image(port);
     if (outcome->note == DOVECOUNTER_PORT_IDENTIFIED || outcome->note == DOVECOUNTER_PORT_CAME_UP) find_plan(port);
     if (outcome->kind == DOVECOUNTER_PORT_WENT) tell_note(port, outcome->note);
-    if (outcome->kind == DOVECOUNTER_PORT_FAILED) tell_failure(port, outcome);
+    if (has_failed) tell_failure(port, outcome);
     if (outcome->kind != DOVECOUNTER_PORT_LEAVES) return;
     bool is_told = port->is_read_again && memcmp(&port->left, &outcome->left, sizeof port->left) == 0;
     port->is_read_again = false;
     port->left = outcome->left;
-    if (is_told) port->stage = port->core.stage;
     if (is_told) return put_status(port);
     say_reason(words, &outcome->left);
     tell(port, "left", words);
