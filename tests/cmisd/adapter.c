@@ -17,7 +17,7 @@
 #include <time.h>
 #include <unistd.h>
 
-enum { SIZE = 1 << 18, READY = 3, ACTIVATED = 4, INITIALIZED = 7, MOST_TICKS = 2000 };
+enum { SIZE = 1 << 18, LOW_POWER = 1, READY = 3, ACTIVATED = 4, INITIALIZED = 7, MOST_TICKS = 2000 };
 
 /* The numbers come first, in the order that `run` knows. */
 struct adapter {
@@ -27,7 +27,8 @@ struct adapter {
     uint32_t lists;   /* it has pages 20h to 2Fh; so many milliseconds and one pass until they are frozen */
     uint32_t dark;    /* its lanes aren't shown as DPActivated but as DPInitialized */
     uint32_t outputs; /* byte 138 of page 10h (OutputDisableRx), if it isn't 0 */
-    uint32_t unused[9];
+    uint32_t drowsy;  /* it is in ModuleLowPwr whenever its lower half is read as a whole */
+    uint32_t unused[8];
     /* what became of it */
     uint32_t transactions, refused, stores, needless, dropped, unread, state, deinit;
     uint32_t paths[8], active[8];
@@ -193,6 +194,11 @@ static void darken(const struct i2c_msg *states) {
     }
 }
 
+static void show_low_power(const struct i2c_rdwr_ioctl_data *data) {
+    bool is_half = data->nmsgs == 2 && data->msgs[0].buf[0] == 0 && data->msgs[1].len == 128;
+    if (is_half) data->msgs[1].buf[3] = LOW_POWER << 1;
+}
+
 /* The simulated module keeps none. */
 static void show_outputs(const struct adapter *it, const struct i2c_rdwr_ioctl_data *data) {
     uint8_t offset = data->msgs[0].buf[0];
@@ -215,6 +221,7 @@ static bool transact(struct adapter *it, const struct i2c_rdwr_ioctl_data *data)
     if (it->rejects && data->nmsgs == 2 && data->msgs[0].buf[0] == 202 && it->simulated.module.page == 0x11)
         memset(data->msgs[1].buf, 0x22, data->msgs[1].len); /* ConfigRejected */
     if (it->outputs && is_answered) show_outputs(it, data);
+    if (it->drowsy && is_answered) show_low_power(data);
     if (it->dark && data->nmsgs == 2 && data->msgs[0].buf[0] == 128 && it->simulated.module.page == 0x11)
         darken(&data->msgs[1]);
     if (is_answered && data->nmsgs == 2) judge_fetch(it, data->msgs[0].buf[0], data->msgs[1].buf, data->msgs[1].len);

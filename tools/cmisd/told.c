@@ -108,12 +108,18 @@ static void find_plan(struct port *port) {
                      wanted->stay, NULL, 0, &port->plan);
 }
 
-/* What was read as a whole becomes the image. A module at which something is done, or has failed, is no longer only read again. */
+/* Whether what was read becomes the image: the memory as a whole, or what has changed in it for good. */
+static bool has_image(const struct dovecounter_port_outcome *outcome) {
+    bool is_asleep = outcome->kind == DOVECOUNTER_PORT_FAILED && outcome->failure == DOVECOUNTER_PORT_ASLEEP;
+    return is_asleep || outcome->kind == DOVECOUNTER_PORT_LEAVES || outcome->note != DOVECOUNTER_PORT_QUIET;
+}
+
+/* A module at which something is done, or has failed, is no longer only read again. */
 void hear(struct port *port, const struct dovecounter_port_outcome *outcome) {
     char words[WORDS_SIZE];
     bool has_failed = outcome->kind == DOVECOUNTER_PORT_FAILED;
+    if (has_image(outcome)) put_image(port);
     if (has_failed || outcome->note != DOVECOUNTER_PORT_QUIET) port->is_read_again = false;
-    if (outcome->kind == DOVECOUNTER_PORT_LEAVES || outcome->note != DOVECOUNTER_PORT_QUIET) put_image(port);
     if (outcome->note == DOVECOUNTER_PORT_IDENTIFIED || outcome->note == DOVECOUNTER_PORT_CAME_UP) find_plan(port);
     if (outcome->kind == DOVECOUNTER_PORT_WENT) tell_note(port, outcome->note);
     if (has_failed) tell_failure(port, outcome);
