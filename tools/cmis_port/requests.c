@@ -6,7 +6,7 @@
 #include <string.h>
 #include <unistd.h>
 
-enum { TEXT_SIZE = 512, LANES_SIZE = 24 };
+enum { TEXT_SIZE = 512 };
 
 /* An event of cmisd: of which port, what, and what else is known of it. */
 struct event {
@@ -94,25 +94,9 @@ static enum status follow(const struct port *port, const char *command, const ch
     return is_over ? status : stores ? NOT_PROVISIONED : REFUSED;
 }
 
-/* The lanes of what was asked for before, if there was anything, as a word of a command after a space. */
-static void take_lanes(const char *asked, char word[LANES_SIZE]) {
-    const char *each = strchr(asked, '[');
-    size_t length = 1;
-    snprintf(word, LANES_SIZE, " none");
-    for (each += each != NULL; each != NULL && *each != ']' && *each != 0 && length + 1 < LANES_SIZE; each++)
-        if (*each != ' ') word[length++] = *each;
-    if (length > 1) word[length] = 0;
-}
-
-/* Takes a refused request back, which would be done once no lane is up: what was asked for before is asked for again. */
-static void withdraw(int manager, const struct port *port, const char *name, FILE *lines) {
-    const char *asked = strstr(port->told, "\"asked\": {");
-    char *line = NULL, command[TEXT_SIZE] = "wake", word[LANES_SIZE] = "";
-    size_t room = 0;
-    if (asked != NULL) take_text(asked, "command", command, sizeof command), take_lanes(asked, word);
-    dprintf(manager, "%s %s%s\n", command, name, word);
-    while (getline(&line, &room, lines) > 0 && !is_on(line, "done")) continue;
-    free(line);
+/* As cmisd knows the command. One that is refused since lanes are up is given up, and not carried out once none is. */
+static const char *request_for(const struct port *port, const char *command) {
+    return strcmp(command, "sleep") == 0 && !port->force ? "sleep-once" : command;
 }
 
 /* Has cmisd carry the command out, with permission to take every lane down if it is forced to. */
@@ -123,9 +107,8 @@ enum status request(struct port *port, const char *command) {
     int manager = connect_to_manager();
     FILE *lines = manager >= 0 ? fdopen(manager, "r") : NULL;
     if (lines == NULL) return warnx("%s: cmisd has ended", port->bus.name), REFUSED;
-    dprintf(manager, "events\n%s %s%s\nshow %s\n", command, name, port->force ? " all" : "", name);
+    dprintf(manager, "events\n%s %s%s\nshow %s\n", request_for(port, command), name, port->force ? " all" : "", name);
     enum status status = follow(port, command, name, lines);
-    if (status == IN_USE && strcmp(command, "sleep") == 0) withdraw(manager, port, name, lines);
     fclose(lines);
     return status;
 }

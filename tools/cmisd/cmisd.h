@@ -74,6 +74,11 @@ struct port {
     bool is_rested;     /* the last operation of the library has ended a look, or a job in a failure */
     int64_t goes_on_at; /* until when the reading of `listing` or `outputs` under way pauses, or 0 */
 
+    struct {
+        bool is_once;           /* what is asked; if lanes that are up stand against it, */
+        uint8_t request, lanes; /* this is asked again, which was asked before */
+    } before;
+
     bool is_read_again;           /* by itself, so that what comes of it is told only if it is another reason: */
     struct dovecounter_left left; /* as it was told last, */
     uint8_t stage;                /* and so was this */
@@ -97,7 +102,7 @@ struct port *port_on(const char *bus);
 bool is_still(const struct port *port);
 bool is_there(const struct port *port);
 bool uses_bus(const struct port *port);
-void request(struct port *port, uint8_t what, uint8_t lanes);
+void request(struct port *port, uint8_t what, uint8_t lanes, bool is_once);
 void hold(struct port *port, bool held);
 void lend(struct port *port, bool lent);
 void apply(const struct configuration *configuration);

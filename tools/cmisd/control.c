@@ -63,7 +63,7 @@ static void answer_release(FILE *out, struct port *port, const char *word) {
 static void answer_request(FILE *out, struct port *port, uint8_t what, const char *word) {
     uint8_t lanes = 0;
     if (word != NULL && !read_lanes(word, &lanes)) return answer_error(out, "lanes are such as 1-4,7, or all");
-    request(port, what, lanes);
+    request(port, what, lanes, false);
     tell(port, "asked", requests[what]);
     answer_done(out);
 }
@@ -74,6 +74,13 @@ static void answer_wake(FILE *out, struct port *port, const char *word) {
 
 static void answer_sleep(FILE *out, struct port *port, const char *word) {
     answer_request(out, port, DOVECOUNTER_REQUEST_SLEEP, word);
+}
+
+static void answer_sleep_once(FILE *out, struct port *port, const char *word) {
+    (void)word;
+    request(port, DOVECOUNTER_REQUEST_SLEEP, 0, true);
+    tell(port, "asked", requests[DOVECOUNTER_REQUEST_SLEEP]);
+    answer_done(out);
 }
 
 static void answer_provision(FILE *out, struct port *port, const char *word) {
@@ -107,11 +114,17 @@ static const struct command {
     void (*answer)(FILE *out, struct port *port, const char *word);
     int least, most; /* words after the command, of which the first one is a port */
 } commands[] = {
-    {"ports", answer_ports, 0, 0},           {"show", answer_show, 1, 1},
-    {"memory", answer_memory, 1, 1},         {"reload", answer_reload, 0, 0},
-    {"release", answer_release, 1, 1},       {"wake", answer_wake, 1, 1},
-    {"sleep", answer_sleep, 1, 2},           {"provision", answer_provision, 1, 2},
-    {"deactivate", answer_deactivate, 2, 2}, {"acknowledge", answer_acknowledge, 1, 2},
+    {"ports", answer_ports, 0, 0},
+    {"show", answer_show, 1, 1},
+    {"memory", answer_memory, 1, 1},
+    {"reload", answer_reload, 0, 0},
+    {"release", answer_release, 1, 1},
+    {"wake", answer_wake, 1, 1},
+    {"sleep", answer_sleep, 1, 2},
+    {"sleep-once", answer_sleep_once, 1, 1},
+    {"provision", answer_provision, 1, 2},
+    {"deactivate", answer_deactivate, 2, 2},
+    {"acknowledge", answer_acknowledge, 1, 2},
 };
 
 /* The port of that name, or with that bus. */
@@ -133,8 +146,8 @@ static void answer(FILE *out, char *line) {
         if (count > 1 && port == NULL) return answer_error(out, "there is no such port");
         return command->answer(out, port, count > 2 ? words[2] : NULL);
     }
-    answer_error(out, "one of: ports, show, memory, events, reload, hold, release, lend, wake, sleep, provision, "
-                      "deactivate, acknowledge");
+    answer_error(out, "one of: ports, show, memory, events, reload, hold, release, lend, wake, sleep, sleep-once, "
+                      "provision, deactivate, acknowledge");
 }
 
 /* ---- clients */

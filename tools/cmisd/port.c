@@ -132,6 +132,7 @@ static void take_presence(struct port *port, uint8_t presence) {
     if (presence == DOVECOUNTER_SAME) return;
     forget(port);
     forget_module(port);
+    port->before.is_once = false;
     if (!is_plugged) remove_file(port->entry.name, "image");
     tell(port, is_plugged ? "plugged" : "pulled", "");
     if (!is_plugged) shut(port);
@@ -390,7 +391,10 @@ static void ask_again(struct port *port) {
     wake(port);
 }
 
-void request(struct port *port, uint8_t what, uint8_t lanes) {
+/* Somebody asks this in place of what was asked before. */
+void request(struct port *port, uint8_t what, uint8_t lanes, bool is_once) {
+    if (!port->before.is_once) port->before.request = port->core.request, port->before.lanes = port->core.request_lanes;
+    port->before.is_once = is_once;
     must(dovecounter_port_request(&port->core, what, lanes));
     forget(port);
     wake(port);
@@ -436,6 +440,7 @@ static void take_over(struct port *port, struct port *former) {
     port->is_seen = true;
     must(dovecounter_port_plug(&port->core, (uint64_t)now()));
     must(dovecounter_port_request(&port->core, former->core.request, former->core.request_lanes));
+    port->before = former->before;
 }
 
 /* In place of another one, unless that is NULL. */

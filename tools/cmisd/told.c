@@ -108,6 +108,15 @@ static void find_plan(struct port *port) {
                      wanted->stay, NULL, 0, &port->plan);
 }
 
+/* Once the module is left alone. What was asked only once gives way to what was asked before, if lanes that are up stand against it. */
+static void end_request(struct port *port, uint8_t reason) {
+    bool is_refused = port->before.is_once && reason == DOVECOUNTER_LEFT_NEEDS_PERMISSION;
+    port->before.is_once = false;
+    if (!is_refused) return;
+    request(port, port->before.request, port->before.lanes, false);
+    tell(port, "asked", requests[port->core.request]);
+}
+
 /* Whether what was read becomes the image: the memory as a whole, or what has changed in it for good. */
 static bool has_image(const struct dovecounter_port_outcome *outcome) {
     bool is_asleep = outcome->kind == DOVECOUNTER_PORT_FAILED && outcome->failure == DOVECOUNTER_PORT_ASLEEP;
@@ -130,6 +139,7 @@ void hear(struct port *port, const struct dovecounter_port_outcome *outcome) {
     if (is_told) return put_status(port);
     say_reason(words, &outcome->left);
     tell(port, "left", words);
+    end_request(port, outcome->left.reason);
 }
 
 /* ---- flags */
