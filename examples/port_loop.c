@@ -17,6 +17,8 @@ void print_line(const char *what, uint8_t code, uint8_t fault, uint8_t first);
 static struct dovecounter_wanted wanted = {
     .weights = {[0x0D] = 101, [0x11] = 400}, .paired = 1, .most_power = 12 * 4 /* 12 W */};
 enum { STAY = 50 }; /* what a path that is active, up or not, weighs more where the module may carry traffic */
+/* Milliseconds until a module that is left alone is judged anew: it may have reset itself while it was read. */
+enum { LEFT = 300000 };
 
 static struct dovecounter_port port; /* port.flags counts the flags that were raised */
 static bool carries_nothing;         /* a module that is plugged now */
@@ -60,7 +62,8 @@ static void print_outcome(const struct dovecounter_port_outcome *outcome) {
 }
 
 static void rest(const struct dovecounter_port_next *next) {
-    rests_until = next->kind == DOVECOUNTER_PORT_UNTIL ? next->moment : UINT64_MAX;
+    uint64_t idle_until = port.stage == DOVECOUNTER_PORT_LEFT ? milliseconds() + LEFT : UINT64_MAX;
+    rests_until = next->kind == DOVECOUNTER_PORT_UNTIL ? next->moment : idle_until;
 }
 
 void poll_port(void) {
@@ -69,12 +72,14 @@ void poll_port(void) {
     uint8_t bytes[128];
     watch_pin();
     if (milliseconds() < rests_until) return;
+    if (port.stage == DOVECOUNTER_PORT_LEFT && rests_until != 0) dovecounter_port_reconsider(&port);
     dovecounter_port_next(&port, milliseconds(), &next);
     if (next.kind != DOVECOUNTER_PORT_DO) {
         rest(&next);
         return;
     }
     uint8_t reply = transact(&next.operation, bytes);
+    rests_until = 0;
     wanted.stay = port.request == DOVECOUNTER_REQUEST_PROVISION ? 0 : STAY; /* 0 until it is up or left alone */
     dovecounter_port_take(&port, reply, bytes, next.operation.count, &wanted, milliseconds(), &outcome);
     print_outcome(&outcome);

@@ -1885,7 +1885,8 @@ uint32_t dovecounter_port_plug(struct dovecounter_port *port, uint64_t now);
 uint32_t dovecounter_port_pull(struct dovecounter_port *port);
 
 /* The weights changed, or somebody asks: the module is read and judged anew, but not before `due`, so the settle time
-   is kept, and a module that is watched waits for its next look. Its lanes stay up meanwhile. */
+   is kept, and a module that is watched waits for its next look. Its lanes stay up meanwhile. Call it now and then for
+   one that is left alone, say every five minutes: a module that reset itself while it was read seems to lack pages. */
 uint32_t dovecounter_port_reconsider(struct dovecounter_port *port);
 
 /* Holds the port still if held is other than 0: it names no operation. With 0 it goes on, as after reconsider. */

@@ -153,6 +153,13 @@ static void try_low_power(void) {
     plug();
     run("one that needs more power isn't", 60000, 2, left);
     expect("and is left alone", 13, transactions);
+    run("for five minutes", 235000, 0, left + 2);
+    expect("without a transaction", 0, transactions);
+    run("then it is judged anew", 60000, 1, left + 1);
+    halves[1].bytes[201 - 128]--;
+    set_sum(&halves[1], 128, 221, 222);
+    run("and woken once it needs less", 310000, 5, woken + 1);
+    expect_up();
     pull();
 }
 
