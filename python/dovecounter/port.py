@@ -236,7 +236,8 @@ class Port:
         _expect_done(_pull(byref(self._saved)))
 
     def reconsider(self) -> None:
-        """Other weights are wanted, or somebody asks: the module is read and judged anew."""
+        """Other weights are wanted, or somebody asks: the module is read and judged anew. Call it now
+        and then for one that is left alone: it may have reset itself while it was read."""
         _expect_done(_reconsider(byref(self._saved)))
 
     def hold(self, held: bool) -> None:
