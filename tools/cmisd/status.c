@@ -273,7 +273,7 @@ void begin_port(FILE *out, const struct port *port) {
     print_text(out, ", ", "stage", stages[is_left(port) ? DOVECOUNTER_PORT_LEFT : port->core.stage]);
     print_moment(out, ", ", "since", port->since);
     if (is_left(port)) {
-        say_reason(words, &port->left);
+        say_reason(words, port->core.stage == DOVECOUNTER_PORT_LEFT ? &port->core.left : &port->left);
         print_text(out, ", ", "why", words);
     }
     print_flag(out, ", ", "present", is_there(port));
