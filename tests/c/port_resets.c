@@ -26,7 +26,7 @@ int main(void) {
     make_halves();
     unsigned most = come_up(0, 0), pairs = 0;
     for (unsigned reset = 1; reset <= most; reset++)
-        for (unsigned late = reset; late <= 2 * most; late++) {
+        for (unsigned late = 1; late <= 2 * most; late++) {
             come_up(reset, late);
             pairs++;
         }
