@@ -24,11 +24,12 @@ struct adapter {
     /* what the test asks for */
     uint32_t present, refuse, late, blocks, serial, resets, pin, raises, smbus, rejects, identifier;
     uint32_t wanted[8], has_firmware;
-    uint32_t lists;   /* it has pages 20h to 2Fh; so many milliseconds and one pass until they are frozen */
-    uint32_t dark;    /* its lanes aren't shown as DPActivated but as DPInitialized */
-    uint32_t outputs; /* byte 138 of page 10h (OutputDisableRx), if it isn't 0 */
-    uint32_t drowsy;  /* it is in ModuleLowPwr whenever its lower half is read as a whole */
-    uint32_t unused[8];
+    uint32_t lists;          /* it has pages 20h to 2Fh; so many milliseconds and one pass until they are frozen */
+    uint32_t dark;           /* its lanes aren't shown as DPActivated but as DPInitialized */
+    uint32_t outputs;        /* byte 138 of page 10h (OutputDisableRx), if it isn't 0 */
+    uint32_t drowsy;         /* it is in ModuleLowPwr whenever its lower half is read as a whole */
+    uint32_t refuse_applies; /* so many applies are refused */
+    uint32_t unused[7];
     /* what became of it */
     uint32_t transactions, refused, stores, needless, dropped, unread, state, deinit;
     uint32_t paths[8], active[8];
@@ -206,6 +207,14 @@ static void show_outputs(const struct adapter *it, const struct i2c_rdwr_ioctl_d
     if (is_fetched && it->simulated.module.page == 0x10) data->msgs[1].buf[138 - offset] = (uint8_t)it->outputs;
 }
 
+/* Whether this is an apply, and is refused. */
+static bool refuses_apply(struct adapter *it, const struct i2c_rdwr_ioctl_data *data) {
+    bool is_apply = data->nmsgs == 1 && data->msgs[0].buf[0] == 143 && it->simulated.module.page == 0x10;
+    if (it->refuse_applies == 0 || !is_apply) return false;
+    it->refuse_applies--;
+    return true;
+}
+
 static bool transact(struct adapter *it, const struct i2c_rdwr_ioctl_data *data) {
     bool was_up[8];
     if (it->random == 0) it->random = 88172645463325252U + (uint64_t)now() * 1000003;
@@ -215,7 +224,7 @@ static bool transact(struct adapter *it, const struct i2c_rdwr_ioctl_data *data)
     let_time_pass(it);
     for (unsigned lane = 0; lane < 8; lane++) was_up[lane] = is_up(it, lane);
     if (data->nmsgs == 1) judge_store(it, &data->msgs[0]);
-    bool is_answered = is_done(it, data) && below(it, 100) >= it->late;
+    bool is_answered = !refuses_apply(it, data) && is_done(it, data) && below(it, 100) >= it->late;
     if (it->identifier != 0 && data->nmsgs == 2 && data->msgs[0].buf[0] == 0)
         data->msgs[1].buf[0] = (uint8_t)it->identifier;
     if (it->rejects && data->nmsgs == 2 && data->msgs[0].buf[0] == 202 && it->simulated.module.page == 0x11)
