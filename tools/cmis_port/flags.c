@@ -73,7 +73,7 @@ static void print_all(const struct port *port, struct printer *printer, const st
     if (flags->family == DOVECOUNTER_CMIS) print_module_flags(printer, bytes_at(port, MODULE_FLAGS));
 }
 
-/* The flags of what was read; whether they are known. As long as page 11h wasn't read, no flag of a lane was cleared. */
+/* The flags of what was read; whether they are known. Without page 11h they are those of the module alone. */
 static bool find_flags(const struct port *port, struct dovecounter_flags *flags) {
     struct dovecounter_half halves[DOVECOUNTER_MOST_READ + 1];
     size_t count = port->half_count;
