@@ -61,6 +61,7 @@ bool read_weights(const char *name, uint32_t weights[256]);
 /* words.c */
 extern const char *const module_states[8], *const path_states[16], *const config_statuses[16];
 extern const char *const left_reasons[DOVECOUNTER_LEFT_ASLEEP + 1];
+extern const char apply_refused[];
 void print_image(FILE *out, const struct dovecounter_half *halves, size_t count, const struct dovecounter_half *listed,
                  size_t listed_count, const char *end);
 uint8_t lanes_of_word(const char *word);

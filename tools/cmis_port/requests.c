@@ -36,10 +36,11 @@ static bool is_interruption(const struct event *event) {
     return false;
 }
 
-/* How the command ends by an event, or goes on without a failure. */
+/* How the command ends by an event, or goes on without a failure, or though an apply was refused. */
 static enum status status_after(const char *command, const struct event *event) {
+    bool goes_on = strcmp(event->words, apply_refused) == 0;
     if (is_named(event, "left")) return status_left(command, event->words);
-    if (is_named(event, "failed")) return NOT_PROVISIONED;
+    if (is_named(event, "failed")) return goes_on ? DONE : NOT_PROVISIONED;
     return is_interruption(event) ? REFUSED : DONE;
 }
 

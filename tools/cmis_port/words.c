@@ -36,6 +36,9 @@ const char *const left_reasons[DOVECOUNTER_LEFT_ASLEEP + 1] = {
     [DOVECOUNTER_LEFT_ASLEEP] = "the module is in low power, as somebody asked",
 };
 
+/* After which cmisd reads the module, and goes on. */
+const char apply_refused[] = "the bus refused an apply, which the module may have taken";
+
 /* Lanes as in `1,3` or `1-4,7`; 0 if they are none. */
 uint8_t lanes_of_word(const char *word) {
     unsigned lanes = 0;

@@ -49,7 +49,7 @@ static const char *const failures[] = {
     [DOVECOUNTER_PORT_UNSEEN] = "the module could not be looked at",
     [DOVECOUNTER_PORT_CHANGED] = "the module is no longer as it was wanted",
     [DOVECOUNTER_PORT_NOT_ASLEEP] = "the module could not be put to sleep",
-    [DOVECOUNTER_PORT_APPLY_REFUSED] = "the bus refused an apply, which the module may have taken",
+    [DOVECOUNTER_PORT_APPLY_REFUSED] = apply_refused,
 };
 
 /* Why a module is left alone: as the library has it of what a module advertises. */
