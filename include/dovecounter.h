@@ -1865,7 +1865,7 @@ struct dovecounter_port {
     uint8_t request;       /* what was asked: enum dovecounter_request */
     uint8_t request_lanes; /* and of which lanes */
     uint8_t identifier;
-    uint8_t apply_refused; /* 1 after DOVECOUNTER_PORT_APPLY_REFUSED, until it is provisioned or up */
+    uint8_t apply_refused; /* 1 after _APPLY_REFUSED, until the module is provisioned, up, plugged or pulled */
     struct dovecounter_half halves[DOVECOUNTER_MOST_READ];
 };
 
@@ -1981,11 +1981,14 @@ enum dovecounter_port_failure {
 };
 
 /* What a reply led to. A port doesn't watch for resets, so it has no fault DOVECOUNTER_RESET or _FAULTY: a reset ends in
-   another one, such as DOVECOUNTER_NOT_STAGED, _NOT_ACTIVE or _OVERDUE, or in DOVECOUNTER_PORT_CHANGED. After a failure
-   the module is read and judged anew: so it is once an apply is refused, which stored again could bring down lanes that
-   it brought up. If one is refused after that too, it is stored again after a pause. If its default Application is up by then, the plan may keep that where `stay` is above 0;
-   with 0 the module is left alone, as DOVECOUNTER_LEFT_NEEDS_PERMISSION. To have the plan back, request and want what
-   dovecounter_port_plug says. */
+   another one, such as DOVECOUNTER_NOT_STAGED, _NOT_ACTIVE or _OVERDUE, or in DOVECOUNTER_PORT_CHANGED. After each
+   failure the module is read and judged anew. If its default Application is up by then, the plan may keep that where
+   `stay` is above 0; with 0 the module is left alone, as DOVECOUNTER_LEFT_NEEDS_PERMISSION. To have the plan back,
+   request and want what dovecounter_port_plug says.
+
+   A refused apply is such a failure, since the module may have taken it: stored again, it could take down lanes that
+   it has brought up. If another one is refused before the module is provisioned or up, that one is stored again after
+   a pause. */
 struct dovecounter_port_outcome {
     uint64_t moment;                /* PAUSED, FAILED; else 0 */
     uint8_t kind;                   /* enum dovecounter_port_led_to */
