@@ -254,16 +254,16 @@ module _ (most : ℕ) (sim : SimModule) (has : HasHalves sim) (job : PatientPowe
       (both.1, told.1 both.0)
 
   module _ (Q : Turn → Type 0) (goes : IsOwnWaking most next after → Q (going (pause_after power_wants change_after job reply) (jobs.Waking next))) (woken : IsSteady most after → IsAwake after → Q (turns.On (reading true) note.Woken)) where
-    ended : (spent : Spent (Timed (Option ProvisionFault))) (turn : Turn) → waking_wants next ≡ End spent → turn ≡ woken_up (fault_in spent.end) → Q turn
+    ended : (spent : Spent (Timed (Option ProvisionFault))) (turn : Turn) → waking_wants next ≡ End spent → turn ≡ woken_up next.conversation.conversation.stage (fault_in spent.end) → Q turn
     ended spent turn e is =
         let (end, in_time, own) = ends_in_time power_wants change_after (w.less - reading_waits most true + left_of_waking job) is_next.more job reply spent is_next.fewer w.time
         (λ op does. omega (arith, some_by (change_after change reply).power (change_after change reply).stage (change_after change reply).fault op does, left_is, is_next.left)) power_never e in
         let (none, awake) = met end own in
         let no_fault : fault_in spent.end ≡ None = ap fault_in (in_time ∙ ap (λ (end : Option ProvisionFault). Some (InTime end)) none) in
-        subst Q (sym (is ∙ ap woken_up no_fault)) (woken is_next.now.steady awake)
+        subst Q (sym (is ∙ ap (woken_up next.conversation.conversation.stage) no_fault)) (woken is_next.now.steady awake)
 
     -- it goes on, or the module is ready
     pub waking_turns : (turn : Turn) → IsWakingTurn job reply turn → Q turn
     waking_turns turn is =
-        ends_or_goes (waking_wants next) (pause_after power_wants change_after job reply) (jobs.Waking next) (λ end turn. turn ≡ woken_up (fault_in end)) turn Q is
+        ends_or_goes (waking_wants next) (pause_after power_wants change_after job reply) (jobs.Waking next) (λ end turn. turn ≡ woken_up next.conversation.conversation.stage (fault_in end)) turn Q is
         (λ op e. goes is_next.now) (λ time e. never_waits power_wants change_after job reply time power_never e) (λ spent e ended_in. ended spent turn e ended_in)

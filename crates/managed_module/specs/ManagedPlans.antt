@@ -75,6 +75,7 @@ TookTooLong (faults.Activating because) = IsLate because
 TookTooLong faults.Unseen = ⊥
 TookTooLong faults.Changed = ⊥
 TookTooLong faults.ApplyRefused = ⊥
+TookTooLong faults.WakingRefused = Unit {0}
 
 abbrev pub IsInTime : Outcome → Type 0
 IsInTime outcome.Dropped = Unit {0}

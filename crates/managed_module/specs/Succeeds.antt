@@ -92,6 +92,7 @@ IsNoProcedure (faults.Provisioning why) = ⊥
 IsNoProcedure (faults.Activating why) = ⊥
 IsNoProcedure faults.Changed = Unit {0}
 IsNoProcedure faults.ApplyRefused = ⊥
+IsNoProcedure faults.WakingRefused = Unit {0}
 
 abbrev pub NoProcedureFails : Outcome → Type 0
 NoProcedureFails outcome.Dropped = Unit {0}

@@ -423,7 +423,7 @@ module _ (story : Story) (port : Port) (job : Job) (op : Op) (reply : Reply) (wa
         held = w.at.held;
         request = ap ended w.at.request;
         silence = w.at.silence;
-        apply_refused = w.at.apply_refused;
+        apply_refused = refl;
         founded = tt;
         vain = w.at.vain;
         tame = if_any port.vain;

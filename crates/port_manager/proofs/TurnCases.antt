@@ -12,6 +12,7 @@ use Rattle.conversations.specs.declared.within.Spent.{Spent}
 use Rattle.conversations.specs.Wanted.{op_of}
 use Rattle.control_sets.specs.declared.fault.ProvisionFault.{ProvisionFault}
 use Rattle.control_sets.specs.declared.procedures.task.Task.{Task}
+use Rattle.control_sets.specs.declared.procedures.power.PowerStage.{PowerStage}
 use Rattle.control_sets.specs.Durations.{patience_for}
 use Rattle.control_sets.specs.PowerProgress.{change_after, operation_at, power_wants}
 use Rattle.control_sets.specs.PowerProgress as power
@@ -41,7 +42,7 @@ use Rattle.port_manager.specs.Looks as looks
 use Rattle.port_manager.specs.Patients.{Patient, after_on, pause_after, wants_on}
 use Rattle.port_manager.specs.Readings.{IsWhole}
 use Rattle.port_manager.specs.RefusedApplies.{is_refused_apply}
-use Rattle.port_manager.specs.Turns.{GoesTo, IsRead, IsTurn, IsTurnOf, UnlessApplyRefused, activated, decided, fault_in, going, provisioned, seen, slept, woken_up}
+use Rattle.port_manager.specs.Turns.{GoesTo, IsRead, IsTurn, IsTurnOf, UnlessApplyRefused, activated, decided, fault_in, going, provisioned, seen, slept, waking_fault, woken_up}
 use Rattle.port_manager.proofs.PatientLaws.{NeverWaits, never_waits, paged_never}
 
 -- ---- none waits by itself
@@ -117,9 +118,9 @@ goes (Wait time) pause job Ended turn Q is does waits ends = absurd (waits time 
 goes (End spent) pause job Ended turn Q is does waits ends = ends spent refl is
 
 module _ (Q : Turn → Type 0) (failed : (why : PortFault) → Q (Failed why)) where
-  after_waking : (because : Option ProcedureFault) → Q (On (reading true) note.Woken) → Q (woken_up because)
-  after_waking None q = q
-  after_waking (Some because) q = failed (fault.Waking because)
+  after_waking : (stage : PowerStage) (because : Option ProcedureFault) → Q (On (reading true) note.Woken) → Q (woken_up stage because)
+  after_waking stage None q = q
+  after_waking stage (Some because) q = failed (waking_fault stage because)
 
   after_sleeping : (because : Option ProcedureFault) → Q (Left Asleep) → Q (slept because)
   after_sleeping None q = q
@@ -155,9 +156,9 @@ module _ (Q : Turn → Type 0) (failed : (why : PortFault) → Q (Failed why)) w
       (λ spent e ended. after_reading wanted woken after spent.steps spent.end turn follows e ended)
   taken_all wanted (Waking job) reply turn goes_on follows is =
       let after = waking_after job reply in
-      goes (waking_wants after) (pause_of (Waking job) reply) (Waking after) (λ end turn. turn ≡ woken_up (fault_in end)) turn Q is
+      goes (waking_wants after) (pause_of (Waking job) reply) (Waking after) (λ end turn. turn ≡ woken_up after.conversation.conversation.stage (fault_in end)) turn Q is
       (λ op e. goes_on op (ap op_of e)) (λ time e. never_waits power_wants change_after job reply time power_never e)
-      (λ spent e ended. subst Q (sym ended) (after_waking (fault_in spent.end) follows))
+      (λ spent e ended. subst Q (sym ended) (after_waking after.conversation.conversation.stage (fault_in spent.end) follows))
   taken_all wanted (Sleeping job) reply turn goes_on follows is =
       let after = waking_after job reply in
       goes (waking_wants after) (pause_of (Sleeping job) reply) (Sleeping after) (λ end turn. turn ≡ slept (fault_in end)) turn Q is

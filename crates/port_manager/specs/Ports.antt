@@ -169,7 +169,7 @@ IsAwaited port reply = IsAwaitedBy port.outstanding port reply
 
 -- ---- the reply to an operation
 
--- a module was woken up, and is not ready
+-- a module was asked to wake up, and is not ready
 abbrev pub is_vain : PortFault → Bool
 is_vain faults.Asleep = true
 is_vain (faults.Waking why) = true
@@ -180,6 +180,7 @@ is_vain (faults.Provisioning why) = false
 is_vain (faults.Activating why) = false
 is_vain faults.Changed = false
 is_vain faults.ApplyRefused = false
+is_vain faults.WakingRefused = false
 
 abbrev pub is_apply_refused : PortFault → Bool
 is_apply_refused faults.ApplyRefused = true
@@ -191,6 +192,7 @@ is_apply_refused (faults.Provisioning why) = false
 is_apply_refused (faults.Activating why) = false
 is_apply_refused faults.Unseen = false
 is_apply_refused faults.Changed = false
+is_apply_refused faults.WakingRefused = false
 
 -- the control bytes are active, or the module is as it is wanted
 abbrev pub is_settled_by : Note → Bool
@@ -255,7 +257,7 @@ turned port (turn.Failed why) now =
       vain = vain_after port why;
       apply_refused = port.apply_refused || is_apply_refused why;
     }
-turned port (turn.Left reason) now = record port { stage = Left reason; request = ended port.request }
+turned port (turn.Left reason) now = record port { stage = Left reason; request = ended port.request; apply_refused = false }
 
 abbrev pub outcome_of : Port → Turn → ℕ → Outcome
 outcome_of port (turn.On job note) now = outcome.Went note

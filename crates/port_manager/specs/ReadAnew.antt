@@ -14,7 +14,7 @@ IsBegunAnew (outcome.Paused moment) = ⊥
 IsBegunAnew (outcome.Failed fault moment) = fault ≡ ApplyRefused
 IsBegunAnew (outcome.Left reason) = ⊥
 
--- each refused apply of the story led to that, unless one was refused before since the module was last provisioned or as wanted
+-- each refused apply of the story led to that, unless one was refused before since the module was last provisioned, as wanted or left alone
 abbrev pub ReadsAnew : Story → Type 0
 ReadsAnew [] = Unit {0}
 ReadsAnew (plug now ∷ before) = ReadsAnew before

@@ -125,13 +125,13 @@ vain_in (ask op moment ∷ before) = vain_in before
 vain_in (make op reply wanted now result ∷ before) = vain_by result (vain_in before)
 vain_in (drop ∷ before) = vain_in before
 
--- an apply was refused, or was before, unless the control bytes became active, or the module was as wanted
+-- an apply was refused, or was before, unless the control bytes became active, or the module was as wanted, or left alone
 abbrev pub apply_refused_by : Outcome → Bool → Bool
 apply_refused_by outcome.Dropped before = before
 apply_refused_by (outcome.Went note) before = before && not (is_settled_by note)
 apply_refused_by (outcome.Paused moment) before = before
 apply_refused_by (outcome.Failed fault moment) before = before || is_apply_refused fault
-apply_refused_by (outcome.Left reason) before = before
+apply_refused_by (outcome.Left reason) before = false
 
 -- so it was since the module was plugged
 abbrev pub apply_refused_in : Story → Bool

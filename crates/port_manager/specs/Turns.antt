@@ -11,6 +11,8 @@ use Rattle.conversations.specs.declared.within.Spent.{Spent}
 use Rattle.paged_memory.specs.Images.{Memory}
 use Rattle.control_sets.specs.declared.fault.ProvisionFault.{ProvisionFault}
 use Rattle.control_sets.specs.declared.fault.ProvisionFault.TheVariants.{GaveUp}
+use Rattle.control_sets.specs.declared.procedures.power.PowerStage.{PowerStage}
+use Rattle.control_sets.specs.declared.procedures.power.PowerStage.TheVariants.{Unread, Found, Stored, Met}
 use Rattle.control_sets.specs.Durations.{patience_for}
 use Rattle.control_sets.specs.PowerProgress.{PatientPower, change_after, power_wants}
 use Rattle.control_sets.specs.Progress.{PatientProcedure}
@@ -95,9 +97,16 @@ fault_in (Some Late) = Some why.Overdue
 fault_in (Some (InTime None)) = None
 fault_in (Some (InTime (Some because))) = Some (why.Failed because)
 
-abbrev pub woken_up : Option ProcedureFault → Turn
-woken_up None = On (reading true) note.Woken
-woken_up (Some because) = Failed (fault.Waking because)
+-- a module whose global controls were not stored was not asked to wake up
+abbrev pub waking_fault : PowerStage → ProcedureFault → PortFault
+waking_fault Unread because = fault.WakingRefused
+waking_fault (Found byte) because = fault.WakingRefused
+waking_fault Stored because = fault.Waking because
+waking_fault Met because = fault.Waking because
+
+abbrev pub woken_up : PowerStage → Option ProcedureFault → Turn
+woken_up stage None = On (reading true) note.Woken
+woken_up stage (Some because) = Failed (waking_fault stage because)
 
 abbrev pub slept : Option ProcedureFault → Turn
 slept None = Left Asleep
@@ -128,7 +137,7 @@ IsReadingTurn wanted job woken reply turn =
 abbrev pub IsWakingTurn : PatientPower → Reply → Turn → Type 0
 IsWakingTurn job reply turn =
     let later = waking_after job reply in
-    GoesTo (waking_wants later) (pause_after power_wants change_after job reply) (Waking later) (λ end turn. turn ≡ woken_up (fault_in end)) turn
+    GoesTo (waking_wants later) (pause_after power_wants change_after job reply) (Waking later) (λ end turn. turn ≡ woken_up later.conversation.conversation.stage (fault_in end)) turn
 
 abbrev pub IsSleepingTurn : PatientPower → Reply → Turn → Type 0
 IsSleepingTurn job reply turn =

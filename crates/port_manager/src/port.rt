@@ -90,8 +90,8 @@ pub struct Port {
     pub request: Request,
     /// For how long its module hasn't answered.
     pub silence: Silence,
-    /// An apply was refused since the module was last provisioned or as wanted, and the module read anew for that: the next one that is
-    /// refused is stored again.
+    /// An apply was refused since the module was last provisioned, as wanted or left alone, and the module read anew for that: the next
+    /// one that is refused is stored again.
     pub apply_refused: bool,
 }
 
@@ -282,6 +282,7 @@ impl Port {
             Course::Left(reason) => {
                 self.stage = Stage::Left(reason);
                 self.request = self.request.ended();
+                self.apply_refused = false;
                 Outcome::Left(reason)
             }
         }
@@ -330,7 +331,7 @@ fn wait_of(times: Times, note: Note) -> u32
     }
 }
 
-// The module was woken up, and is not ready.
+// The module was asked to wake up, and is not ready.
 fn is_vain(fault: PortFault) -> bool
     ensures { result ≡ spec.is_vain fault }
 {
@@ -342,7 +343,8 @@ fn is_vain(fault: PortFault) -> bool
         | PortFault::Activating(_)
         | PortFault::Unseen
         | PortFault::Changed
-        | PortFault::ApplyRefused => { false }
+        | PortFault::ApplyRefused
+        | PortFault::WakingRefused => { false }
     }
 }
 
@@ -358,7 +360,8 @@ fn is_apply_refused(fault: PortFault) -> bool
         | PortFault::Provisioning(_)
         | PortFault::Activating(_)
         | PortFault::Unseen
-        | PortFault::Changed => false,
+        | PortFault::Changed
+        | PortFault::WakingRefused => false,
     }
 }
 

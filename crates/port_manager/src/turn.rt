@@ -12,7 +12,9 @@ use crate::deciding::{Decision, Goal, LeftBecause, Wanted, decide};
 use crate::job::{Beginning, Job, ReadingJob, WatchingJob};
 use crate::patient::advance;
 use bus_model::{Op, Reply};
-use control_sets::{PatientPower, PatientProcedure, ProvisionFault, is_apply, patience_for};
+use control_sets::{
+    PatientPower, PatientProcedure, PowerStage, ProvisionFault, is_apply, patience_for,
+};
 use conversations::{Conversation, Next, Patience, Timed};
 use paged_memory::Image;
 
@@ -49,7 +51,7 @@ pub enum PortFault {
     Unread,
     /// The module is not ready though it was woken up.
     Asleep,
-    /// It could not be woken up.
+    /// It was asked to wake up, and did not.
     Waking(ProcedureFault),
     /// It could not be put to sleep.
     Sleeping(ProcedureFault),
@@ -63,6 +65,8 @@ pub enum PortFault {
     Changed,
     /// An apply was refused, which the module may have taken all the same: before it is stored again, the module is read.
     ApplyRefused,
+    /// It could not be asked to wake up, since its global controls were not read, or not stored.
+    WakingRefused,
 }
 
 /// What a reply leads to, beside what it makes of the job.
@@ -191,16 +195,29 @@ fn waking_turn(change: &mut PatientPower, reply: &Reply) -> Course
     match change.next() {
         Next::Do(_op) => going(pause),
         Next::Wait(_time) => going(pause),
-        Next::End(spent) => woken_up(fault_in(spent.end)),
+        Next::End(spent) => {
+            let stage = change.conversation.conversation.stage;
+            woken_up(stage, fault_in(spent.end))
+        }
     }
 }
 
-fn woken_up(fault: Option<ProcedureFault>) -> Course
-    ensures { (job : Job) → turn_by job result ≡ woken_up fault }
+fn woken_up(stage: PowerStage, fault: Option<ProcedureFault>) -> Course
+    ensures { (job : Job) → turn_by job result ≡ woken_up stage fault }
 {
     match fault {
         None => Course::Next(Beginning::Reading(true), Note::Woken),
-        Some(fault) => Course::Failed(PortFault::Waking(fault)),
+        Some(fault) => Course::Failed(waking_fault(stage, fault)),
+    }
+}
+
+// Why waking has failed that came so far.
+fn waking_fault(stage: PowerStage, fault: ProcedureFault) -> PortFault
+    ensures { result ≡ spec.waking_fault stage fault }
+{
+    match stage {
+        PowerStage::Unread | PowerStage::Found(_) => PortFault::WakingRefused,
+        PowerStage::Stored | PowerStage::Met => PortFault::Waking(fault),
     }
 }
 

@@ -7,7 +7,7 @@ use Rattle.port_manager.specs.declared.port.Outcome.TheVariants.{Dropped, Went, 
 use Rattle.port_manager.specs.declared.turn.Note.{Note}
 use Rattle.port_manager.specs.declared.turn.Note.TheVariants.{Quiet, Identified, Woken, Provisioned, CameUp, Held}
 use Rattle.port_manager.specs.declared.turn.PortFault.{PortFault}
-use Rattle.port_manager.specs.declared.turn.PortFault.TheVariants.{Unread, Asleep, Waking, Sleeping, Provisioning, Activating, Unseen, Changed, ApplyRefused}
+use Rattle.port_manager.specs.declared.turn.PortFault.TheVariants.{Unread, Asleep, Waking, Sleeping, Provisioning, Activating, Unseen, Changed, ApplyRefused, WakingRefused}
 use Rattle.port_manager.specs.declared.turn.ProcedureFault.{ProcedureFault}
 use Rattle.port_manager.specs.declared.turn.ProcedureFault.TheVariants as why
 use Rattle.saved_port.specs.declared.outcome.SavedOutcome.{SavedOutcome}
@@ -32,6 +32,7 @@ number_of_failure Unseen = 6
 number_of_failure Changed = 7
 number_of_failure (Sleeping fault) = 8
 number_of_failure ApplyRefused = 9
+number_of_failure WakingRefused = 10
 
 -- 8 if it was overdue, and else the number in the fault's code
 abbrev pub numbers_of_procedure : ProcedureFault → SavedFault
@@ -48,6 +49,7 @@ numbers_of_fault (Activating fault) = numbers_of_procedure fault
 numbers_of_fault Unseen = saved_fault None
 numbers_of_fault Changed = saved_fault None
 numbers_of_fault ApplyRefused = saved_fault None
+numbers_of_fault WakingRefused = saved_fault None
 
 abbrev pub plain : ℕ → ℕ → ℕ → SavedOutcome
 plain kind note moment = record { moment = moment; kind = kind; note = note; failure = 0; fault = saved_fault None; left = no_reason }

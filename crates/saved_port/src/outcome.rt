@@ -104,6 +104,7 @@ fn number_of_failure(fault: PortFault) -> u8
         PortFault::Changed => 7,
         PortFault::Sleeping(_) => 8,
         PortFault::ApplyRefused => 9,
+        PortFault::WakingRefused => 10,
     }
 }
 
@@ -119,7 +120,8 @@ fn numbers_of_fault(fault: PortFault) -> SavedFault
         | PortFault::Asleep
         | PortFault::Unseen
         | PortFault::Changed
-        | PortFault::ApplyRefused => SavedFault::of(None),
+        | PortFault::ApplyRefused
+        | PortFault::WakingRefused => SavedFault::of(None),
     }
 }
 
