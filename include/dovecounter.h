@@ -1865,7 +1865,7 @@ struct dovecounter_port {
     uint8_t request;       /* what was asked: enum dovecounter_request */
     uint8_t request_lanes; /* and of which lanes */
     uint8_t identifier;
-    uint8_t apply_refused; /* 1 after _APPLY_REFUSED, until the module is provisioned, up, plugged or pulled */
+    uint8_t apply_refused; /* 1 after _APPLY_REFUSED, until the module is provisioned, up, left, plugged or pulled */
     struct dovecounter_half halves[DOVECOUNTER_MOST_READ];
 };
 
@@ -1971,13 +1971,14 @@ enum dovecounter_port_note {
 enum dovecounter_port_failure {
     DOVECOUNTER_PORT_UNREAD = 1,          /* the memory could not be read */
     DOVECOUNTER_PORT_ASLEEP = 2,          /* the module isn't ready although it was woken */
-    DOVECOUNTER_PORT_NOT_WOKEN = 3,       /* see fault */
+    DOVECOUNTER_PORT_NOT_WOKEN = 3,       /* it was asked to wake up, and did not; see fault */
     DOVECOUNTER_PORT_NOT_PROVISIONED = 4, /* see fault */
     DOVECOUNTER_PORT_NOT_ACTIVATED = 5,   /* see fault */
     DOVECOUNTER_PORT_UNSEEN = 6,          /* the module could not be looked at */
     DOVECOUNTER_PORT_CHANGED = 7,         /* it is no longer as wanted */
     DOVECOUNTER_PORT_NOT_ASLEEP = 8,      /* see fault */
-    DOVECOUNTER_PORT_APPLY_REFUSED = 9    /* an apply was refused, which the module may have taken all the same */
+    DOVECOUNTER_PORT_APPLY_REFUSED = 9,   /* an apply was refused, which the module may have taken all the same */
+    DOVECOUNTER_PORT_WAKING_REFUSED = 10  /* its global controls were not read or stored, so it wasn't asked to wake up */
 };
 
 /* What a reply led to. A port doesn't watch for resets, so it has no fault DOVECOUNTER_RESET or _FAULTY: a reset ends in

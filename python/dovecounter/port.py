@@ -108,6 +108,7 @@ class Failure(IntEnum):
     CHANGED = 7
     NOT_ASLEEP = 8
     APPLY_REFUSED = 9
+    WAKING_REFUSED = 10
 
 
 class PortRequest(IntEnum):

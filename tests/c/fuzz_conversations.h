@@ -428,7 +428,7 @@ static void take(uint8_t outcome, const uint8_t *bytes, size_t count) {
     judge(status, "take", LIST(31, 34), found, sizeof *found);
     stop_if(status && memcmp(it, &port, sizeof port), "a refused reply changes the port");
     if (!status)
-        stop_if(found->kind > 4 || found->note > 5 || found->failure > 9 || found->fault.code > 10, "an outcome");
+        stop_if(found->kind > 4 || found->note > 5 || found->failure > 10 || found->fault.code > 10, "an outcome");
     port = *it;
 }
 

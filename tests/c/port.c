@@ -401,6 +401,62 @@ static void try_left(void) {
     expect("it wakes up", 1, (unsigned long)comes_up());
 }
 
+/* A bus that refuses all from some operation of waking on: unless the controls were stored by then, that was not in vain. */
+static void try_waking_refused(void) {
+    enum { FETCHED = 1, STORED };
+    for (int made = 0; made <= STORED; made++) {
+        begin();
+        halves[LOWER].bytes[26] = 0x10; /* LowPwrRequestSW */
+        plug_in();
+        halves[LOWER].bytes[26] = 0;
+        expect("it is asleep", 1, (unsigned long)drive_to(DOVECOUNTER_PORT_WENT, DOVECOUNTER_PORT_IDENTIFIED));
+        for (int i = 0; i < made; i++) ask(), make_operation();
+        expect("it is to wake up", DOVECOUNTER_PORT_WAKING, port.stage);
+        expect("its controls are stored", made == STORED, stores);
+        refuse_each = 1;
+        expect("waking fails", 1, (unsigned long)drive_to(DOVECOUNTER_PORT_FAILED, 0));
+        expect("for that", made == STORED ? DOVECOUNTER_PORT_NOT_WOKEN : DOVECOUNTER_PORT_WAKING_REFUSED,
+               outcome.failure);
+        expect("was it in vain", made == STORED, port.vain);
+        refuse_each = 0;
+        expect("it comes up", 1, (unsigned long)comes_up());
+    }
+}
+
+/* Drives the port until it asks for an apply, which the bus refuses. */
+static void refuse_apply(void) {
+    enum { CONTROL_PAGE = 0x10, APPLY = 143 };
+    uint64_t end = now + LONG;
+    for (ask(); now < end && (next.operation.offset != APPLY || module.page != CONTROL_PAGE); ask()) {
+        if (next.kind == DOVECOUNTER_PORT_DO) make_operation();
+        pass(next.kind == DOVECOUNTER_PORT_UNTIL ? next.moment - now : 1);
+    }
+    refuse_each = 1;
+    make_operation();
+    refuse_each = 0;
+}
+
+/* The first apply that is refused fails, and a second one is stored again; once the module is left alone, the next one is a first one. */
+static void try_apply_refused(void) {
+    begin();
+    plug_in();
+    refuse_apply();
+    expect("the first one fails", DOVECOUNTER_PORT_FAILED, outcome.kind);
+    expect("for that", DOVECOUNTER_PORT_APPLY_REFUSED, outcome.failure);
+    expect("as is said", 1, port.apply_refused);
+    want(0, 0);
+    expect("nothing is wanted", 1, (unsigned long)is_left(DOVECOUNTER_LEFT_NO_PLAN));
+    expect("it is forgotten", 0, port.apply_refused);
+    want(101, 10);
+    expect("asked", 0, dovecounter_port_reconsider(&port));
+    refuse_apply();
+    expect("it is a first one", DOVECOUNTER_PORT_APPLY_REFUSED, outcome.failure);
+    refuse_apply();
+    expect("the second one is stored again", DOVECOUNTER_PORT_PAUSED, outcome.kind);
+    expect("the module comes up", 1, (unsigned long)comes_up());
+    expect("it is forgotten", 0, port.apply_refused);
+}
+
 /* ---- what is refused ---- */
 
 static void refuse_all(const char *what, uint32_t wanted_status) {
@@ -489,6 +545,8 @@ int main(void) {
     try_deactivation();
     try_silence();
     try_left();
+    try_waking_refused();
+    try_apply_refused();
     try_refusals();
     return judged("port");
 }

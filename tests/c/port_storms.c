@@ -70,7 +70,7 @@ static struct {
     int is_dropped;            /* the module is to be read anew, or was replaced, since the port asked */
     uint8_t up, may_take_down; /* lanes that were last read to be up, and that were permitted by then */
     int was_reset, is_unread;  /* since then it reset itself, or a first apply was refused */
-    unsigned refused_applies;  /* since it was last provisioned or up */
+    unsigned refused_applies;  /* since it was last provisioned, up or left alone */
 } known;
 
 static unsigned refused, refused_applies, late, cut, resets, events; /* in percent */
@@ -127,7 +127,8 @@ static void note_half(const uint8_t bytes[128]) {
 static void judge_outcome(void) {
     int is_refused_apply = next.operation.offset == APPLY && known.reply == DOVECOUNTER_REFUSED;
     int is_first = is_refused_apply && known.refused_applies == 0;
-    int is_settled = outcome.kind == DOVECOUNTER_PORT_WENT && outcome.note >= DOVECOUNTER_PORT_PROVISIONED;
+    int is_settled = outcome.kind == DOVECOUNTER_PORT_LEAVES ||
+                     (outcome.kind == DOVECOUNTER_PORT_WENT && outcome.note >= DOVECOUNTER_PORT_PROVISIONED);
     known.refused_applies = is_settled ? 0 : known.refused_applies + (unsigned)is_refused_apply;
     known.is_unread |= is_first;
     expect("the first refused apply fails", (unsigned long)is_first, outcome.failure == DOVECOUNTER_PORT_APPLY_REFUSED);

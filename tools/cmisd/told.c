@@ -50,6 +50,7 @@ static const char *const failures[] = {
     [DOVECOUNTER_PORT_CHANGED] = "the module is no longer as it was wanted",
     [DOVECOUNTER_PORT_NOT_ASLEEP] = "the module could not be put to sleep",
     [DOVECOUNTER_PORT_APPLY_REFUSED] = apply_refused,
+    [DOVECOUNTER_PORT_WAKING_REFUSED] = "the bus refused what wakes the module up",
 };
 
 /* Why a module is left alone: as the library has it of what a module advertises. */
