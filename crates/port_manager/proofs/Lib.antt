@@ -7,6 +7,7 @@ pub mod TurnLaws
 pub mod StoryLaws
 pub mod StoreLaws
 pub mod RefusedApplyLaws
+pub mod WakingLaws
 pub mod IdleLaws
 pub mod Asking
 pub mod PageProgress

@@ -145,7 +145,7 @@ module _ (W G : Op → Type 0) where
 
 -- ---- after a story
 
-not_vain : (vain : Bool) → IfTrue vain ⊥ → vain ≡ false
+pub not_vain : (vain : Bool) → IfTrue vain ⊥ → vain ≡ false
 not_vain true no_vain = absurd no_vain
 not_vain false no_vain = refl
 

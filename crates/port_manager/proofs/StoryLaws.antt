@@ -42,7 +42,7 @@ use Rattle.port_manager.proofs.TurnCases.{IsAnyTurn}
 
 -- ---- what is dropped with the next reply
 
-fresh : (o : Outstanding) (P : Type 0) → P → UnlessStale o P
+pub fresh : (o : Outstanding) (P : Type 0) → P → UnlessStale o P
 fresh outstanding.Nothing P p = p
 fresh outstanding.Awaited P p = p
 fresh outstanding.Stale P p = tt
@@ -54,7 +54,7 @@ fresh_in outstanding.Awaited P Q more p = more p
 fresh_in outstanding.Stale P Q more p = tt
 fresh_in outstanding.Forsaken P Q more p = more p
 
-unless_at : (o at : Outstanding) (P : Type 0) → o ≡ at → UnlessStale o P → UnlessStale at P
+pub unless_at : (o at : Outstanding) (P : Type 0) → o ≡ at → UnlessStale o P → UnlessStale at P
 unless_at o at P e p = subst (λ (o : Outstanding). UnlessStale o P) e p
 
 -- ---- what rests on the last reading still does
@@ -460,7 +460,7 @@ module _ (story : Story) (port : Port) (job : Job) (op : Op) (reply : Reply) (wa
         named = tt;
       }
 
-asks_job : (stage : Stage) (op : Op) → asked_in stage ≡ Some op → (job : Job) × (stage ≡ stages.Working job) × (asked job ≡ Some op)
+pub asks_job : (stage : Stage) (op : Op) → asked_in stage ≡ Some op → (job : Job) × (stage ≡ stages.Working job) × (asked job ≡ Some op)
 asks_job stages.Absent op asks = absurd (let same = asks in cc)
 asks_job (stages.Left reason) op asks = absurd (let same = asks in cc)
 asks_job (stages.Working job) op asks = (job, refl, asks)

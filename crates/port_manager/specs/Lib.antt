@@ -19,6 +19,7 @@ pub mod Standing
 pub mod Runs
 pub mod Stores
 pub mod ReadAnew
+pub mod Wakings
 pub mod Idle
 pub mod KeptFlags
 pub mod Progress

@@ -26,8 +26,9 @@ ghost use Rattle.port_manager.specs.ReadAnew.{ReadsAnew};
 ghost use Rattle.port_manager.specs.Requested.{IsRequestDone};
 ghost use Rattle.port_manager.specs.Runs.{Reaches};
 ghost use Rattle.port_manager.specs.Stores.{IsStoreOf, MayMakeIn, StoresNothing, TakesPermitted};
-ghost use Rattle.port_manager.specs.Stories.{Story, held_in, settled_in};
+ghost use Rattle.port_manager.specs.Stories.{Story, held_in, settled_in, vain_in};
 ghost use Rattle.port_manager.specs.Standing.{IsAt};
+ghost use Rattle.port_manager.specs.Wakings.{MayBeToldAgain, WasTold};
 
 /// What a port asks for, after any story, names its weights. It fetches, selects a page, or is a store of the first best plan of the
 /// image that the last reading gave since the module was plugged, by the weights that were given with its last reply, without the
@@ -58,6 +59,14 @@ pub fn what_is_up_is_left_alone()
 /// the first.
 pub fn a_refused_apply_is_not_repeated_unread()
     ensures { (story : Story) (port : Port) → Reaches story port → ReadsAnew story }
+{}
+
+/// After any story, a module is taken as woken up in vain, and so isn't woken up again, only if it was told to wake up since it was
+/// plugged and since somebody asked: the store that clears its low power requests was accepted. If the bus refused all before that, the
+/// module is read anew, and may be woken up again.
+pub fn a_module_is_not_given_up_unasked()
+    ensures told { (story : Story) (port : Port) → Reaches story port → vain_in story ≡ true → WasTold story }
+    ensures again { MayBeToldAgain }
 {}
 
 /// What the calls of a port give, one after the other, is a story of which all that is said of stories holds: one operation at a
