@@ -55,8 +55,8 @@ pub fn what_is_up_is_left_alone()
 
 /// After any story, an apply that was refused led to a failure, or to nothing if the module was to be read anew in any case: so nothing
 /// is stored before the module is read and judged anew, and an apply that the module took, and the bus refused, isn't stored again to
-/// lanes that came up by it. Of several that are refused, before the control bytes are active or the module is as wanted, that holds of
-/// the first.
+/// lanes that came up by it. Of several that are refused, before the control bytes are active, or the module is as wanted or left alone,
+/// that holds of the first.
 pub fn a_refused_apply_is_not_repeated_unread()
     ensures { (story : Story) (port : Port) → Reaches story port → ReadsAnew story }
 {}
