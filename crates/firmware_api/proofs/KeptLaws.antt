@@ -12,7 +12,7 @@ use Rattle.conversations.specs.Wanted as conversations
 use Rattle.paged_memory.specs.Images.{Memory}
 use Rattle.module_reading.specs.declared.halves.Halves.{Halves}
 use Rattle.port_manager.specs.declared.job.Job.{Job}
-use Rattle.port_manager.specs.declared.job.Job.TheVariants.{Reading, Waking, Sleeping, Provisioning, Activating, Watching}
+use Rattle.port_manager.specs.declared.job.Job.TheVariants.{Reading, Waking, Sleeping, Provisioning, Activating, Confirming, Watching}
 use Rattle.port_manager.specs.declared.port.Outstanding.{Outstanding}
 use Rattle.port_manager.specs.declared.port.Outstanding.TheVariants as outstanding
 use Rattle.port_manager.specs.declared.port.Port.{Port}
@@ -61,6 +61,7 @@ few_read (Waking job) count halves few read = tt
 few_read (Sleeping job) count halves few read = tt
 few_read (Provisioning job goal) count halves few read = tt
 few_read (Activating job goal) count halves few read = tt
+few_read (Confirming job) count halves few read = tt
 few_read (Watching job) count halves few read = tt
 
 pub few_halves : (stage : Stage) (count : ℕ) (halves : List HalfBytes) → count ≤ 5 → IfWorking stage (HasRead (memory_of (take count halves))) → IfWorking stage HasFewHalves
@@ -86,6 +87,7 @@ stays (Working (Waking job)) count halves fits = record { few = omega arith; rea
 stays (Working (Sleeping job)) count halves fits = record { few = omega arith; read = tt; counted = tt }
 stays (Working (Provisioning job goal)) count halves fits = record { few = omega arith; read = tt; counted = tt }
 stays (Working (Activating job goal)) count halves fits = record { few = omega arith; read = tt; counted = tt }
+stays (Working (Confirming job)) count halves fits = record { few = omega arith; read = tt; counted = tt }
 stays (Working (Watching job)) count halves fits = record { few = omega arith; read = tt; counted = tt }
 
 -- ---- where a reading begins
@@ -167,6 +169,7 @@ module _ (before : Stage) (reply : Reply) (half : Option HalfBytes) (count : ℕ
   room_in (Working (Sleeping job)) fit by room some = absurd (some by)
   room_in (Working (Provisioning job goal)) fit by room some = absurd (some by)
   room_in (Working (Activating job goal)) fit by room some = absurd (some by)
+  room_in (Working (Confirming job)) fit by room some = absurd (some by)
   room_in (Working (Watching job)) fit by room some = absurd (some by)
 
   pub room_for : (o : Outstanding) → IsHalfBy o before reply half → (half ≢ None → IfWorking before HasRoom) → half ≢ None → count < 5
@@ -205,6 +208,7 @@ module _ (before : Stage) (reply : Reply) (half : Option HalfBytes) (count numbe
   fits_after o (Working (Sleeping job)) by is = record { few = omega arith; read = tt; counted = tt }
   fits_after o (Working (Provisioning job goal)) by is = record { few = omega arith; read = tt; counted = tt }
   fits_after o (Working (Activating job goal)) by is = record { few = omega arith; read = tt; counted = tt }
+  fits_after o (Working (Confirming job)) by is = record { few = omega arith; read = tt; counted = tt }
   fits_after o (Working (Watching job)) by is = record { few = omega arith; read = tt; counted = tt }
 
 -- ---- what the reply is one to

@@ -3,7 +3,7 @@ use Rattle.std.specs.Prelude.{◌≡◌, ◌≤◌, ◌<◌, ◌==◌, ℕ, nat_
 use Rattle.std.specs.FinMap as map
 use Rattle.bus_model.specs.declared.operation.Reply.{Reply}
 use Rattle.port_manager.specs.declared.job.Job.{Job}
-use Rattle.port_manager.specs.declared.job.Job.TheVariants.{Reading, Waking, Sleeping, Provisioning, Activating, Watching}
+use Rattle.port_manager.specs.declared.job.Job.TheVariants.{Reading, Waking, Sleeping, Provisioning, Activating, Confirming, Watching}
 use Rattle.port_manager.specs.declared.port.Outstanding.{Outstanding}
 use Rattle.port_manager.specs.declared.port.Outstanding.TheVariants.{Nothing, Awaited, Stale, Forsaken}
 use Rattle.port_manager.specs.declared.port.Port.{Port}
@@ -35,6 +35,7 @@ IsCounted count (Waking job) = Unit {0}
 IsCounted count (Sleeping job) = Unit {0}
 IsCounted count (Provisioning job goal) = Unit {0}
 IsCounted count (Activating job goal) = Unit {0}
+IsCounted count (Confirming job) = Unit {0}
 IsCounted count (Watching job) = Unit {0}
 
 -- the memory has the port, of which all is known, and shows what C may read of it
@@ -64,6 +65,7 @@ count_at (Waking job) count = 0
 count_at (Sleeping job) count = 0
 count_at (Provisioning job goal) count = 0
 count_at (Activating job goal) count = 0
+count_at (Confirming job) count = 0
 count_at (Watching job) count = 0
 
 abbrev pub count_in : Stage → ℕ → ℕ
@@ -81,6 +83,7 @@ HasFewHalves (Waking job) = Unit {0}
 HasFewHalves (Sleeping job) = Unit {0}
 HasFewHalves (Provisioning job goal) = Unit {0}
 HasFewHalves (Activating job goal) = Unit {0}
+HasFewHalves (Confirming job) = Unit {0}
 HasFewHalves (Watching job) = Unit {0}
 
 -- and there is one that it reads next
@@ -90,6 +93,7 @@ HasRoom (Waking job) = ⊥
 HasRoom (Sleeping job) = ⊥
 HasRoom (Provisioning job goal) = ⊥
 HasRoom (Activating job goal) = ⊥
+HasRoom (Confirming job) = ⊥
 HasRoom (Watching job) = ⊥
 
 -- the half that the reply adds to a reading, if it is awaited
@@ -99,6 +103,7 @@ IsHalfAt (Waking job) reply half = half ≡ None
 IsHalfAt (Sleeping job) reply half = half ≡ None
 IsHalfAt (Provisioning job goal) reply half = half ≡ None
 IsHalfAt (Activating job goal) reply half = half ≡ None
+IsHalfAt (Confirming job) reply half = half ≡ None
 IsHalfAt (Watching job) reply half = half ≡ None
 
 abbrev pub IsHalfIn : Stage → Reply → Option HalfBytes → Type 0

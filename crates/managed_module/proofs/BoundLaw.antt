@@ -28,7 +28,7 @@ use Rattle.port_manager.specs.Standing.{IsWatching}
 use Rattle.port_manager.proofs.TurnProgress.{dropped_step, is_up_or_not, left, left_in, plugged_left, turn_nearer, turn_up}
 use Rattle.sim_module.specs.declared.module.SimModule.{SimModule}
 use Rattle.sim_module.specs.Modules.{conduct}
-use Rattle.managed_module.specs.Bounds.{ComesUpWithin, WantsAwake, most_waits}
+use Rattle.managed_module.specs.Bounds.{ComesUpWithin, IsSteady, WantsAwake, most_waits}
 use Rattle.managed_module.specs.Managed.{HasHalves, IsCmisStage, Manages}
 use Rattle.managed_module.proofs.Halves.{halves_passed, halves_paused, halves_ticked}
 use Rattle.managed_module.proofs.JobSteps.{JobAt, job_paused}
@@ -40,7 +40,7 @@ use Rattle.port_manager.proofs.TurnCases.{IsAnyTurn}
 
 -- ---- a stage
 
-abbrev StageAt : ℕ → Stage → SimModule → ℕ → Type 0
+abbrev pub StageAt : ℕ → Stage → SimModule → ℕ → Type 0
 StageAt most stages.Absent sim less = Unit {0}
 StageAt most (stages.Left reason) sim less = Unit {0}
 StageAt most (stages.Working job) sim less = JobAt most job sim less
@@ -102,6 +102,7 @@ module _ (most budget : ℕ) (sim : SimModule) (wanted : Wanted) (job : Job) (op
         watching_at (jobs.Sleeping job) up = absurd up
         watching_at (jobs.Provisioning job goal) up = absurd up
         watching_at (jobs.Activating job goal) up = absurd up
+        watching_at (jobs.Confirming job) up = absurd up
         watching_at (jobs.Watching job) up = tt
   watched_step port (turns.Paused next time) wake leads goes up =
       let still = turn_up wanted reply job (turns.Paused next time) up leads in
@@ -112,6 +113,7 @@ module _ (most budget : ℕ) (sim : SimModule) (wanted : Wanted) (job : Job) (op
         watching_at (jobs.Sleeping job) up = absurd up
         watching_at (jobs.Provisioning job goal) up = absurd up
         watching_at (jobs.Activating job goal) up = absurd up
+        watching_at (jobs.Confirming job) up = absurd up
         watching_at (jobs.Watching job) up = tt
   watched_step port (turns.Failed fault) wake leads goes up = absurd goes
   watched_step port (turns.Left reason) wake leads goes up = absurd goes
@@ -122,6 +124,7 @@ watching_or (jobs.Waking job) = inr (λ up. up)
 watching_or (jobs.Sleeping job) = inr (λ up. up)
 watching_or (jobs.Provisioning job goal) = inr (λ up. up)
 watching_or (jobs.Activating job goal) = inr (λ up. up)
+watching_or (jobs.Confirming job) = inr (λ up. up)
 watching_or (jobs.Watching job) = inl tt
 
 -- what is noted of flags changes neither the outcome nor what was asked
@@ -168,10 +171,10 @@ taken_step most budget outstanding.Forsaken sim port after op reply wanted now r
 
 -- ---- a whole story
 
-record IsReached (most budget : ℕ) (first : Stage) (story : Story) (port : Port) (sim : SimModule) : Type 0 where
-  less : ℕ
-  keeps : Keeps most port sim less
-  nearer : ¬ (IsUpStage port.stage) → made_in story + (left_in port.stage + 3 * less) ≤ left_in first + 3 * budget
+pub record IsReached (most budget : ℕ) (first : Stage) (story : Story) (port : Port) (sim : SimModule) : Type 0 where
+  pub less : ℕ
+  pub keeps : Keeps most port sim less
+  pub nearer : ¬ (IsUpStage port.stage) → made_in story + (left_in port.stage + 3 * less) ≤ left_in first + 3 * budget
 
 -- an event that makes no operation
 idle_reached : (most budget : ℕ) (first : Stage) (before story : Story) (between later : Port) (sim after : SimModule) (reached : IsReached most budget first before between sim) → later.stage ≡ between.stage → later.request ≡ between.request
@@ -201,7 +204,7 @@ paused_keeps most port count sim after less is keeps =
       at = stage_ticks most port.stage count sim less keeps.at;
     })
 
-runs_reached : (most budget : ℕ) (port later : Port) (sim after : SimModule) (story : Story) → Keeps most port sim budget → Manages port sim story later after → IsGoingOn story → WantsAwake story → IsReached most budget port.stage story later after
+pub runs_reached : (most budget : ℕ) (port later : Port) (sim after : SimModule) (story : Story) → Keeps most port sim budget → Manages port sim story later after → IsGoingOn story → WantsAwake story → IsReached most budget port.stage story later after
 runs_reached most budget port later sim after [] keeps (is, same) goes wants =
     let kept = same_keeps most port sim after budget same keeps in
     record {
@@ -236,11 +239,12 @@ runs_reached most budget port later sim after (make op reply wanted now result �
       nearer = λ not. (let one = step.nearer not in omega (arith, one.0, reached.nearer one.1));
     }
 
+pub plugged_keeps : (most : ℕ) (port : Port) (sim : SimModule) (now : ℕ) → HasHalves sim → IsSteady most sim → Keeps most (plugged now port) sim (most_waits most)
+plugged_keeps most port sim now has steady = record { halves = has; linked = λ opened. absurd (let same : false ≡ true = opened in cc); request = refl; at = (steady, omega arith) }
+
 pub comes_up_within : ComesUpWithin
 comes_up_within most port later sim after now story has steady ran goes wants many =
-    let begun : Keeps most (plugged now port) sim (most_waits most) =
-    record { halves = has; linked = λ opened. absurd (let same : false ≡ true = opened in cc); request = refl; at = (steady, omega arith) } in
-    let reached = runs_reached most (most_waits most) (plugged now port) later sim after story begun ran goes wants in
+    let reached = runs_reached most (most_waits most) (plugged now port) later sim after story (plugged_keeps most port sim now has steady) ran goes wants in
     elim (is_up_or_not later.stage) as (λ _. IsUpStage later.stage) [
       | inl up ↦ up
       | inr not ↦ absurd (omega (arith, reached.nearer not, plugged_left port now, many))

@@ -62,6 +62,7 @@ use Rattle.sim_liveness.proofs.Longest.{longest_ready}
 use Rattle.sim_liveness.proofs.ReadStates.{read_state}
 use Rattle.managed_module.specs.Bounds.{IsSteady, most_waits, until_activated, until_applied, until_awake, until_deactivated}
 use Rattle.managed_module.specs.Managed.{HasHalves, IsCmisJob}
+use Rattle.managed_module.proofs.FirstLooks.{IsConfirming, confirming_goes_on, confirming_tick}
 use Rattle.managed_module.proofs.Halves.{reads_half, stores_half}
 use Rattle.managed_module.proofs.OwnTasks.{activation_tells, module_after, provision_tells, reply_of, steady_read}
 use Rattle.managed_module.proofs.ProcedureSteps.{IsHarmless, KnownBy, fetch_is_harmless, harmless_leaves, known_tick, step, wanted_is_harmless}
@@ -97,6 +98,7 @@ JobAt most (jobs.Provisioning job goal) sim less =
 JobAt most (jobs.Activating job goal) sim less =
     (job.conversation.conversation.conversation.work ≡ activation_of goal) × IsWhole goal × CountersRun most sim × KnownBy job.conversation.conversation.selection sim
     × Unless job.conversation.conversation.conversation.fault (Activates most goal.control goal.lanes job.conversation.conversation.conversation.met sim less)
+JobAt most (jobs.Confirming job) sim less = IsConfirming most job sim
 JobAt most (jobs.Watching job) sim less = Unit {0}
 
 -- ---- while ticks come
@@ -133,6 +135,7 @@ job_tick most (jobs.Activating job goal) sim less (work, whole, run, known, p) =
   known_tick job.conversation.conversation.selection sim known,
   unless_tick job.conversation.conversation.conversation.fault (activates_tick most goal.control goal.lanes job.conversation.conversation.conversation.met sim less whole.used) p,
 )
+job_tick most (jobs.Confirming job) sim less at = confirming_tick most job sim at
 job_tick most (jobs.Watching job) sim less at = tt
 
 pub job_paused : (most : ℕ) (job : Job) (count : ℕ) (sim : SimModule) (less : ℕ) → JobAt most job sim less → JobAt most job (ticked_times conduct count sim) less
@@ -148,6 +151,7 @@ IsIdle (jobs.Waking job) op reply = (job.conversation.conversation.stage ≡ sta
 IsIdle (jobs.Sleeping job) op reply = ⊥
 IsIdle (jobs.Provisioning job goal) op reply = (progress.wants job.conversation.conversation.conversation ≡ Do op) × (after_reply job.conversation.conversation.conversation reply ≡ job.conversation.conversation.conversation)
 IsIdle (jobs.Activating job goal) op reply = (progress.wants job.conversation.conversation.conversation ≡ Do op) × (after_reply job.conversation.conversation.conversation reply ≡ job.conversation.conversation.conversation)
+IsIdle (jobs.Confirming job) op reply = ⊥
 IsIdle (jobs.Watching job) op reply = ⊥
 
 pub record GoesOn (most : ℕ) (job : Job) (op : Op) (reply : Reply) (after : SimModule) (left : ℕ) : Type 0 where
@@ -383,4 +387,6 @@ job_goes_on most sim (jobs.Activating job goal) op reply left has cmis link (wor
     × Unless on.conversation.fault (Activates most goal.control goal.lanes on.conversation.met (module_after sim op) next.less)) (wants_on paged_tasks) (after_on paged_tasks) job reply
     (next.same, whole, next.counters, next.mapped, next.at) in
     record { less = next.less; at = at; fewer = next.fewer; waits = λ idle. next.idles idle }
+job_goes_on most sim (jobs.Confirming job) op reply left has cmis link at asks answers gives =
+    record { less = left; at = confirming_goes_on most job sim op reply has at asks gives; fewer = omega arith; waits = λ idle. absurd idle }
 job_goes_on most sim (jobs.Watching job) op reply left has cmis link at asks answers gives = record { less = left; at = tt; fewer = omega arith; waits = λ idle. absurd idle }

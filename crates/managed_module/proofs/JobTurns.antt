@@ -1,5 +1,5 @@
 -- What each turn of a job at a simulated module leads to: less is left to be done, or to be waited for.
-use Rattle.std.proofs.Common.{◌≡◌, ◌⊎◌, inl, inr, ℕ, zero, suc, ◌+◌, ◌*◌, ◌≤◌, Bool, true, false, List, Option, Some, None, refl, sym, ap, subst, ◌∙◌, if◌then◌else◌, nat_lt, arith}
+use Rattle.std.proofs.Common.{◌≡◌, ◌⊎◌, inl, inr, ℕ, zero, suc, ◌+◌, ◌*◌, ◌≤◌, Bool, true, false, List, Option, Some, None, refl, sym, ap, subst, ◌∙◌, arith}
 use Rattle.std.specs.Prelude.{slice_get}
 use Rattle.bus_model.specs.declared.operation.Op.{Op}
 use Rattle.bus_model.specs.declared.operation.Reply.{Reply}
@@ -8,11 +8,11 @@ use Rattle.bus_model.specs.Operations.{Answers}
 use Rattle.field_tables.specs.LaneSets.{Lanes}
 use Rattle.conversations.specs.declared.next.Next.{Next}
 use Rattle.conversations.specs.declared.next.Next.TheVariants.{Do, Wait, End}
+use Rattle.conversations.specs.declared.on_page.OnPage.{OnPage}
 use Rattle.conversations.specs.declared.pausing.Patience.{Patience}
 use Rattle.conversations.specs.declared.pausing.Timed.{Timed}
 use Rattle.conversations.specs.declared.pausing.Timed.TheVariants.{InTime, Overdue}
 use Rattle.conversations.specs.declared.within.Spent.{Spent}
-use Rattle.conversations.specs.Budgets.{next_within}
 use Rattle.conversations.specs.Pauses.{next_pausing}
 use Rattle.conversations.specs.Selecting.{next_on}
 use Rattle.conversations.specs.Wanted.{op_of}
@@ -28,10 +28,11 @@ use Rattle.control_sets.specs.declared.procedures.task.Task.{Task}
 use Rattle.control_sets.specs.Durations.{patience_for}
 use Rattle.control_sets.specs.OutcomeCodes.{module_code}
 use Rattle.control_sets.specs.PowerControls.{read_controls, set_controls, wanted_controls}
-use Rattle.control_sets.specs.PowerProgress.{change_after, judged_power, moved_to, operation_at, power_wants, stage_judged, wants_by}
+use Rattle.control_sets.specs.PowerProgress.{PatientPower, change_after, judged_power, moved_to, operation_at, power_wants, stage_judged, wants_by}
 use Rattle.control_sets.specs.Progress.{PatientProcedure, hand, task_at, tasks_of}
 use Rattle.control_sets.specs.Progress as progress
-use Rattle.control_sets.specs.Tasks.{provisioning}
+use Rattle.control_sets.specs.Tasks.{activation, provisioning}
+use Rattle.module_reading.specs.declared.halves.Halves.{Halves}
 use Rattle.paged_memory.specs.Images.{Memory}
 use Rattle.paged_memory.specs.declared.page_addressing.KnownPage.{KnownPage}
 use Rattle.paged_memory.specs.declared.page_addressing.PageAddressing.TheVariants.{BankAndPage}
@@ -45,26 +46,28 @@ use Rattle.port_manager.specs.declared.job.Job.TheVariants as jobs
 use Rattle.port_manager.specs.declared.turn.Note.TheVariants as note
 use Rattle.port_manager.specs.declared.turn.ProcedureFault.{ProcedureFault}
 use Rattle.port_manager.specs.Decisions.{IsDecisionAwake, IsDecisionFor}
-use Rattle.port_manager.specs.Jobs.{activating, asked, paged_tasks, procedure_after, procedure_wants, reading_after, waking_after}
-use Rattle.port_manager.specs.Patients.{after_on, wants_on}
+use Rattle.port_manager.specs.declared.look.Look.{Look}
+use Rattle.port_manager.specs.Jobs.{activating, asked, confirming, look_after, look_wants, looking, paged_look, paged_tasks, procedure_after, procedure_wants, reading_after, waking_after, watching}
+use Rattle.port_manager.specs.Patients.{Patient, after_on, wants_on}
 use Rattle.port_manager.specs.Standing.{IsWatching}
 use Rattle.port_manager.specs.Turns.{Turn, fault_in}
 use Rattle.port_manager.specs.Turns as turns
-use Rattle.port_manager.specs.Turns.{GoesTo, decided, going, provisioned}
+use Rattle.port_manager.specs.Turns.{GoesTo, IsTurnOf, activated, decided, going, provisioned, seen}
 use Rattle.port_manager.proofs.LeftLaws.{left_of_power, left_of_tasks, left_of_waking, near_waking, tasks_counted}
 use Rattle.port_manager.proofs.PageProgress.{near_patient}
-use Rattle.port_manager.proofs.PatientLaws.{asked_within, kept_within, never_waits, paged_never}
-use Rattle.port_manager.proofs.TurnCases.{Follows, IsAnyTurn, later, pause_of, tasks_never, turn_all}
+use Rattle.port_manager.proofs.PatientLaws.{asked_within, kept_within, never_waits, paged_never, pausing_ends, within_ends}
+use Rattle.port_manager.proofs.TurnCases.{Follows, IsAnyTurn, later, look_never, pause_of, tasks_never, turn_all}
 use Rattle.port_manager.proofs.TurnProgress.{left}
 use Rattle.sim_module.specs.declared.module.SimModule.{SimModule}
 use Rattle.managed_module.specs.Bounds.{IsSteady, until_activated}
 use Rattle.managed_module.specs.Managed.{HasHalves, IsCmisJob}
+use Rattle.managed_module.proofs.FirstLooks.{IsConfirming, confirming_ends, confirming_goes_on}
 use Rattle.managed_module.proofs.GoalLanes.{IsJudgedWhole, decided_whole}
 use Rattle.managed_module.proofs.JobSteps.{GoesOn, IsIdle, IsWhole, JobAt, Wakes, job_goes_on, reading_waits}
 use Rattle.managed_module.proofs.Links.{not_refused, takes_reply}
 use Rattle.managed_module.proofs.OwnTasks.{module_after, reply_of}
-use Rattle.managed_module.proofs.Procedures.{Provisions, Unless}
-use Rattle.managed_module.proofs.Waits.{LinkedJob, power_a0, procedure_idles, reading_nearer}
+use Rattle.managed_module.proofs.Procedures.{Activates, ComeUp, Provisions, Unless}
+use Rattle.managed_module.proofs.Waits.{LinkedJob, look_nearer, power_a0, procedure_idles, reading_nearer}
 
 -- ---- it comes nearer to its end, or nothing came of the operation
 
@@ -122,39 +125,14 @@ job_nearer most sim (jobs.Waking job) op next reply less at has cmis link stays 
 job_nearer most sim (jobs.Sleeping job) op next reply less at has cmis link stays asks answers gives goes = absurd at
 job_nearer most sim (jobs.Provisioning job goal) op next reply less at has cmis link stays asks answers gives goes =
     let far = (near_patient paged_tasks left_of_tasks tasks_counted job op next reply asks answers goes).1 in
-    plus _ _ 10 (IsIdle (jobs.Provisioning job goal) op reply) (left (later (jobs.Provisioning job goal) reply) ≤ left (jobs.Provisioning job goal) + 2) (procedure_idles sim has job op reply asks answers gives link) (omega (arith, far))
+    plus _ _ 14 (IsIdle (jobs.Provisioning job goal) op reply) (left (later (jobs.Provisioning job goal) reply) ≤ left (jobs.Provisioning job goal) + 2) (procedure_idles sim has job op reply asks answers gives link) (omega (arith, far))
 job_nearer most sim (jobs.Activating job goal) op next reply less at has cmis link stays asks answers gives goes =
     let far = (near_patient paged_tasks left_of_tasks tasks_counted job op next reply asks answers goes).1 in
-    by far (procedure_idles sim has job op reply asks answers gives link) where
-      by : left (later (jobs.Activating job goal) reply) ≤ left (jobs.Activating job goal) + 2 → (left (later (jobs.Activating job goal) reply) + 1 ≤ left (jobs.Activating job goal)) ⊎ IsIdle (jobs.Activating job goal) op reply → Nearer (jobs.Activating job goal) op reply
-      by far (inl nearer) = inl nearer
-      by far (inr idle) = inr (idle, far)
+    plus _ _ 4 (IsIdle (jobs.Activating job goal) op reply) (left (later (jobs.Activating job goal) reply) ≤ left (jobs.Activating job goal) + 2) (procedure_idles sim has job op reply asks answers gives link) (omega (arith, far))
+job_nearer most sim (jobs.Confirming job) op next reply less at has cmis link stays asks answers gives goes = inl (look_nearer sim has job op reply asks answers gives link)
 job_nearer most sim (jobs.Watching job) op next reply less at has cmis link stays asks answers gives goes = absurd (stays tt)
 
 -- ---- provisioning has ended
-
-module _ {E : Type 0} where
-  within_ends : (steps limit : ℕ) (wanted : Next E) (spent : Spent E) (end : E) → next_within steps limit wanted ≡ End spent → spent.end ≡ Some end → wanted ≡ End end
-  within_ends steps limit (Do op) spent end e some = by (nat_lt steps limit) e where
-    by : (few : Bool) → ◌≡◌ {A = Next (Spent E)} (if few then Do op else End (record { steps = steps; end = None })) (End spent) → Do op ≡ End end
-    by true e = absurd cc
-    by false e =
-        let same : ◌≡◌ {A = Spent E} (record { steps = steps; end = None }) spent = cc in
-        absurd (let none : None ≡ Some end = ap (λ (s : Spent E). s.end) same ∙ some in cc)
-  within_ends steps limit (Wait time) spent end e some = absurd cc
-  within_ends steps limit (End other) spent end e some =
-      let same : ◌≡◌ {A = Spent E} (record { steps = steps; end = Some other }) spent = cc in
-      let one : Some other ≡ Some end = ap (λ (s : Spent E). s.end) same ∙ some in
-      let is : other ≡ end = cc in ap (λ (e : E). End e) is
-
-  pausing_ends : (due : Bool) (idle : ℕ) (patience : Patience) (wanted : Next E) (end : E) → next_pausing due idle patience wanted ≡ End (InTime end) → wanted ≡ End end
-  pausing_ends true idle patience (Do op) end e = by (nat_lt patience.limit idle) e where
-    by : (late : Bool) → ◌≡◌ {A = Next (Timed E)} (if late then End Overdue else Wait patience.pause) (End (InTime end)) → Do op ≡ End end
-    by true e = absurd cc
-    by false e = absurd cc
-  pausing_ends false idle patience (Do op) end e = absurd cc
-  pausing_ends due idle patience (Wait time) end e = absurd cc
-  pausing_ends due idle patience (End other) end e = let same : InTime other ≡ InTime end = cc in let is : other ≡ end = cc in ap (λ (e : E). End e) is
 
 no_fault : (end : Option (Timed (Option ProvisionFault))) → fault_in end ≡ None → end ≡ Some (InTime None)
 no_fault None e = absurd cc
@@ -201,6 +179,14 @@ provisioned_steady most control lanes (suc (suc (suc (suc (suc zero))))) sim les
 provisioned_steady most control lanes (suc (suc (suc (suc (suc (suc zero)))))) sim less e p = absurd cc
 provisioned_steady most control lanes (suc (suc (suc (suc (suc (suc (suc met))))))) sim less e p = p
 
+-- so its lanes are up
+activated_up : (most : ℕ) (control : List ℕ) (lanes : Lanes) (met : ℕ) (sim : SimModule) (less : ℕ) → slice_get (activation control lanes) met ≡ None → Activates most control lanes met sim less → ComeUp most control lanes 0 sim
+activated_up most control lanes zero sim less e p = absurd cc
+activated_up most control lanes (suc zero) sim less e p = absurd cc
+activated_up most control lanes (suc (suc zero)) sim less e p = absurd cc
+activated_up most control lanes (suc (suc (suc zero))) sim less e p = absurd cc
+activated_up most control lanes (suc (suc (suc (suc met)))) sim less e up = up
+
 -- ---- turns
 
 -- the next job, with what is left to be waited for: at most what was; after a pause less is left altogether
@@ -235,6 +221,21 @@ reads_few most false less few = omega (arith, few)
 pub activating_at : (most : ℕ) (goal : Goal) (patience : Patience) (after : SimModule) (less : ℕ) → IsWhole goal → IsSteady most after → until_activated most ≤ less → JobAt most (activating goal patience) after less
 activating_at most goal patience after less whole steady few = (refl, whole, steady.counters, (λ page e. absurd cc), (steady, few))
 
+pub confirming_at : (most : ℕ) (goal : Goal) (patience : Patience) (after : SimModule) → IsWhole goal → ComeUp most goal.control goal.lanes 0 after → IsConfirming most (looking goal patience) after
+confirming_at most goal patience after whole up = record { goal = goal; patience = patience; made = 0; is = refl; used = whole.used; up = up; mapped = tt }
+
+no_reading : (job : Patient (OnPage Halves)) (woken : Bool) (goal : Goal) (work : PatientProcedure) → (jobs.Reading job woken ≡ jobs.Provisioning work goal) ⊎ (jobs.Reading job woken ≡ jobs.Activating work goal) → ⊥
+no_reading job woken goal work (inl e) = cc
+no_reading job woken goal work (inr e) = cc
+
+no_waking : (job : PatientPower) (goal : Goal) (work : PatientProcedure) → (jobs.Waking job ≡ jobs.Provisioning work goal) ⊎ (jobs.Waking job ≡ jobs.Activating work goal) → ⊥
+no_waking job goal work (inl e) = cc
+no_waking job goal work (inr e) = cc
+
+no_look : (job : Patient (OnPage Look)) (goal : Goal) (work : PatientProcedure) → (jobs.Confirming job ≡ jobs.Provisioning work goal) ⊎ (jobs.Confirming job ≡ jobs.Activating work goal) → ⊥
+no_look job goal work (inl e) = cc
+no_look job goal work (inr e) = cc
+
 decided_leads : (most done budget : ℕ) (after : SimModule) (woken : Bool) (patience : Patience) (decision : Decision) → IsJudgedWhole decision → (less : ℕ) → IsSteady most after → reading_waits most woken ≤ less → less ≤ budget
     → Leads most done budget after (decided woken patience decision)
 decided_leads most done budget after woken patience (Leave reason) judged less steady few fewer = tt
@@ -257,6 +258,10 @@ pub is_awake : (wanted : Wanted) (decision : Decision) (image : Memory) (asleep 
 is_awake wanted decision image true e is = absurd cc
 is_awake wanted decision image false e is = is
 
+activated_leads : (most done budget : ℕ) (after : SimModule) (goal : Goal) (patience : Patience) (because : Option ProcedureFault) → (because ≡ None → Leads most done budget after (turns.On (confirming goal patience) note.Quiet)) → Leads most done budget after (activated goal patience because)
+activated_leads most done budget after goal patience None leads = leads refl
+activated_leads most done budget after goal patience (Some because) leads = tt
+
 provisioned_leads : (most done budget : ℕ) (after : SimModule) (goal : Goal) (patience : Patience) (because : Option ProcedureFault) → (because ≡ None → Leads most done budget after (turns.On (activating goal patience) note.Provisioned)) → Leads most done budget after (provisioned goal patience because)
 provisioned_leads most done budget after goal patience None leads = leads refl
 provisioned_leads most done budget after goal patience (Some because) leads = tt
@@ -267,20 +272,34 @@ ends_or_goes (Do op) pause job Ended turn Q is does waits ends = subst Q (sym is
 ends_or_goes (Wait time) pause job Ended turn Q is does waits ends = absurd (waits time refl)
 ends_or_goes (End spent) pause job Ended turn Q is does waits ends = ends spent refl is
 
+-- the first look goes on, or has found the goal up
+pub confirmed : (most : ℕ) (sim : SimModule) → HasHalves sim → (wanted : Wanted) (job : Patient (OnPage Look)) (op : Op) (reply : Reply) (turn : Turn) → IsConfirming most job sim → asked (jobs.Confirming job) ≡ Some op → reply ≡ reply_of sim op
+    → IsTurnOf wanted (jobs.Confirming job) reply turn → (Q : Turn → Type 0) → ((goal : Goal) (patience : Patience) → Q (turns.On (watching goal patience) note.CameUp))
+    → Q (going (pause_of (jobs.Confirming job) reply) (jobs.Confirming (look_after job reply))) → Q turn
+confirmed most sim has wanted job op reply turn at asks gives is Q up goes =
+    let next = look_after job reply in
+    let goal = next.conversation.conversation.conversation.goal in
+    let now = confirming_goes_on most job sim op reply has at asks gives in
+    ends_or_goes (look_wants next) (pause_of (jobs.Confirming job) reply) (jobs.Confirming next) (λ end turn. turn ≡ seen goal next.conversation.patience note.CameUp end) turn Q is
+    (λ op e. goes)
+    (λ time e. never_waits (wants_on paged_look) (after_on paged_look) job reply time (paged_never paged_look look_never) e)
+    (λ spent e ended. subst Q (sym (ended ∙ ap (seen goal next.conversation.patience note.CameUp) (confirming_ends most next (module_after sim op) spent now e))) (up goal next.conversation.patience))
+
 module _ (most budget : ℕ) (sim : SimModule) (op : Op) (reply : Reply) (has : HasHalves sim) (answers : Answers op reply) (gives : reply ≡ reply_of sim op) where
   abbrev after : SimModule
   after = module_after sim op
 
-  -- what follows, of all jobs but provisioning
-  follows_leads : (wanted : Wanted) (job : Job) → wanted.asleep ≡ false → ((goal : Goal) (work : PatientProcedure) → job ≡ jobs.Provisioning work goal → ⊥) → GoesOn most job op reply after budget → Follows (Leads most (left job) budget after) wanted job reply
+  -- what follows, of all jobs but provisioning and activation
+  follows_leads : (wanted : Wanted) (job : Job) → wanted.asleep ≡ false → ((goal : Goal) (work : PatientProcedure) → (job ≡ jobs.Provisioning work goal) ⊎ (job ≡ jobs.Activating work goal) → ⊥) → GoesOn most job op reply after budget → Follows (Leads most (left job) budget after) wanted job reply
   follows_leads wanted (jobs.Reading job woken) awake not on = λ decision whole judged.
       let image = (reading_after job reply).conversation.conversation.conversation.image in
       decided_leads most (left (jobs.Reading job woken)) budget after woken (patience_for image) decision (decided_whole wanted image decision (is_awake wanted decision image wanted.asleep awake judged)) on.less on.at.0 on.at.1 on.fewer
   follows_leads wanted (jobs.Waking job) awake not on =
       (on.less, (on.at.1, woken_few most (waking_after job reply).conversation.conversation.stage after on.less on.at.2), on.fewer)
   follows_leads wanted (jobs.Sleeping job) awake not on = tt
-  follows_leads wanted (jobs.Provisioning job goal) awake not on = absurd (not goal job refl)
-  follows_leads wanted (jobs.Activating job goal) awake not on = (on.less, tt, on.fewer)
+  follows_leads wanted (jobs.Provisioning job goal) awake not on = absurd (not goal job (inl refl))
+  follows_leads wanted (jobs.Activating job goal) awake not on = absurd (not goal job (inr refl))
+  follows_leads wanted (jobs.Confirming job) awake not on = (on.less, tt, on.fewer)
   follows_leads wanted (jobs.Watching job) awake not on = (on.less, tt, on.fewer)
 
   -- provisioning has ended without a fault
@@ -293,7 +312,17 @@ module _ (most budget : ℕ) (sim : SimModule) (op : Op) (reply : Reply) (has : 
       let steady = provisioned_steady most goal.control goal.outside list.met after on.less (ap (λ (work : Work). slice_get (tasks_of work) list.met) (sym on.at.0) ∙ ended.1) p in
       (on.less, activating_at most goal (procedure_after job reply).conversation.patience after on.less on.at.1 steady.0 steady.1, on.fewer)
 
-  turn_by : (wanted : Wanted) (job : Job) (turn : Turn) → wanted.asleep ≡ false → IsCmisJob job → LinkedJob job sim → ¬ (IsWatching job) → JobAt most job sim budget → asked job ≡ Some op → ((goal : Goal) (work : PatientProcedure) → job ≡ jobs.Provisioning work goal → ⊥)
+  -- activation has: its lanes are up
+  pub activating_ended : (job : PatientProcedure) (goal : Goal) (spent : Spent (Timed (Option ProvisionFault))) → GoesOn most (jobs.Activating job goal) op reply after budget → procedure_wants (procedure_after job reply) ≡ End spent → fault_in spent.end ≡ None
+      → Leads most (left (jobs.Activating job goal)) budget after (turns.On (confirming goal (procedure_after job reply).conversation.patience) note.Quiet)
+  activating_ended job goal spent on e none =
+      let list = (procedure_after job reply).conversation.conversation.conversation in
+      let ended = procedure_ends (procedure_after job reply) spent e none in
+      let p : Activates most goal.control goal.lanes list.met after on.less = subst (λ (found : Option ProvisionFault). Unless found (Activates most goal.control goal.lanes list.met after on.less)) ended.0 on.at.4 in
+      let up = activated_up most goal.control goal.lanes list.met after on.less (ap (λ (work : Work). slice_get (tasks_of work) list.met) (sym on.at.0) ∙ ended.1) p in
+      (on.less, confirming_at most goal (procedure_after job reply).conversation.patience after on.at.1 up, on.fewer)
+
+  turn_by : (wanted : Wanted) (job : Job) (turn : Turn) → wanted.asleep ≡ false → IsCmisJob job → LinkedJob job sim → ¬ (IsWatching job) → JobAt most job sim budget → asked job ≡ Some op → ((goal : Goal) (work : PatientProcedure) → (job ≡ jobs.Provisioning work goal) ⊎ (job ≡ jobs.Activating work goal) → ⊥)
       → IsAnyTurn wanted job reply turn → Leads most (left job) budget after turn
   turn_by wanted job turn awake cmis link stays at asks not is =
       turn_all (Leads most (left job) budget after) (λ why. tt) wanted job reply turn
@@ -310,8 +339,17 @@ module _ (most budget : ℕ) (sim : SimModule) (op : Op) (reply : Reply) (has : 
       (λ time e. never_waits (wants_on paged_tasks) (after_on paged_tasks) job reply time (paged_never paged_tasks tasks_never) e)
       (λ spent e ended. subst (Leads most (left (jobs.Provisioning job goal)) budget after) (sym ended)
       (provisioned_leads most (left (jobs.Provisioning job goal)) budget after goal next.conversation.patience (fault_in spent.end) (λ none. provisioning_ended job goal spent on e none)))
-  turn_leads wanted (jobs.Reading job woken) turn awake cmis link stays at asks is = turn_by wanted (jobs.Reading job woken) turn awake cmis link stays at asks (λ goal work e. cc) is
-  turn_leads wanted (jobs.Waking job) turn awake cmis link stays at asks is = turn_by wanted (jobs.Waking job) turn awake cmis link stays at asks (λ goal work e. cc) is
+  turn_leads wanted (jobs.Reading job woken) turn awake cmis link stays at asks is = turn_by wanted (jobs.Reading job woken) turn awake cmis link stays at asks (λ goal work e. no_reading job woken goal work e) is
+  turn_leads wanted (jobs.Waking job) turn awake cmis link stays at asks is = turn_by wanted (jobs.Waking job) turn awake cmis link stays at asks (λ goal work e. no_waking job goal work e) is
   turn_leads wanted (jobs.Sleeping job) turn awake cmis link stays at asks is = absurd at
-  turn_leads wanted (jobs.Activating job goal) turn awake cmis link stays at asks is = turn_by wanted (jobs.Activating job goal) turn awake cmis link stays at asks (λ goal work e. cc) is
+  turn_leads wanted (jobs.Activating job goal) turn awake cmis link stays at asks is =
+      let on = job_goes_on most sim (jobs.Activating job goal) op reply budget has cmis link at asks answers gives in
+      let next = procedure_after job reply in
+      ends_or_goes (procedure_wants next) (pause_of (jobs.Activating job goal) reply) (jobs.Activating next goal) (λ end turn. turn ≡ activated goal next.conversation.patience (fault_in end)) turn (Leads most (left (jobs.Activating job goal)) budget after)
+      (takes_reply sim op reply wanted (jobs.Activating job goal) turn has gives asks is)
+      (λ asked_next e. later_leads most budget sim (jobs.Activating job goal) op asked_next reply has cmis link stays at asks answers gives (ap op_of e))
+      (λ time e. never_waits (wants_on paged_tasks) (after_on paged_tasks) job reply time (paged_never paged_tasks tasks_never) e)
+      (λ spent e ended. subst (Leads most (left (jobs.Activating job goal)) budget after) (sym ended)
+      (activated_leads most (left (jobs.Activating job goal)) budget after goal next.conversation.patience (fault_in spent.end) (λ none. activating_ended job goal spent on e none)))
+  turn_leads wanted (jobs.Confirming job) turn awake cmis link stays at asks is = turn_by wanted (jobs.Confirming job) turn awake cmis link stays at asks (λ goal work e. no_look job goal work e) is
   turn_leads wanted (jobs.Watching job) turn awake cmis link stays at asks is = absurd (stays tt)

@@ -5,6 +5,8 @@ pub mod ManagedLaw
 pub mod NewModules
 pub mod SteadyModules
 pub mod Procedures
+pub mod FoundStates
+pub mod FirstLooks
 pub mod OwnTasks
 pub mod ProcedureSteps
 pub mod JobSteps

@@ -56,7 +56,8 @@ follows_linked sim wanted (jobs.Reading job woken) reply = λ decision whole jud
 follows_linked sim wanted (jobs.Waking job) reply = λ opened. absurd (let same : false ≡ true = opened in cc)
 follows_linked sim wanted (jobs.Sleeping job) reply = tt
 follows_linked sim wanted (jobs.Provisioning job goal) reply = λ opened. absurd (let same : false ≡ true = opened in cc)
-follows_linked sim wanted (jobs.Activating job goal) reply = tt
+follows_linked sim wanted (jobs.Activating job goal) reply = λ opened. absurd (let same : false ≡ true = opened in cc)
+follows_linked sim wanted (jobs.Confirming job) reply = tt
 follows_linked sim wanted (jobs.Watching job) reply = tt
 
 pub turn_linked : (sim : SimModule) (wanted : Wanted) (job : Job) (op : Op) (reply : Reply) (turn : Turn) → HasHalves sim → IsCmisJob job → LinkedJob job sim → asked job ≡ Some op → Answers op reply → reply ≡ (passed_on conduct op sim).0
@@ -93,6 +94,7 @@ follows_waits before op wanted (jobs.Waking job) reply = tt
 follows_waits before op wanted (jobs.Sleeping job) reply = tt
 follows_waits before op wanted (jobs.Provisioning job goal) reply = tt
 follows_waits before op wanted (jobs.Activating job goal) reply = tt
+follows_waits before op wanted (jobs.Confirming job) reply = tt
 follows_waits before op wanted (jobs.Watching job) reply = tt
 
 turn_waits : (sim : SimModule) (wanted : Wanted) (job : Job) (op : Op) (reply : Reply) (turn : Turn) → HasHalves sim → IsCmisJob job → LinkedJob job sim → ¬ (IsWatching job) → asked job ≡ Some op → Answers op reply
@@ -119,6 +121,7 @@ job_paused (jobs.Waking job) count sim link = tt
 job_paused (jobs.Sleeping job) count sim link = tt
 job_paused (jobs.Provisioning job goal) count sim link = link_paused _ job.conversation.conversation count sim link
 job_paused (jobs.Activating job goal) count sim link = link_paused _ job.conversation.conversation count sim link
+job_paused (jobs.Confirming job) count sim link = link_paused _ job.conversation.conversation count sim link
 job_paused (jobs.Watching job) count sim link = tt
 
 pub stage_paused : (stage : Stage) (count : ℕ) (sim : SimModule) → LinkedStage stage sim → LinkedStage stage (ticked_times conduct count sim)

@@ -31,7 +31,7 @@ use Rattle.sim_module.specs.Lanes.{active_bytes}
 use Rattle.sim_liveness.specs.Accepted.{read_by}
 use Rattle.module_states.specs.declared.state.ModuleState.TheVariants.{Ready}
 use Rattle.managed_module.proofs.GoalLanes.{still_admissible}
-use Rattle.managed_module.proofs.OwnTasks.{has_it}
+use Rattle.managed_module.proofs.FoundStates.{has_it}
 use Rattle.managed_module.specs.Bounds.{IsSteady}
 use Rattle.managed_module.specs.Managed.{HasHalves}
 use Rattle.managed_module.specs.ModuleGoals.{IsOwnGoal, IsPlanned}

@@ -36,7 +36,7 @@ use Rattle.port_manager.specs.declared.deciding.Wanted.{Wanted}
 use Rattle.port_manager.specs.declared.job.Job.{Job}
 use Rattle.port_manager.specs.declared.job.Job.TheVariants as jobs
 use Rattle.port_manager.specs.declared.turn.ProcedureFault.{ProcedureFault}
-use Rattle.port_manager.specs.Jobs.{asked, paged_halves, reading_after, reading_wants, waking_after, procedure_after, procedure_wants, paged_tasks}
+use Rattle.port_manager.specs.Jobs.{asked, look_after, paged_halves, paged_look, reading_after, reading_wants, waking_after, procedure_after, procedure_wants, paged_tasks}
 use Rattle.port_manager.specs.Patients.{Patient, after_on, pause_after as pause_of_patient, wants_on}
 use Rattle.port_manager.specs.Turns.{GoesTo, IsRead, IsReadingTurn, IsTurnOf, Turn, activated, decided, fault_in, going, provisioned}
 use Rattle.port_manager.proofs.PatientLaws.{never_waits, paged_never}
@@ -49,7 +49,8 @@ use Rattle.managed_module.specs.ComingUp.{IsUpNote}
 use Rattle.managed_module.specs.SuitedModules.{IsProvisionable}
 use Rattle.managed_module.specs.Succeeds.{AreWhole, IsAwaited, IsNoProcedure, Suits}
 use Rattle.managed_module.proofs.Halves.{halves_passed, halves_ticked}
-use Rattle.managed_module.proofs.JobTurns.{ends_or_goes}
+use Rattle.managed_module.proofs.JobSteps.{JobAt}
+use Rattle.managed_module.proofs.JobTurns.{confirmed, ends_or_goes}
 use Rattle.managed_module.proofs.Links.{takes_reply}
 use Rattle.managed_module.proofs.OwnAdverts.{IsPaged}
 use Rattle.managed_module.proofs.OwnDecisions.{IsGood, IsWholeImage, IsWork, decides, patience_same}
@@ -65,7 +66,7 @@ use Rattle.field_tables.specs.LaneSets.{IsLane}
 use Rattle.managed_module.proofs.OwnTasks.{module_after, reply_of}
 use Rattle.managed_module.proofs.OwnTurns.{OwnJob, OwnTurn, going_own, is_identified, not_begun, reading_begins, suits_now}
 
--- ---- turns of provisioning and activation
+-- ---- turns of provisioning and activation, and of the first look
 
 abbrev IsProcedure : Job → Type 0
 IsProcedure (jobs.Reading job woken) = ⊥
@@ -73,9 +74,10 @@ IsProcedure (jobs.Waking job) = ⊥
 IsProcedure (jobs.Sleeping job) = ⊥
 IsProcedure (jobs.Provisioning job goal) = Unit {0}
 IsProcedure (jobs.Activating job goal) = Unit {0}
+IsProcedure (jobs.Confirming job) = Unit {0}
 IsProcedure (jobs.Watching job) = ⊥
 
--- the module has come up, or one of the two goes on, or fails
+-- the module has come up, or one of them goes on, or fails
 abbrev ProcedureTurn : Turn → Type 0
 ProcedureTurn (turns.On job note) = IsUpNote note ⊎ (IsProcedure job × (is_identified note ≡ false) × (¬ (IsUpNote note)))
 ProcedureTurn (turns.Paused job time) = IsProcedure job
@@ -91,7 +93,7 @@ provisioned_turn goal patience None = inr (tt, refl, λ up. up)
 provisioned_turn goal patience (Some because) = λ none. none
 
 activated_turn : (goal : Goal) (patience : Patience) (because : Option ProcedureFault) → ProcedureTurn (activated goal patience because)
-activated_turn goal patience None = inl tt
+activated_turn goal patience None = inr (tt, refl, λ up. up)
 activated_turn goal patience (Some because) = λ none. none
 
 later_by : {E : Type 0} (next : Next (Spent E)) (pause : Option ℕ) (job : Job) (turn : Turn) (made : Option E → Turn) → IsProcedure job → ((end : Option E) → ProcedureTurn (made end)) → GoesTo next pause job (λ end turn. turn ≡ made end) turn
@@ -196,6 +198,7 @@ module _ (most : ℕ) (sim : SimModule) (has : HasHalves sim) (whole : AreWhole 
   own_by (jobs.Sleeping job) is way = absurd is
   own_by (jobs.Provisioning job goal) is way = way
   own_by (jobs.Activating job goal) is way = way
+  own_by (jobs.Confirming job) is way = tt
   own_by (jobs.Watching job) is way = absurd is
 
   -- such a turn goes well, if the module is provisionable
@@ -212,18 +215,22 @@ module _ (most : ℕ) (sim : SimModule) (has : HasHalves sim) (whole : AreWhole 
   procedure_own : (job : Job) (turn : Turn) → (IsProvisionable most first → IsOnWay most first job sim) → asked job ≡ Some op → ProcedureTurn turn → IsAnyTurn wanted job reply turn → OwnTurn most wanted first after turn
   procedure_own job turn holds asks procedure is = both turn procedure (λ may. way_turns most first sim op reply has answers gives may.lasts wanted job turn (holds may) asks is)
 
-  pub turn_own : (job : Job) (turn : Turn) → OwnJob most first job sim → asked job ≡ Some op → IsAnyTurn wanted job reply turn → OwnTurn most wanted first after turn
-  turn_own (jobs.Reading job woken) turn holds asks is = reading_turns woken job holds.0 holds.1 asks turn (takes_reply sim op reply wanted (jobs.Reading job woken) turn has gives asks is)
-  turn_own (jobs.Waking job) turn holds asks is = waking_own job holds.0 holds.1 asks turn (takes_reply sim op reply wanted (jobs.Waking job) turn has gives asks is)
-  turn_own (jobs.Sleeping job) turn holds asks is = absurd holds
-  turn_own (jobs.Provisioning job goal) turn holds asks is =
+  -- where a look is at a module that came up
+  pub turn_own : (job : Job) (turn : Turn) → OwnJob most first job sim → (less : ℕ) → JobAt most job sim less → asked job ≡ Some op → IsAnyTurn wanted job reply turn → OwnTurn most wanted first after turn
+  turn_own (jobs.Reading job woken) turn holds less at asks is = reading_turns woken job holds.0 holds.1 asks turn (takes_reply sim op reply wanted (jobs.Reading job woken) turn has gives asks is)
+  turn_own (jobs.Waking job) turn holds less at asks is = waking_own job holds.0 holds.1 asks turn (takes_reply sim op reply wanted (jobs.Waking job) turn has gives asks is)
+  turn_own (jobs.Sleeping job) turn holds less at asks is = absurd holds
+  turn_own (jobs.Provisioning job goal) turn holds less at asks is =
       let next = procedure_after job reply in
       let procedure = later_by (procedure_wants next) (pause_of_patient (wants_on paged_tasks) (after_on paged_tasks) job reply) (jobs.Provisioning next goal) turn (λ end. provisioned goal next.conversation.patience (fault_in end)) tt
       (λ end. provisioned_turn goal next.conversation.patience (fault_in end)) (takes_reply sim op reply wanted (jobs.Provisioning job goal) turn has gives asks is) in
       procedure_own (jobs.Provisioning job goal) turn holds asks procedure is
-  turn_own (jobs.Activating job goal) turn holds asks is =
+  turn_own (jobs.Activating job goal) turn holds less at asks is =
       let next = procedure_after job reply in
       let procedure = later_by (procedure_wants next) (pause_of_patient (wants_on paged_tasks) (after_on paged_tasks) job reply) (jobs.Activating next goal) turn (λ end. activated goal next.conversation.patience (fault_in end)) tt
       (λ end. activated_turn goal next.conversation.patience (fault_in end)) (takes_reply sim op reply wanted (jobs.Activating job goal) turn has gives asks is) in
       procedure_own (jobs.Activating job goal) turn holds asks procedure is
-  turn_own (jobs.Watching job) turn holds asks is = absurd holds
+  turn_own (jobs.Confirming job) turn holds less at asks is =
+      confirmed most sim has wanted job op reply turn at asks gives (takes_reply sim op reply wanted (jobs.Confirming job) turn has gives asks is) (OwnTurn most wanted first after) (λ goal patience. inl tt)
+      (going_own most wanted first after (pause_of_patient (wants_on paged_look) (after_on paged_look) job reply) (jobs.Confirming (look_after job reply)) tt)
+  turn_own (jobs.Watching job) turn holds less at asks is = absurd holds

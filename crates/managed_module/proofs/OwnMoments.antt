@@ -38,6 +38,7 @@ use Rattle.managed_module.specs.InTime.{IsPrompt, IsSoon, SuitedHasComeUpInTime,
 use Rattle.managed_module.specs.Managed.{HasHalves}
 use Rattle.managed_module.specs.SuitedModules.{IsProvisionable}
 use Rattle.managed_module.specs.Succeeds.{AllSuit, AreWhole, IsAwaited, Works}
+use Rattle.managed_module.proofs.BoundLaw.{plugged_keeps}
 use Rattle.managed_module.proofs.OwnAdverts.{IsPaged, is_paged}
 use Rattle.managed_module.proofs.OwnPauses.{IsBrief, IsBriefJob, first_pause, own_brief}
 use Rattle.managed_module.proofs.OwnSteps.{IsSpared, OwnStage, not_up}
@@ -243,8 +244,9 @@ module _ (most : ℕ) (first : SimModule) (whole : AreWhole first.image) (can_wa
   keeps later after (make op reply wanted moment result ∷ before) (between, sim, ran, (waited, asks, replies, is), (gives, same)) calm suit =
       let paged : IsPaged first.image = is_paged (conventions_of wanted) first.image refl suit.0.read in
       let begun : Holds most first whole paged can_wait (plugged now port) first = holds_first most first whole paged can_wait port now has steady in
-      by paged (runs most first whole paged can_wait (plugged now port) between sim before begun ran calm.1 suit.1)
-      (runs most first whole paged can_wait (plugged now port) later after (make op reply wanted moment result ∷ before) begun (between, sim, ran, (waited, asks, replies, is), (gives, same)) calm suit) (keeps between sim before ran calm.1 suit.1) where
+      let kept = plugged_keeps most port first now has steady in
+      by paged (runs most first whole paged can_wait (plugged now port) between sim before kept begun ran calm.1 suit.1)
+      (runs most first whole paged can_wait (plugged now port) later after (make op reply wanted moment result ∷ before) kept begun (between, sim, ran, (waited, asks, replies, is), (gives, same)) calm suit) (keeps between sim before ran calm.1 suit.1) where
         by : (paged : IsPaged first.image) → HasComeUp before ⊎ IsRun most first whole paged can_wait (plugged now port) before between sim → HasComeUp (make op reply wanted moment result ∷ before) ⊎ IsRun most first whole paged can_wait (plugged now port) (make op reply wanted moment result ∷ before) later after → HasComeUp before ⊎ Timed before between
             → HasComeUp (make op reply wanted moment result ∷ before) ⊎ Timed (make op reply wanted moment result ∷ before) later
         by paged (inl up) on timed = inl (inr up)
@@ -262,14 +264,14 @@ timed_in most first port later after now story has steady whole may ran calm sui
 
 pub suited_has_come_up_in_time : SuitedHasComeUpInTime
 suited_has_come_up_in_time most turnaround now moment port later sim after story has steady whole may ran calm suit prompt soon late =
-    by (cases_lt (61 + 3 * most_waits most) (made_in story)) (timed_in most sim port later after now story has steady whole may ran calm suit) where
-      in_time : made_in story ≤ 61 + 3 * most_waits most → IsSoon turnaround (plugged now port).due story moment → HasComeUp story ⊎ (due_in (plugged now port).due story ≤ (plugged now port).due + made_in story * (turnaround + pause_for sim.image)) → HasComeUp story
+    by (cases_lt (65 + 3 * most_waits most) (made_in story)) (timed_in most sim port later after now story has steady whole may ran calm suit) where
+      in_time : made_in story ≤ 65 + 3 * most_waits most → IsSoon turnaround (plugged now port).due story moment → HasComeUp story ⊎ (due_in (plugged now port).due story ≤ (plugged now port).due + made_in story * (turnaround + pause_for sim.image)) → HasComeUp story
       in_time few (inl up) early = up
       in_time few (inr soon) (inl up) = up
       in_time few (inr soon) (inr early) =
-          absurd (not_later (plugged now port).due (made_in story) (62 + 3 * most_waits most) turnaround (pause_for sim.image) (due_in (plugged now port).due story) moment (omega (arith, few)) early soon late)
+          absurd (not_later (plugged now port).due (made_in story) (66 + 3 * most_waits most) turnaround (pause_for sim.image) (due_in (plugged now port).due story) moment (omega (arith, few)) early soon late)
 
-      by : (61 + 3 * most_waits most < made_in story) ⊎ (made_in story ≤ 61 + 3 * most_waits most) → HasComeUp story ⊎ IsTimed (pause_for sim.image) (plugged now port).due port.held story later → HasComeUp story
+      by : (65 + 3 * most_waits most < made_in story) ⊎ (made_in story ≤ 65 + 3 * most_waits most) → HasComeUp story ⊎ IsTimed (pause_for sim.image) (plugged now port).due port.held story later → HasComeUp story
       by (inl many) timed = suited_has_come_up most port later sim after now story has steady whole may ran calm suit many
       by (inr few) (inl up) = up
       by (inr few) (inr timed) = in_time few soon (timed.time turnaround prompt)

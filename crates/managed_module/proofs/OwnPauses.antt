@@ -89,6 +89,7 @@ patience_of (jobs.Waking job) = job.conversation.patience
 patience_of (jobs.Sleeping job) = job.conversation.patience
 patience_of (jobs.Provisioning job goal) = job.conversation.patience
 patience_of (jobs.Activating job goal) = job.conversation.patience
+patience_of (jobs.Confirming job) = job.conversation.patience
 patience_of (jobs.Watching job) = job.conversation.patience
 
 job_pauses : (job : Job) (reply : Reply) (time : ℕ) → pause_of job reply ≡ Some time → (patience_of job).pause ≡ time
@@ -97,6 +98,7 @@ job_pauses (jobs.Waking job) reply time e = pauses_for power_wants change_after 
 job_pauses (jobs.Sleeping job) reply time e = pauses_for power_wants change_after job reply time power_never e
 job_pauses (jobs.Provisioning job goal) reply time e = pauses_for (wants_on paged_tasks) (after_on paged_tasks) job reply time (paged_never paged_tasks tasks_never) e
 job_pauses (jobs.Activating job goal) reply time e = pauses_for (wants_on paged_tasks) (after_on paged_tasks) job reply time (paged_never paged_tasks tasks_never) e
+job_pauses (jobs.Confirming job) reply time e = pauses_for (wants_on paged_look) (after_on paged_look) job reply time (paged_never paged_look look_never) e
 job_pauses (jobs.Watching job) reply time e = pauses_for (wants_on paged_look) (after_on paged_look) job reply time (paged_never paged_look look_never) e
 
 later_patience : (job : Job) (reply : Reply) → patience_of (later job reply) ≡ patience_of job
@@ -105,6 +107,7 @@ later_patience (jobs.Waking job) reply = patience_kept power_wants change_after 
 later_patience (jobs.Sleeping job) reply = patience_kept power_wants change_after job reply
 later_patience (jobs.Provisioning job goal) reply = patience_kept (wants_on paged_tasks) (after_on paged_tasks) job reply
 later_patience (jobs.Activating job goal) reply = patience_kept (wants_on paged_tasks) (after_on paged_tasks) job reply
+later_patience (jobs.Confirming job) reply = patience_kept (wants_on paged_look) (after_on paged_look) job reply
 later_patience (jobs.Watching job) reply = patience_kept (wants_on paged_look) (after_on paged_look) job reply
 
 abbrev pub IsBriefJob : ℕ → Job → Type 0
@@ -151,6 +154,7 @@ ReadsBrief longest (jobs.Waking job) reply = Unit {0}
 ReadsBrief longest (jobs.Sleeping job) reply = Unit {0}
 ReadsBrief longest (jobs.Provisioning job goal) reply = Unit {0}
 ReadsBrief longest (jobs.Activating job goal) reply = Unit {0}
+ReadsBrief longest (jobs.Confirming job) reply = Unit {0}
 ReadsBrief longest (jobs.Watching job) reply = Unit {0}
 
 follows_brief : (longest : ℕ) (wanted : Wanted) (job : Job) (reply : Reply) → pause_for finmap.empty ≤ longest → IsBriefJob longest job → ReadsBrief longest job reply → Follows (IsBrief longest) wanted job reply
@@ -159,6 +163,7 @@ follows_brief longest wanted (jobs.Waking job) reply first brief reads = (first,
 follows_brief longest wanted (jobs.Sleeping job) reply first brief reads = tt
 follows_brief longest wanted (jobs.Provisioning job goal) reply first brief reads = (later_brief longest (jobs.Provisioning job goal) reply brief, tt)
 follows_brief longest wanted (jobs.Activating job goal) reply first brief reads = (later_brief longest (jobs.Activating job goal) reply brief, tt)
+follows_brief longest wanted (jobs.Confirming job) reply first brief reads = (later_brief longest (jobs.Confirming job) reply brief, tt)
 follows_brief longest wanted (jobs.Watching job) reply first brief reads = (later_brief longest (jobs.Watching job) reply brief, tt)
 
 turn_brief : (longest : ℕ) (wanted : Wanted) (job : Job) (reply : Reply) (turn : Turn) → pause_for finmap.empty ≤ longest → IsBriefJob longest job → ReadsBrief longest job reply → IsAnyTurn wanted job reply turn → IsBrief longest turn
@@ -197,6 +202,7 @@ module _ (most : ℕ) (sim : SimModule) (has : HasHalves sim) (whole : AreWhole 
   reads_brief first (jobs.Sleeping job) own asks = tt
   reads_brief first (jobs.Provisioning job goal) own asks = tt
   reads_brief first (jobs.Activating job goal) own asks = tt
+  reads_brief first (jobs.Confirming job) own asks = tt
   reads_brief first (jobs.Watching job) own asks = tt
 
   pub own_brief : (first : SimModule) (wanted : Wanted) (job : Job) (turn : Turn) → OwnJob most first job sim → asked job ≡ Some op → IsBriefJob (pause_for sim.image) job → IsAnyTurn wanted job reply turn → IsBrief (pause_for sim.image) turn

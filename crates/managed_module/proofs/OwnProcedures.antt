@@ -22,22 +22,22 @@ use Rattle.sim_module.specs.Lanes.{active_bytes}
 use Rattle.sim_module.specs.Modules.{conduct}
 use Rattle.sim_module.specs.OwnAdverts.{own_advert}
 use Rattle.managed_module.specs.Managed.{HasHalves}
-use Rattle.managed_module.specs.ManagedPlans.{IsReadyFor, LastsFor, most_made}
+use Rattle.managed_module.specs.ManagedPlans.{IsReadyFor, LastsFor, most_made, most_until_up}
 use Rattle.managed_module.specs.ModuleGoals.{IsOwnGoal}
 use Rattle.managed_module.proofs.GoalLanes.{length_of}
 use Rattle.managed_module.proofs.OwnTasks.{module_after, reply_of}
 use Rattle.managed_module.proofs.PlanJobs.{GoesWell, WellTurn, goes_paused}
 use Rattle.managed_module.proofs.PlanStories.{activates_first, in_time_by, provisions_first}
-use Rattle.managed_module.proofs.PlanTurns.{left_some, turn_well}
+use Rattle.managed_module.proofs.PlanTurns.{early, turn_well}
 use Rattle.managed_module.proofs.StagedBytes.{lane_is_of, lanes_are}
 use Rattle.port_manager.proofs.TurnCases.{IsAnyTurn}
 
 -- it goes well, after so many operations
 abbrev pub IsOnWay : ℕ → SimModule → Job → SimModule → Type 0
-IsOnWay most first job sim = (made : ℕ) × GoesWell most (most_made most) (patience_for first.image) made job sim
+IsOnWay most first job sim = (made : ℕ) × GoesWell most (most_until_up most) (patience_for first.image) made job sim
 
 pub way_paused : (most : ℕ) (first : SimModule) (job : Job) (count : ℕ) (sim : SimModule) → IsOnWay most first job sim → IsOnWay most first job (ticked_times conduct count sim)
-way_paused most first job count sim (made, goes) = (made, goes_paused most (most_made most) (patience_for first.image) made job count sim goes)
+way_paused most first job count sim (made, goes) = (made, goes_paused most (most_until_up most) (patience_for first.image) made job count sim goes)
 
 -- ---- at the beginning
 
@@ -69,8 +69,8 @@ module _ (most : ℕ) (wanted : Wanted) (sim : SimModule) (goal : Goal) (is : Is
     }
 
     module _ (first : SimModule) (patience : Patience) (same : patience ≡ patience_for first.image) where
-      granted : (job : Job) → GoesWell most (most_made most) patience 0 job sim → IsOnWay most first job sim
-      granted job goes = (0, subst (λ (granted : Patience). GoesWell most (most_made most) granted 0 job sim) same goes)
+      granted : (job : Job) → GoesWell most (most_until_up most) patience 0 job sim → IsOnWay most first job sim
+      granted job goes = (0, subst (λ (granted : Patience). GoesWell most (most_until_up most) granted 0 job sim) same goes)
 
       pub begins_provisioning : IsOnWay most first (provisioning goal patience) sim
       begins_provisioning = granted (provisioning goal patience) (provisions_first most (conventions_of wanted) is.paths is.kept goal patience sim ready_for)
@@ -87,7 +87,7 @@ module _ (most : ℕ) (first sim : SimModule) (op : Op) (reply : Reply) (has : H
   abbrev patience : Patience
   patience = patience_for first.image
 
-  as_way : (made : ℕ) (turn : Turn) → WellTurn ⊥ (λ job. GoesWell most (most_made most) patience made job after) turn → WellTurn ⊥ (λ job. IsOnWay most first job after) turn
+  as_way : (made : ℕ) (turn : Turn) → WellTurn ⊥ (λ job. GoesWell most (most_until_up most) patience made job after) turn → WellTurn ⊥ (λ job. IsOnWay most first job after) turn
   as_way made (turns.On job note) (inl up) = inl up
   as_way made (turns.On job note) (inr goes) = inr (made, goes)
   as_way made (turns.Paused job time) goes = (made, goes)
@@ -96,5 +96,5 @@ module _ (most : ℕ) (first sim : SimModule) (op : Op) (reply : Reply) (has : H
 
   pub way_turns : (wanted : Wanted) (job : Job) (turn : Turn) → IsOnWay most first job sim → asked job ≡ Some op → IsAnyTurn wanted job reply turn → WellTurn ⊥ (λ job. IsOnWay most first job after) turn
   way_turns wanted job turn (made, goes) asks is =
-      let few : made + 1 ≤ most_made most = omega (arith, goes.few, left_some most (most_made most) patience made job sim op goes asks) in
-      as_way (made + 1) turn (turn_well ⊥ most (most_made most) patience made sim op reply has answers gives wanted job turn goes asks (in_time_by most patience lasts made few job reply goes.time) is)
+      as_way (made + 1) turn
+      (turn_well ⊥ most (most_until_up most) patience made sim op reply has answers gives wanted job turn goes asks (in_time_by most patience lasts made job (early most (most_made most) patience made job sim op goes asks) reply goes.time) is)

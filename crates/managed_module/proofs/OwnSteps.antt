@@ -37,7 +37,8 @@ use Rattle.managed_module.specs.Managed.{HasHalves, IsCmisStage}
 use Rattle.managed_module.specs.ComingUp.{IsUpResult}
 use Rattle.managed_module.specs.Succeeds.{AreWhole, IsAwaited, NoProcedureFails, Suits}
 use Rattle.managed_module.specs.SuitedModules.{IsProvisionable}
-use Rattle.managed_module.proofs.BoundLaw.{same_request}
+use Rattle.managed_module.proofs.BoundLaw.{StageAt, same_request}
+use Rattle.managed_module.proofs.JobSteps.{JobAt}
 use Rattle.managed_module.proofs.OwnAdverts.{IsPaged}
 use Rattle.managed_module.proofs.OwnHalves.{is_cmis}
 use Rattle.managed_module.proofs.OwnTasks.{module_after, reply_of}
@@ -85,6 +86,7 @@ cmis_stage most first (stages.Working (jobs.Waking job)) sim paged own = tt
 cmis_stage most first (stages.Working (jobs.Sleeping job)) sim paged own = tt
 cmis_stage most first (stages.Working (jobs.Provisioning job goal)) sim paged own = tt
 cmis_stage most first (stages.Working (jobs.Activating job goal)) sim paged own = tt
+cmis_stage most first (stages.Working (jobs.Confirming job)) sim paged own = tt
 cmis_stage most first (stages.Working (jobs.Watching job)) sim paged own = tt
 
 pub stage_paused : (most : ℕ) (first : SimModule) (stage : Stage) (count : ℕ) (sim : SimModule) → OwnStage most first stage sim → OwnStage most first stage (ticked_times conduct count sim)
@@ -144,21 +146,21 @@ module _ (most : ℕ) (sim : SimModule) (has : HasHalves sim) (whole : AreWhole 
   abbrev after : SimModule
   after = module_after sim op
 
-  job_step : (job : Job) (turn : Turn) → OwnJob most first job sim → asked job ≡ Some op → IsAnyTurn (granted port.request wanted) job reply turn → result ≡ outcome_of port turn now
+  job_step : (job : Job) (turn : Turn) → OwnJob most first job sim → (less : ℕ) → JobAt most job sim less → asked job ≡ Some op → IsAnyTurn (granted port.request wanted) job reply turn → result ≡ outcome_of port turn now
       → later ≡ turned (noting (answered port) (asked job) reply now) turn now → IsUpOrStep most wanted first result later after
-  job_step job turn own asks leads outcome becomes =
+  job_step job turn own less at asks leads outcome becomes =
       let noted = noting (answered port) (asked job) reply now in
       let same : granted port.request wanted ≡ wanted = ap (λ (request : Request). granted request wanted) wake ∙ granted_same wanted in
       let is : result ≡ outcome_of noted turn now = outcome ∙ sym (noted_outcome port (asked job) reply turn now) in
       let turned_own : OwnTurn most wanted first after turn =
-      turn_own most sim has whole paged awaited wanted first same_image same_advert suits op reply answers gives job turn own asks (subst (λ (wanted : Wanted). IsAnyTurn wanted job reply turn) same leads) in
+      turn_own most sim has whole paged awaited wanted first same_image same_advert suits op reply answers gives job turn own less at asks (subst (λ (wanted : Wanted). IsAnyTurn wanted job reply turn) same leads) in
       subst (λ (later : Port). IsUpOrStep most wanted first result later after) (sym becomes)
       (subst (λ (result : Outcome). IsUpOrStep most wanted first result (turned noted turn now) after) (sym is) (turned_step most wanted first noted turn now after wake tt turned_own (subst (IsSpared most first) is early)))
 
-  pub stage_step : (stage : Stage) → OwnStage most first stage sim → asked_in stage ≡ Some op → IsTurnedIn stage port reply wanted now result later → IsUpOrStep most wanted first result later after
-  stage_step stages.Absent own asks is = absurd own
-  stage_step (stages.Left reason) own asks is = absurd own
-  stage_step (stages.Working job) own asks (turn, leads, outcome, becomes) = job_step job turn own asks (port.apply_refused, leads) outcome becomes
+  pub stage_step : (stage : Stage) → OwnStage most first stage sim → (less : ℕ) → StageAt most stage sim less → asked_in stage ≡ Some op → IsTurnedIn stage port reply wanted now result later → IsUpOrStep most wanted first result later after
+  stage_step stages.Absent own less at asks is = absurd own
+  stage_step (stages.Left reason) own less at asks is = absurd own
+  stage_step (stages.Working job) own less at asks (turn, leads, outcome, becomes) = job_step job turn own less at asks (port.apply_refused, leads) outcome becomes
 
 pub not_up : (most : ℕ) (first : SimModule) (stage : Stage) (sim : SimModule) → OwnStage most first stage sim → IsUpStage stage → ⊥
 not_up most first stages.Absent sim own up = own
@@ -168,4 +170,5 @@ not_up most first (stages.Working (jobs.Waking job)) sim own up = up
 not_up most first (stages.Working (jobs.Sleeping job)) sim own up = up
 not_up most first (stages.Working (jobs.Provisioning job goal)) sim own up = up
 not_up most first (stages.Working (jobs.Activating job goal)) sim own up = up
+not_up most first (stages.Working (jobs.Confirming job)) sim own up = up
 not_up most first (stages.Working (jobs.Watching job)) sim own up = own

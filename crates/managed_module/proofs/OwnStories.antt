@@ -32,7 +32,7 @@ use Rattle.managed_module.specs.ComingUp.{HasComeUp, IsUndisturbed, IsUpResult}
 use Rattle.managed_module.specs.ManagedPlans.{LastsFor, most_made}
 use Rattle.managed_module.specs.SuitedModules.{SuitedHasComeUp}
 use Rattle.managed_module.specs.Succeeds.{AllSuit, AreWhole, ComesUpSuited, IsAwaited, NoProcedureFails, ProceduresSucceed, Suits, Works}
-use Rattle.managed_module.proofs.BoundLaw.{comes_up_within}
+use Rattle.managed_module.proofs.BoundLaw.{Keeps, StageAt, comes_up_within, plugged_keeps, runs_reached}
 use Rattle.managed_module.proofs.Halves.{halves_passed, halves_paused, halves_ticked}
 use Rattle.managed_module.proofs.OwnAdverts.{IsPaged, is_paged}
 use Rattle.managed_module.proofs.OwnReadingEnds.{advert_kept, advert_paused, image_kept, image_paused}
@@ -85,14 +85,14 @@ module _ (most : ℕ) (first : SimModule) (whole : AreWhole first.image) (paged 
     begun : result ≡ outcomes.Went notes.Identified → IfWorking later.stage (IsBegun most wanted first after)
 
   made_step : (between later : Port) (sim : SimModule) (op : Op) (reply : Reply) (wanted : Wanted) (now : ℕ) (result : Outcome) → Holds between sim → Suits first wanted → between.outstanding ≡ outstanding.Awaited → asked_in between.stage ≡ Some op
-      → IsAwaitedBy between.outstanding between reply → reply ≡ reply_of sim op → IsSpared most first result → IsTakenBy between.outstanding between reply wanted now result later → IsUpResult result ⊎ IsMade result wanted later (module_after sim op)
-  made_step between later sim op reply wanted now result holds suits waited asks replies gives early is =
+      → IsAwaitedBy between.outstanding between reply → reply ≡ reply_of sim op → IsSpared most first result → (less : ℕ) → StageAt most between.stage sim less → IsTakenBy between.outstanding between reply wanted now result later → IsUpResult result ⊎ IsMade result wanted later (module_after sim op)
+  made_step between later sim op reply wanted now result holds suits waited asks replies gives early less at is =
       let reply_to : IsReplyTo (asked_in between.stage) reply = subst (λ (o : Outstanding). IsAwaitedBy o between reply) waited replies in
       let answers : Answers op reply = subst (λ (found : Option Op). IsReplyTo found reply) asks reply_to in
       let turned_in : IsTurnedIn between.stage between reply wanted now result later = subst (λ (o : Outstanding). IsTakenBy o between reply wanted now result later) waited is in
       by
       (stage_step most sim holds.halves (subst AreWhole (sym holds.image) whole) (subst IsPaged (sym holds.image) paged) (subst (IsAwaited most) (sym holds.image) awaited) wanted first holds.image holds.advert suits op reply answers gives between later now result
-      holds.request early between.stage holds.own asks turned_in) where
+      holds.request early between.stage holds.own less at asks turned_in) where
         by : IsUpOrStep most wanted first result later (module_after sim op) → IsUpResult result ⊎ IsMade result wanted later (module_after sim op)
         by (inl up) = inl up
         by (inr step) = inr (record {
@@ -123,51 +123,57 @@ module _ (most : ℕ) (first : SimModule) (whole : AreWhole first.image) (paged 
   idle_run port between later sim after before story (inl up) still next = inl (still up)
   idle_run port between later sim after before story (inr run) still next = inr (next run)
 
-  pub runs : (port later : Port) (after : SimModule) (story : Story) → Holds port first → Works port first story later after → IsUndisturbed (IsSpared most first) story → AllSuit first story → HasComeUp story ⊎ IsRun port story later after
-  runs port later after [] holds (is, same) succeed suit = inr (record {
+  -- what is left to be waited for
+  left_at : (port later : Port) (after : SimModule) (story : Story) → Keeps most port first (most_waits most) → IsRun port story later after → (less : ℕ) × StageAt most later.stage after less
+  left_at port later after story keeps run =
+      let reached = runs_reached most (most_waits most) port later first after story keeps run.managed run.goes run.wants in
+      (reached.less, reached.keeps.at)
+
+  pub runs : (port later : Port) (after : SimModule) (story : Story) → Keeps most port first (most_waits most) → Holds port first → Works port first story later after → IsUndisturbed (IsSpared most first) story → AllSuit first story → HasComeUp story ⊎ IsRun port story later after
+  runs port later after [] keeps holds (is, same) succeed suit = inr (record {
     managed = (is, same);
     goes = tt;
     wants = tt;
     holds = subst (λ (p : Port). Holds p after) (sym is) (same_module port first after same holds);
   })
-  runs port later after (plug now ∷ before) holds ran succeed suit = absurd succeed
-  runs port later after (pull ∷ before) holds ran succeed suit = absurd succeed
-  runs port later after (reconsider ∷ before) holds ran succeed suit = absurd succeed
-  runs port later after (hold held ∷ before) holds ran succeed suit = absurd succeed
-  runs port later after (demand request ∷ before) holds ran succeed suit = absurd succeed
-  runs port later after (acknowledge past ∷ before) holds (between, sim, ran, is, same) succeed suit =
-      idle_run port between later sim after before (acknowledge past ∷ before) (runs port between sim before holds ran succeed suit) (λ up. up) (λ run. record {
+  runs port later after (plug now ∷ before) keeps holds ran succeed suit = absurd succeed
+  runs port later after (pull ∷ before) keeps holds ran succeed suit = absurd succeed
+  runs port later after (reconsider ∷ before) keeps holds ran succeed suit = absurd succeed
+  runs port later after (hold held ∷ before) keeps holds ran succeed suit = absurd succeed
+  runs port later after (demand request ∷ before) keeps holds ran succeed suit = absurd succeed
+  runs port later after (acknowledge past ∷ before) keeps holds (between, sim, ran, is, same) succeed suit =
+      idle_run port between later sim after before (acknowledge past ∷ before) (runs port between sim before keeps holds ran succeed suit) (λ up. up) (λ run. record {
         managed = (between, sim, run.managed, cmis between sim run.holds, is, same);
         goes = run.goes;
         wants = run.wants;
         holds = same_module later sim after same
             (idle_holds between later sim run.holds (ap (λ (p : Port). p.stage) is) (ap (λ (p : Port). p.request) is) (subst (λ (p : Port). IsFresh p.outstanding) (sym is) run.holds.fresh));
       })
-  runs port later after (hear alive began ∷ before) holds (between, sim, ran, is, same) succeed suit =
-      idle_run port between later sim after before (hear alive began ∷ before) (runs port between sim before holds ran succeed suit) (λ up. up) (λ run. record {
+  runs port later after (hear alive began ∷ before) keeps holds (between, sim, ran, is, same) succeed suit =
+      idle_run port between later sim after before (hear alive began ∷ before) (runs port between sim before keeps holds ran succeed suit) (λ up. up) (λ run. record {
         managed = (between, sim, run.managed, cmis between sim run.holds, is, same);
         goes = run.goes;
         wants = run.wants;
         holds = same_module later sim after same
             (idle_holds between later sim run.holds (ap (λ (p : Port). p.stage) is) (ap (λ (p : Port). p.request) is) (subst (λ (p : Port). IsFresh p.outstanding) (sym is) run.holds.fresh));
       })
-  runs port later after (ask op moment ∷ before) holds (between, sim, ran, (asks, is), (count, same)) succeed suit =
-      idle_run port between later sim after before (ask op moment ∷ before) (runs port between sim before holds ran succeed suit) (λ up. up) (λ run. record {
+  runs port later after (ask op moment ∷ before) keeps holds (between, sim, ran, (asks, is), (count, same)) succeed suit =
+      idle_run port between later sim after before (ask op moment ∷ before) (runs port between sim before keeps holds ran succeed suit) (λ up. up) (λ run. record {
         managed = (between, sim, run.managed, cmis between sim run.holds, (asks, is), (count, same));
         goes = run.goes;
         wants = run.wants;
         holds = same_module later (ticked_times conduct count sim) after same
             (idle_holds between later (ticked_times conduct count sim) (ticks_hold between count sim run.holds) (ap (λ (p : Port). p.stage) is) (ap (λ (p : Port). p.request) is) (subst (λ (p : Port). IsFresh p.outstanding) (sym is) tt));
       })
-  runs port later after (drop ∷ before) holds (between, sim, ran, (lost, is), same) succeed suit =
-      idle_run port between later sim after before (drop ∷ before) (runs port between sim before holds ran succeed suit) (λ up. up) (λ run. record {
+  runs port later after (drop ∷ before) keeps holds (between, sim, ran, (lost, is), same) succeed suit =
+      idle_run port between later sim after before (drop ∷ before) (runs port between sim before keeps holds ran succeed suit) (λ up. up) (λ run. record {
         managed = (between, sim, run.managed, cmis between sim run.holds, (lost, is), same);
         goes = run.goes;
         wants = run.wants;
         holds = same_module later sim after same (idle_holds between later sim run.holds (ap (λ (p : Port). p.stage) is) (ap (λ (p : Port). p.request) is) (subst (λ (p : Port). IsFresh p.outstanding) (sym is) tt));
       })
-  runs port later after (make op reply wanted now result ∷ before) holds (between, sim, ran, (waited, asks, answers, is), (gives, same)) succeed suit =
-      by (runs port between sim before holds ran succeed.1 suit.1) where
+  runs port later after (make op reply wanted now result ∷ before) keeps holds (between, sim, ran, (waited, asks, answers, is), (gives, same)) succeed suit =
+      by (runs port between sim before keeps holds ran succeed.1 suit.1) where
         next : (run : IsRun port before between sim) → IsUpResult result ⊎ IsMade result wanted later (module_after sim op) → HasComeUp (make op reply wanted now result ∷ before) ⊎ IsRun port (make op reply wanted now result ∷ before) later after
         next run (inl up) = inl (inl up)
         next run (inr made) = inr (record {
@@ -179,7 +185,9 @@ module _ (most : ℕ) (first : SimModule) (whole : AreWhole first.image) (paged 
 
         by : HasComeUp before ⊎ IsRun port before between sim → HasComeUp (make op reply wanted now result ∷ before) ⊎ IsRun port (make op reply wanted now result ∷ before) later after
         by (inl up) = inl (inr up)
-        by (inr run) = next run (made_step between later sim op reply wanted now result run.holds suit.0 (fresh_awaited between.outstanding run.holds.fresh waited) asks answers gives succeed.0 is)
+        by (inr run) =
+            let at = left_at port between sim before keeps run in
+            next run (made_step between later sim op reply wanted now result run.holds suit.0 (fresh_awaited between.outstanding run.holds.fresh waited) asks answers gives succeed.0 at.0 at.1 is)
 
 -- ---- the law
 
@@ -232,12 +240,12 @@ spared most sim story succeed = undisturbed NoProcedureFails (IsSpared most sim)
 
 -- in both laws
 by_bound : (most : ℕ) (port later : Port) (sim after : SimModule) (now : ℕ) (story : Story) → HasHalves sim → IsSteady most sim → AreWhole sim.image → IsAwaited most sim.image → Works (plugged now port) sim story later after
-    → IsUndisturbed (IsSpared most sim) story → AllSuit sim story → 61 + 3 * most_waits most < made_in story → HasComeUp story
+    → IsUndisturbed (IsSpared most sim) story → AllSuit sim story → 65 + 3 * most_waits most < made_in story → HasComeUp story
 by_bound most port later sim after now story has steady whole awaited ran calm suit many =
     let (wanted, suits) = suited sim story suit (omega (arith, many)) in
     let paged : IsPaged sim.image = is_paged (conventions_of wanted) sim.image refl suits.read in
     let begun : Holds most sim whole paged awaited (plugged now port) sim = holds_first most sim whole paged awaited port now has steady in
-    by paged (runs most sim whole paged awaited (plugged now port) later after story begun ran calm suit) where
+    by paged (runs most sim whole paged awaited (plugged now port) later after story (plugged_keeps most port sim now has steady) begun ran calm suit) where
       by : (paged : IsPaged sim.image) → HasComeUp story ⊎ IsRun most sim whole paged awaited (plugged now port) story later after → HasComeUp story
       by paged (inl up) = up
       by paged (inr run) = absurd (not_up most sim later.stage after run.holds.own (comes_up_within most port later sim after now story has steady run.managed run.goes run.wants many))
@@ -267,7 +275,8 @@ pub goals_are_own : GoalsAreOwn
 goals_are_own most port later sim after now moment story op reply wanted goal has steady whole awaited (between, before, ran, (waited, asks, answers, is), (gives, same)) succeed suit planned begins =
     let paged : IsPaged sim.image = is_paged (conventions_of wanted) sim.image refl suit.0.read in
     let begun : Holds most sim whole paged awaited (plugged now port) sim = holds_first most sim whole paged awaited port now has steady in
-    by paged (runs most sim whole paged awaited (plugged now port) between before story begun ran (spared most sim story succeed) suit.1) where
+    let kept = plugged_keeps most port sim now has steady in
+    by paged (runs most sim whole paged awaited (plugged now port) between before story kept begun ran (spared most sim story succeed) suit.1) where
       made : (paged : IsPaged sim.image) → IsUpResult (outcomes.Went notes.Identified) ⊎ IsMade most sim whole paged awaited (outcomes.Went notes.Identified) wanted later (module_after before op) → IsOwnGoal most wanted after goal
       made paged (inl up) = absurd up
       made paged (inr step) = begun_goal most wanted sim after later.stage goal (subst (λ (after : SimModule). IfWorking later.stage (IsBegun most wanted sim after)) (sym same) (step.begun refl)) planned begins
@@ -275,5 +284,6 @@ goals_are_own most port later sim after now moment story op reply wanted goal ha
       by : (paged : IsPaged sim.image) → HasComeUp story ⊎ IsRun most sim whole paged awaited (plugged now port) story between before → HasComeUp story ⊎ IsOwnGoal most wanted after goal
       by paged (inl up) = inl up
       by paged (inr run) =
+          let at = left_at most sim whole paged awaited (plugged now port) between before story (plugged_keeps most port sim now has steady) run in
           inr (made paged
-          (made_step most sim whole paged awaited between later before op reply wanted moment (outcomes.Went notes.Identified) run.holds suit.0 (fresh_awaited most sim whole paged awaited between.outstanding run.holds.fresh waited) asks answers gives (inl tt) is))
+          (made_step most sim whole paged awaited between later before op reply wanted moment (outcomes.Went notes.Identified) run.holds suit.0 (fresh_awaited most sim whole paged awaited between.outstanding run.holds.fresh waited) asks answers gives (inl tt) at.0 at.1 is))

@@ -25,6 +25,7 @@ use Rattle.module_states.specs.declared.state.ModuleState.{ModuleState}
 use Rattle.module_states.specs.declared.state.ModuleState.TheVariants as module_is
 use Rattle.datapath_states.specs.Lanes.{codes_in}
 use Rattle.datapath_states.specs.StatusCodes.{status_code_of}
+use Rattle.datapath_states.specs.declared.state.PathState.{PathState}
 use Rattle.datapath_states.specs.declared.state.PathState.TheVariants.{Activated, Deactivated}
 use Rattle.datapath_states.specs.declared.status.ConfigStatus.{ConfigStatus}
 use Rattle.datapath_states.specs.declared.status.ConfigStatus.TheVariants.{Rejected, RejectedInvalidAppSel, RejectedInvalidDataPath, RejectedInvalidSi, RejectedLanesInUse, RejectedPartialDataPath}
@@ -53,13 +54,14 @@ use Rattle.sim_module.proofs.IdleModule.{Shows}
 use Rattle.sim_module.proofs.LanesInTime.{made_lane}
 use Rattle.sim_module.proofs.RestingModule.{rest_tick}
 use Rattle.sim_liveness.specs.Released.{IsInUse}
-use Rattle.sim_liveness.specs.Timing.{CountersRun}
+use Rattle.sim_liveness.specs.Timing.{CountersRun, until_up}
 use Rattle.sim_liveness.proofs.InTime.{none_left, none_left_up}
 use Rattle.sim_liveness.proofs.LeftAlone.{leaves}
 use Rattle.sim_liveness.proofs.Longest.{longest_down, longest_up}
 use Rattle.sim_liveness.proofs.ReadStates.{active_is, listed_code, pairs, read_state, shown_paths, shown_statuses, states_met}
 use Rattle.managed_module.specs.Bounds.{IsAsleep, IsSteady, until_activated, until_applied, until_deactivated}
 use Rattle.managed_module.specs.Managed.{HasHalves}
+use Rattle.managed_module.proofs.FoundStates.{found_up, has_it}
 use Rattle.managed_module.proofs.Halves.{reads_half, stores_half, takes_store}
 use Rattle.managed_module.proofs.Procedures.{Activates, AreApplied, ComeUp, Decides, GoDown, IsAwake, Provisions, Told, applied_left, applied_tick, awake_left, awake_tick, down_left, down_tick, is_decided, up_left, up_tick}
 use Rattle.managed_module.proofs.SteadyModules.{Leaves, apply_stored, counters_passed, deinit_stored, leaves_all, leaves_deinit, leaves_stage, steady_left, steady_tick}
@@ -201,10 +203,6 @@ statuses_settle sim lanes decided e =
             at (inr rejected) off = absurd (let wrong : false ≡ true = sym off ∙ ap is_rejection (status_shown sim lane within) ∙ rejected in cc)
 
 -- a lane of the set is in no apply where the read of statuses is met
-pub has_it : (a b : Bool) → (not a || b) ≡ true → a ≡ true → b ≡ true
-has_it true b e on = e
-has_it false b e on = absurd cc
-
 pub statuses_end : (sim : SimModule) (lanes : Lanes) (lane : ℕ) → IsLane lane → set.contains lanes lane ≡ true → judged_statuses lanes (status_codes sim) ≡ Met → is_in_progress (lane_at sim lane) ≡ true → ⊥
 statuses_end sim lanes lane (from, to) inside e on =
     let all = reserved_met (status_codes sim) (lowest_lane is_reserved_status lanes (status_codes sim)) (lowest_lane is_rejection lanes (status_codes sim)) (all_lanes_have 1 lanes (status_codes sim)) e in
@@ -563,7 +561,17 @@ module _ (most : ℕ) (sim : SimModule) (has : HasHalves sim) where
         subst (λ (judged : ReplyJudgement). ActivationTold 2 judged (module_after sim op)) met (until_activated most - 1, up_tick most control lanes (until_activated most) (passed_on conduct op sim).1 used mid, omega (arith, few))
 
     up_tells : (ticks : ℕ) → ComeUp most control lanes ticks sim → ticks ≤ left → ActivationTells 3 (tasks.AwaitActivated lanes)
-    up_tells ticks up few page reply gives Met j = tt
+    up_tells ticks up few page reply gives Met j =
+        let op = operation (tasks.AwaitActivated lanes) in
+        let mid = (passed_on conduct op sim).1 in
+        let told = paths_told (tasks.AwaitActivated lanes) (λ bytes. judged_states every_lane lanes Activated (codes_in bytes 8)) refl (activated_judged lanes) (page 0x11 refl) reply gives in
+        let up_now : ComeUp most control lanes 0 sim = record {
+          counters = up.counters;
+          free = up.free;
+          near = λ lane within inside. subst (λ (path : PathState). until_up sim.delays path (lane_at sim lane).ticks_left ≤ 0) (sym (found_up sim every_lane lanes lane within inside (sym told ∙ j))) (omega arith);
+        } in
+        let up_mid = up_left most control lanes 0 sim mid (leaves sim A0 (first_byte CPathStates) (byte_count CPathStates)) (run_after op up.counters) up_now in
+        subst (λ (n : ℕ). ComeUp most control lanes n (ticked mid)) (omega arith) (up_tick most control lanes 0 mid used up_mid)
     up_tells zero up few page reply gives NotYet j =
         let met = states_met sim every_lane lanes Activated
         (λ lane within inside. none_left_up most sim.delays (lane_at sim lane).path (lane_at sim lane).ticks_left (up.counters.lanes lane within) (up.near lane within inside)) in

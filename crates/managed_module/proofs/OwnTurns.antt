@@ -48,6 +48,7 @@ OwnJob most first (jobs.Waking job) sim = IsOwnWaking most job sim × KeepsLanes
 OwnJob most first (jobs.Sleeping job) sim = ⊥
 OwnJob most first (jobs.Provisioning job goal) sim = IsProvisionable most first → IsOnWay most first (jobs.Provisioning job goal) sim
 OwnJob most first (jobs.Activating job goal) sim = IsProvisionable most first → IsOnWay most first (jobs.Activating job goal) sim
+OwnJob most first (jobs.Confirming job) sim = Unit {0}
 OwnJob most first (jobs.Watching job) sim = ⊥
 
 pub own_paused : (most : ℕ) (first : SimModule) (job : Job) (count : ℕ) (sim : SimModule) → OwnJob most first job sim → OwnJob most first job (ticked_times conduct count sim)
@@ -56,6 +57,7 @@ own_paused most first (jobs.Waking job) count sim own = (waking_paused most job 
 own_paused most first (jobs.Sleeping job) count sim own = own
 own_paused most first (jobs.Provisioning job goal) count sim own = λ may. way_paused most first (jobs.Provisioning job goal) count sim (own may)
 own_paused most first (jobs.Activating job goal) count sim own = λ may. way_paused most first (jobs.Activating job goal) count sim (own may)
+own_paused most first (jobs.Confirming job) count sim own = own
 own_paused most first (jobs.Watching job) count sim own = own
 
 abbrev pub is_identified : Note → Bool
@@ -73,6 +75,7 @@ IsBegun most wanted first after (jobs.Waking job) = Unit {0}
 IsBegun most wanted first after (jobs.Sleeping job) = Unit {0}
 IsBegun most wanted first after (jobs.Provisioning job goal) = IsPlanned (conventions_of wanted) first → IsOwnGoal most wanted after goal
 IsBegun most wanted first after (jobs.Activating job goal) = IsPlanned (conventions_of wanted) first → IsOwnGoal most wanted after goal
+IsBegun most wanted first after (jobs.Confirming job) = Unit {0}
 IsBegun most wanted first after (jobs.Watching job) = Unit {0}
 
 -- the module has come up, or it goes on, or provisioning or activation fails, which they don't if it is provisionable

@@ -21,7 +21,7 @@ use Rattle.control_sets.specs.Tasks.{provisioning}
 use Rattle.port_manager.specs.declared.deciding.Goal.{Goal}
 use Rattle.port_manager.specs.declared.job.Job.{Job}
 use Rattle.port_manager.specs.declared.job.Job.TheVariants as jobs
-use Rattle.port_manager.specs.Jobs.{activating, activation_of, paged_tasks, procedure_after, procedure_for, procedure_wants, provisioning_of}
+use Rattle.port_manager.specs.Jobs.{activating, activation_of, confirming, paged_tasks, procedure_after, procedure_for, procedure_wants, provisioning_of}
 use Rattle.port_manager.specs.Patients.{after_on, wants_on}
 use Rattle.port_manager.specs.Turns.{Turn, activated, fault_in, going, provisioned}
 use Rattle.port_manager.specs.Turns as turns
@@ -68,6 +68,7 @@ IsFineJob most (jobs.Waking job) sim = ⊥
 IsFineJob most (jobs.Sleeping job) sim = ⊥
 IsFineJob most (jobs.Provisioning job goal) sim = ProvisionsOwn most job goal sim
 IsFineJob most (jobs.Activating job goal) sim = ActivatesOwn most job goal sim
+IsFineJob most (jobs.Confirming job) sim = Unit {0}
 IsFineJob most (jobs.Watching job) sim = ⊥
 
 pub begins_fine : (most : ℕ) (conventions : Conventions) (paths kept : List Path) (goal : Goal) (patience : Patience) (memory : Memory) (active : List ℕ) (sim : SimModule) → IsGoalFor conventions paths kept goal memory active → Rests most memory active sim
@@ -104,6 +105,7 @@ fine_tick most (jobs.Activating job goal) sim own = record {
   active = own.active;
   fine = record { same = own.fine.same; none = own.fine.none; at = activates_tick most own.memory goal.control own.active goal.outside (list_of job).met sim own.fine.at };
 }
+fine_tick most (jobs.Confirming job) sim fine = fine
 fine_tick most (jobs.Watching job) sim fine = fine
 
 pub fine_paused : (most : ℕ) (job : Job) (count : ℕ) (sim : SimModule) → IsFineJob most job sim → IsFineJob most job (ticked_times conduct count sim)
@@ -147,6 +149,7 @@ IsTimely late (jobs.Waking job) reply = Unit {0}
 IsTimely late (jobs.Sleeping job) reply = Unit {0}
 IsTimely late (jobs.Provisioning job goal) reply = EndsInTime late (procedure_after job reply)
 IsTimely late (jobs.Activating job goal) reply = EndsInTime late (procedure_after job reply)
+IsTimely late (jobs.Confirming job) reply = Unit {0}
 IsTimely late (jobs.Watching job) reply = Unit {0}
 
 pub at_any_time : (job : Job) (reply : Reply) → IsTimely (Unit {0}) job reply
@@ -155,6 +158,7 @@ at_any_time (jobs.Waking job) reply = tt
 at_any_time (jobs.Sleeping job) reply = tt
 at_any_time (jobs.Provisioning job goal) reply = λ spent e. inr tt
 at_any_time (jobs.Activating job goal) reply = λ spent e. inr tt
+at_any_time (jobs.Confirming job) reply = tt
 at_any_time (jobs.Watching job) reply = tt
 
 -- it is up, or goes on; what fails took too long
@@ -186,11 +190,11 @@ module _ (late : Type 0) (Good : Job → Type 0) where
   provisioned_well goal patience (Some (InTime None)) timely good fails = inr (good refl)
   provisioned_well goal patience (Some (InTime (Some because))) timely good fails = absurd (fails because refl)
 
-  pub activated_well : (goal : Goal) (patience : Patience) (end : Ending) → InTimeUnless late end → ((because : ProvisionFault) → end ≡ Some (InTime (Some because)) → ⊥) → WellTurn late Good (activated goal patience (fault_in end))
-  activated_well goal patience None timely fails = (refl, is_late late None no_end timely)
-  activated_well goal patience (Some Late) timely fails = (tt, is_late late (Some Late) no_late_end timely)
-  activated_well goal patience (Some (InTime None)) timely fails = inl tt
-  activated_well goal patience (Some (InTime (Some because))) timely fails = absurd (fails because refl)
+  pub activated_well : (goal : Goal) (patience : Patience) (end : Ending) → InTimeUnless late end → (end ≡ Some (InTime None) → Good (confirming goal patience)) → ((because : ProvisionFault) → end ≡ Some (InTime (Some because)) → ⊥) → WellTurn late Good (activated goal patience (fault_in end))
+  activated_well goal patience None timely good fails = (refl, is_late late None no_end timely)
+  activated_well goal patience (Some Late) timely good fails = (tt, is_late late (Some Late) no_late_end timely)
+  activated_well goal patience (Some (InTime None)) timely good fails = inr (good refl)
+  activated_well goal patience (Some (InTime (Some because))) timely good fails = absurd (fails because refl)
 
 -- a list without a fault ends in none
 pub no_fault : (job : PatientProcedure) (spent : Spent (Timed (Option ProvisionFault))) (because : ProvisionFault) → (list_of job).fault ≡ None → procedure_wants job ≡ End spent → spent.end ≡ Some (InTime (Some because)) → ⊥
@@ -204,6 +208,7 @@ IsTimedJob patience made (jobs.Waking job) = Unit {0}
 IsTimedJob patience made (jobs.Sleeping job) = Unit {0}
 IsTimedJob patience made (jobs.Provisioning job goal) = HasTime patience made job
 IsTimedJob patience made (jobs.Activating job goal) = HasTime patience made job
+IsTimedJob patience made (jobs.Confirming job) = Unit {0}
 IsTimedJob patience made (jobs.Watching job) = Unit {0}
 
 -- after so many operations: the job is without a fault, and with what is left to be done and to be waited for there are so many in all
@@ -225,16 +230,30 @@ goes_paused most total patience made job count sim goes = record {
   time = goes.time;
 }
 
+-- a list of tasks is in hand, and so many operations are not too many
+abbrev pub IsEarly : (ℕ → Type 0) → ℕ → Job → Type 0
+IsEarly Few made (jobs.Reading job woken) = Unit {0}
+IsEarly Few made (jobs.Waking job) = Unit {0}
+IsEarly Few made (jobs.Sleeping job) = Unit {0}
+IsEarly Few made (jobs.Provisioning job goal) = Few made
+IsEarly Few made (jobs.Activating job goal) = Few made
+IsEarly Few made (jobs.Confirming job) = Unit {0}
+IsEarly Few made (jobs.Watching job) = Unit {0}
+
 -- no list of tasks ends late
-module _ (patience : Patience) (made : ℕ) (fewer : made + 1 < most_steps) (pauses : made * patience.pause ≤ patience.limit) where
-  pub timely : (job : Job) (reply : Reply) → IsTimedJob patience made job → IsTimely ⊥ job reply
-  timely (jobs.Reading job woken) reply time = tt
-  timely (jobs.Waking job) reply time = tt
-  timely (jobs.Sleeping job) reply time = tt
-  timely (jobs.Provisioning job goal) reply time = λ spent e.
-      inl (in_time (wants_on paged_tasks) (after_on paged_tasks) patience made job reply time fewer pauses (wants_on paged_tasks (after_on paged_tasks job.conversation.conversation reply)) refl
+module _ (patience : Patience) (made : ℕ) where
+  abbrev pub IsShort : ℕ → Type 0
+  IsShort made = (made + 1 < most_steps) × (made * patience.pause ≤ patience.limit)
+
+  pub timely : (job : Job) (reply : Reply) → IsEarly IsShort made job → IsTimedJob patience made job → IsTimely ⊥ job reply
+  timely (jobs.Reading job woken) reply short time = tt
+  timely (jobs.Waking job) reply short time = tt
+  timely (jobs.Sleeping job) reply short time = tt
+  timely (jobs.Provisioning job goal) reply short time = λ spent e.
+      inl (in_time (wants_on paged_tasks) (after_on paged_tasks) patience made job reply time short.0 short.1 (wants_on paged_tasks (after_on paged_tasks job.conversation.conversation reply)) refl
       (paged_never paged_tasks tasks_never (after_on paged_tasks job.conversation.conversation reply)) spent e)
-  timely (jobs.Activating job goal) reply time = λ spent e.
-      inl (in_time (wants_on paged_tasks) (after_on paged_tasks) patience made job reply time fewer pauses (wants_on paged_tasks (after_on paged_tasks job.conversation.conversation reply)) refl
+  timely (jobs.Activating job goal) reply short time = λ spent e.
+      inl (in_time (wants_on paged_tasks) (after_on paged_tasks) patience made job reply time short.0 short.1 (wants_on paged_tasks (after_on paged_tasks job.conversation.conversation reply)) refl
       (paged_never paged_tasks tasks_never (after_on paged_tasks job.conversation.conversation reply)) spent e)
-  timely (jobs.Watching job) reply time = tt
+  timely (jobs.Confirming job) reply short time = tt
+  timely (jobs.Watching job) reply short time = tt

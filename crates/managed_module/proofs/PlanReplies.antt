@@ -21,7 +21,8 @@ use Rattle.sim_module.specs.declared.module.SimModule.{SimModule}
 use Rattle.sim_module.specs.Lanes.{lane_at}
 use Rattle.sim_liveness.proofs.ReadStates.{path_shown, shown_codes, states_met}
 use Rattle.managed_module.proofs.PlanPhases.{Becomes}
-use Rattle.managed_module.proofs.OwnTasks.{has_it, status_codes, status_shown}
+use Rattle.managed_module.proofs.FoundStates.{code_had}
+use Rattle.managed_module.proofs.OwnTasks.{status_codes, status_shown}
 
 -- the task is met and the next one is in hand, or the same one still is; there is no fault
 abbrev pub Well : (ℕ → SimModule → Type 0) → ℕ → ReplyJudgement → SimModule → Type 0
@@ -63,11 +64,6 @@ deactivated_by path_is.Activated e = absurd (omega (arith, e))
 deactivated_by path_is.TxTurnOn e = absurd (omega (arith, e))
 deactivated_by path_is.TxTurnOff e = absurd (omega (arith, e))
 deactivated_by path_is.Initialized e = absurd (omega (arith, e))
-
--- a lane of the set has the code that all of them have
-code_had : (code : ℕ) (codes : List ℕ) (lanes : Lanes) (lane : ℕ) → IsLane lane → set.contains lanes lane ≡ true → all_lanes_have code lanes codes ≡ true → at_lane codes lane ≡ code
-code_had code codes lanes lane (from, to) inside all =
-    eqb-true (at_lane codes lane) code (has_it (set.contains lanes lane) (at_lane codes lane == code) (in_range (λ lane. not (set.contains lanes lane) || at_lane codes lane == code) 1 8 lane all from (omega (arith, to))) inside)
 
 pub found_down : (sim : SimModule) (lanes : Lanes) (lane : ℕ) → IsLane lane → set.contains lanes lane ≡ true → all_lanes_have (code_of path_is.Deactivated) lanes (shown_codes sim) ≡ true → (lane_at sim lane).path ≡ path_is.Deactivated
 found_down sim lanes lane within inside all =

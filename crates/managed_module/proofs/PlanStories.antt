@@ -13,6 +13,7 @@ use Rattle.plan_certificate.specs.declared.path.Path.{Path}
 use Rattle.port_manager.specs.declared.deciding.Goal.{Goal}
 use Rattle.port_manager.specs.declared.deciding.Wanted.{Wanted}
 use Rattle.port_manager.specs.declared.job.Job.{Job}
+use Rattle.port_manager.specs.declared.job.Job.TheVariants as jobs
 use Rattle.port_manager.specs.declared.port.Outcome.{Outcome}
 use Rattle.port_manager.specs.declared.port.Outcome.TheVariants as outcome
 use Rattle.port_manager.specs.declared.port.Outstanding.{Outstanding}
@@ -37,20 +38,20 @@ use Rattle.sim_liveness.proofs.OwnPlans.{plan_read}
 use Rattle.managed_module.specs.Bounds.{IsAsleep}
 use Rattle.managed_module.specs.Managed.{HasHalves, Manages}
 use Rattle.managed_module.specs.ComingUp.{HasComeUp, IsUndisturbed, IsUpResult}
-use Rattle.managed_module.specs.ManagedPlans.{BeginsToProvision, IsInTime, IsReadyFor, LastsFor, PlansComeUp, PlansDontFail, TookTooLong, most_made}
+use Rattle.managed_module.specs.ManagedPlans.{BeginsToProvision, IsInTime, IsReadyFor, LastsFor, PlansComeUp, PlansDontFail, TookTooLong, most_made, most_until_up}
 use Rattle.managed_module.proofs.GoalLanes.{whole_by}
 use Rattle.managed_module.proofs.Halves.{halves_passed, halves_paused, halves_ticked}
 use Rattle.managed_module.proofs.JobSteps.{IsWhole, reading_waits}
 use Rattle.managed_module.proofs.JobTurns.{activating_at}
 use Rattle.managed_module.proofs.OwnTasks.{module_after, reply_of}
-use Rattle.managed_module.proofs.PlanJobs.{GoesWell, IsTimedJob, IsTimely, WellTurn, at_any_time, begins_active, begins_fine, goes_paused, timely}
+use Rattle.managed_module.proofs.PlanJobs.{GoesWell, IsEarly, IsShort, IsTimedJob, IsTimely, WellTurn, at_any_time, begins_active, begins_fine, goes_paused, timely}
 use Rattle.managed_module.proofs.PlanPhases.{Rests}
 use Rattle.managed_module.proofs.PlanTime.{through}
-use Rattle.managed_module.proofs.PlanTurns.{left_some, turn_well}
+use Rattle.managed_module.proofs.PlanTurns.{early, turn_well}
 
 module _ (most : ℕ) (patience : Patience) where
   abbrev Goes : ℕ → Job → SimModule → Type 0
-  Goes made job sim = GoesWell most (most_made most) patience made job sim
+  Goes made job sim = GoesWell most (most_until_up most) patience made job sim
 
   abbrev GoodStage : ℕ → Stage → SimModule → Type 0
   GoodStage made stages.Absent sim = ⊥
@@ -60,10 +61,10 @@ module _ (most : ℕ) (patience : Patience) where
   stage_pauses : (made : ℕ) (stage : Stage) (count : ℕ) (sim : SimModule) → GoodStage made stage sim → GoodStage made stage (ticked_times conduct count sim)
   stage_pauses made stages.Absent count sim good = good
   stage_pauses made (stages.Left reason) count sim good = good
-  stage_pauses made (stages.Working job) count sim good = goes_paused most (most_made most) patience made job count sim good
+  stage_pauses made (stages.Working job) count sim good = goes_paused most (most_until_up most) patience made job count sim good
 
   -- no more operations were made than may be
-  few_made : (made : ℕ) (stage : Stage) (sim : SimModule) → GoodStage made stage sim → made ≤ most_made most
+  few_made : (made : ℕ) (stage : Stage) (sim : SimModule) → GoodStage made stage sim → made ≤ most_until_up most
   few_made made stages.Absent sim good = absurd good
   few_made made (stages.Left reason) sim good = absurd good
   few_made made (stages.Working job) sim good = omega (arith, good.few)
@@ -93,7 +94,7 @@ fresh_taken outstanding.Forsaken port later op reply wanted now result (inr e) a
 -- ---- a story of whose results P holds: a list of tasks ends in time, or a failure by being late has no P
 
 module _ (most : ℕ) (patience : Patience) (late : Type 0) (P : Outcome → Type 0) (never : (because : PortFault) (moment : ℕ) → P (outcome.Failed because moment) → TookTooLong because → late → ⊥)
-    (in_time : (made : ℕ) → made + 1 ≤ most_made most → (job : Job) (reply : Reply) → IsTimedJob patience made job → IsTimely late job reply) where
+    (in_time : (made : ℕ) (job : Job) → IsEarly (λ made. made + 1 ≤ most_made most) made job → (reply : Reply) → IsTimedJob patience made job → IsTimely late job reply) where
   -- the result is that it is up, or it goes on
   abbrev Follows : ℕ → Outcome → Port → SimModule → Type 0
   Follows made result later after = IsUpResult result ⊎ (IsGoing result × (GoodStage most patience made later.stage after × (later.outstanding ≡ outstanding.Nothing)))
@@ -106,10 +107,6 @@ module _ (most : ℕ) (patience : Patience) (late : Type 0) (P : Outcome → Typ
   turned_follows made after port (turns.Failed why) now free (took, over) p = absurd (never why (again port now) p took over)
   turned_follows made after port (turns.Left reason) now free well p = absurd well
 
-  -- something was left to be done
-  some_left : (made : ℕ) (job : Job) (sim : SimModule) (op : Op) → Goes most patience made job sim → asked job ≡ Some op → made + 1 ≤ most_made most
-  some_left made job sim op goes asks = omega (arith, goes.few, left_some most (most_made most) patience made job sim op goes asks)
-
   stage_follows : (made : ℕ) (stage : Stage) (sim : SimModule) (port later : Port) (op : Op) (reply : Reply) (wanted : Wanted) (now : ℕ) (result : Outcome) → HasHalves sim → GoodStage most patience made stage sim → asked_in stage ≡ Some op → Answers op reply → reply ≡ reply_of sim op → P result
       → IsTurnedIn stage port reply wanted now result later → Follows (made + 1) result later (module_after sim op)
   stage_follows made stages.Absent sim port later op reply wanted now result has good asks answers gives p is = absurd good
@@ -117,8 +114,8 @@ module _ (most : ℕ) (patience : Patience) (late : Type 0) (P : Outcome → Typ
   stage_follows made (stages.Working job) sim port later op reply wanted now result has good asks answers gives p (turn, leads, outcome, becomes) =
       let noted = noting (answered port) (asked job) reply now in
       let same : result ≡ outcome_of noted turn now = outcome ∙ sym (same_outcome port (asked job) reply turn now) in
-      let ends : IsTimely late job reply = in_time made (some_left made job sim op good asks) job reply good.time in
-      let well = turn_well late most (most_made most) patience made sim op reply has answers gives (granted port.request wanted) job turn good asks ends (port.apply_refused, leads) in
+      let ends : IsTimely late job reply = in_time made job (early most (most_made most) patience made job sim op good asks) reply good.time in
+      let well = turn_well late most (most_until_up most) patience made sim op reply has answers gives (granted port.request wanted) job turn good asks ends (port.apply_refused, leads) in
       subst (λ (result : Outcome). Follows (made + 1) result later (module_after sim op)) (sym same)
       (subst (λ (later : Port). Follows (made + 1) (outcome_of noted turn now) later (module_after sim op)) (sym becomes) (turned_follows (made + 1) (module_after sim op) noted turn now refl well (subst P same p)))
 
@@ -193,9 +190,9 @@ module _ (most : ℕ) (conventions : Conventions) (paths kept : List Path) (goal
   whole : IsWhole goal
   whole = whole_by (advertised_under conventions sim.image) paths goal (plan_read conventions sim.image paths ready.fits.plan) ready.fits.control ready.fits.lanes
 
-  pub provisions_first : GoesWell most (most_made most) patience 0 (provisioning goal patience) sim
+  pub provisions_first : GoesWell most (most_until_up most) patience 0 (provisioning goal patience) sim
   provisions_first =
-      let many : left (provisioning goal patience) ≡ 32 = refl in
+      let many : left (provisioning goal patience) ≡ 36 = refl in
       record {
         linked = λ opened. absurd (let same : false ≡ true = opened in cc);
         fine = begins_fine most conventions paths kept goal patience sim.image (active_bytes sim) sim ready.fits at_rest;
@@ -206,15 +203,15 @@ module _ (most : ℕ) (conventions : Conventions) (paths kept : List Path) (goal
       }
 
   -- the plan is active already
-  pub activates_first : active_bytes sim ≡ goal.control → GoesWell most (most_made most) patience 0 (activating goal patience) sim
+  pub activates_first : active_bytes sim ≡ goal.control → GoesWell most (most_until_up most) patience 0 (activating goal patience) sim
   activates_first active =
-      let ten : left (activating goal patience) ≡ 10 = refl in
+      let few : left (activating goal patience) ≡ 14 = refl in
       record {
         linked = λ opened. absurd (let same : false ≡ true = opened in cc);
         fine = begins_active most goal patience sim.image sim (record { steady = at_rest.steady; awake = at_rest.awake; memory = at_rest.memory; active = active });
         less = reading_waits most true;
         at = activating_at most goal patience sim (reading_waits most true) whole ready.steady (omega arith);
-        few = omega (arith, ten);
+        few = omega (arith, few);
         time = record { steps = omega arith; limit = refl; idle = omega arith; patience = refl };
       }
 
@@ -227,16 +224,29 @@ module _ (most : ℕ) (conventions : Conventions) (paths kept : List Path) (goal
 
 pub plans_dont_fail : PlansDontFail
 plans_dont_fail most conventions paths kept goal patience port later sim after story ready begins ran calm =
-    by (runs_well most patience (Unit {0}) IsInTime (λ because moment in_time took over. in_time took) (λ made few job reply time. at_any_time job reply) port sim (on_its_way most conventions paths kept goal patience sim ready port begins) later after story ran calm) where
+    by (runs_well most patience (Unit {0}) IsInTime (λ because moment in_time took over. in_time took) (λ made job few reply time. at_any_time job reply) port sim (on_its_way most conventions paths kept goal patience sim ready port begins) later after story ran calm) where
       by : HasComeUp story ⊎ (IsGoingOn story × IsOnItsWay most patience (made_in story) later after) → HasComeUp story ⊎ IsGoingOn story
       by (inl up) = inl up
       by (inr (goes, at)) = inr goes
 
-pub in_time_by : (most : ℕ) (patience : Patience) → LastsFor (most_made most) patience → (made : ℕ) → made + 1 ≤ most_made most → (job : Job) (reply : Reply) → IsTimedJob patience made job → IsTimely ⊥ job reply
-in_time_by most patience lasts made few job reply time =
+short_by : (most : ℕ) (patience : Patience) → LastsFor (most_made most) patience → (made : ℕ) → made + 1 ≤ most_made most → IsShort patience made made
+short_by most patience lasts made few =
     let fewer : made ≤ most_made most = omega (arith, few) in
     let less = mul-le-mul_right patience.pause fewer in
-    timely patience made (omega (arith, few, lasts.operations)) (through (made * patience.pause) (most_made most * patience.pause) patience.limit less lasts.pauses) job reply time
+    (omega (arith, few, lasts.operations), through (made * patience.pause) (most_made most * patience.pause) patience.limit less lasts.pauses)
+
+early_by : (Few Fewer : ℕ → Type 0) (made : ℕ) → (Few made → Fewer made) → (job : Job) → IsEarly Few made job → IsEarly Fewer made job
+early_by Few Fewer made by (jobs.Reading job woken) early = tt
+early_by Few Fewer made by (jobs.Waking job) early = tt
+early_by Few Fewer made by (jobs.Sleeping job) early = tt
+early_by Few Fewer made by (jobs.Provisioning job goal) early = by early
+early_by Few Fewer made by (jobs.Activating job goal) early = by early
+early_by Few Fewer made by (jobs.Confirming job) early = tt
+early_by Few Fewer made by (jobs.Watching job) early = tt
+
+pub in_time_by : (most : ℕ) (patience : Patience) → LastsFor (most_made most) patience → (made : ℕ) (job : Job) → IsEarly (λ made. made + 1 ≤ most_made most) made job → (reply : Reply) → IsTimedJob patience made job → IsTimely ⊥ job reply
+in_time_by most patience lasts made job early reply time =
+    timely patience made job reply (early_by (λ made. made + 1 ≤ most_made most) (IsShort patience made) made (short_by most patience lasts made) job early) time
 
 pub plans_come_up : PlansComeUp
 plans_come_up most conventions paths kept goal patience port later sim after story ready begins lasts ran calm many =

@@ -148,7 +148,7 @@ Activates most control lanes zero sim left = IsSteady most sim × (until_activat
 Activates most control lanes (suc zero) sim left = IsSteady most sim × IsAwake sim × (until_activated most ≤ left)
 Activates most control lanes (suc (suc zero)) sim left = IsSteady most sim × IsAwake sim × (active_bytes sim ≡ control) × (until_activated most ≤ left)
 Activates most control lanes (suc (suc (suc zero))) sim left = (ticks : ℕ) × ComeUp most control lanes ticks sim × (ticks ≤ left)
-Activates most control lanes (suc (suc (suc (suc met)))) sim left = Unit {0}
+Activates most control lanes (suc (suc (suc (suc met)))) sim left = ComeUp most control lanes 0 sim
 
 abbrev pub Unless : Option ProvisionFault → Type 0 → Type 0
 Unless None P = P
@@ -210,7 +210,7 @@ module _ (most : ℕ) where
   activates_tick control lanes (suc zero) sim left used (steady, awake, few) = (steady_tick most sim steady, awake_tick sim awake, few)
   activates_tick control lanes (suc (suc zero)) sim left used (steady, awake, is, few) = (steady_tick most sim steady, awake_tick sim awake, active_tick control sim steady is, few)
   activates_tick control lanes (suc (suc (suc zero))) sim left used (ticks, up, few) = (ticks - 1, up_tick control lanes ticks sim used up, omega (arith, few))
-  activates_tick control lanes (suc (suc (suc (suc met)))) sim left used p = tt
+  activates_tick control lanes (suc (suc (suc (suc met)))) sim left used up = subst (λ (n : ℕ). ComeUp most control lanes n (ticked sim)) (omega arith) (up_tick control lanes 0 sim used up)
 
   pub activates_left : (control : List ℕ) (lanes : Lanes) (met : ℕ) (sim after : SimModule) (left : ℕ) → LeavesIt sim after → CountersRun most after → Activates most control lanes met sim left → Activates most control lanes met after left
   activates_left control lanes zero sim after left same run (steady, few) = (steady_left most sim after (leaves_all sim after same) run steady, few)
@@ -218,7 +218,7 @@ module _ (most : ℕ) where
   activates_left control lanes (suc (suc zero)) sim after left same run (steady, awake, is, few) =
       (steady_left most sim after (leaves_all sim after same) run steady, awake_left sim after same awake, ap (λ (lanes : List Lane). map (λ (lane : Lane). lane.active) lanes) same.lanes ∙ is, few)
   activates_left control lanes (suc (suc (suc zero))) sim after left same run (ticks, up, few) = (ticks, up_left control lanes ticks sim after same run up, few)
-  activates_left control lanes (suc (suc (suc (suc met)))) sim after left same run p = tt
+  activates_left control lanes (suc (suc (suc (suc met)))) sim after left same run up = up_left control lanes 0 sim after same run up
 
 -- ---- what a reply tells of the task in hand
 

@@ -1,6 +1,6 @@
 -- At a simulated module each operation of a job brings it nearer to its end, or reads a state.
 use Rattle.std.proofs.Common.{◌≡◌, ◌≤◌, ◌⊎◌, inl, inr, ◌+◌, ◌++◌, ◌∷◌, ℕ, Bool, true, false, List, [], Option, Some, None, zero, suc, refl, sym, ap, subst, ◌∙◌, arith}
-use Rattle.std.specs.Prelude.{if◌then◌else◌, slice_get}
+use Rattle.std.specs.Prelude.{◌==◌, if◌then◌else◌, slice_get, slice_index}
 use Rattle.std.specs.FinMap as finmap
 use Rattle.std.specs.List.{AllByRecursion}
 use Rattle.bus_model.specs.declared.device.Dev.TheVariants.{A0, A2}
@@ -32,6 +32,8 @@ use Rattle.control_sets.specs.PowerProgress.{PatientPower, change_after, moved_t
 use Rattle.control_sets.specs.Progress.{PatientProcedure, after_reply, hand, judged_at, list_at, task_at, tasks_of, told_at}
 use Rattle.control_sets.specs.Progress as progress
 use Rattle.control_sets.specs.Tasks.{operation, page_of}
+use Rattle.field_tables.specs.declared.field.Field.TheVariants.{CModuleState}
+use Rattle.field_tables.specs.FieldValues.{number_in_byte}
 use Rattle.module_reading.specs.declared.halves.Halves.{Halves}
 use Rattle.module_reading.specs.declared.region.Region.{Region}
 use Rattle.module_reading.specs.declared.request.Request.{Request}
@@ -48,11 +50,16 @@ use Rattle.paged_memory.specs.Images.{Memory}
 use Rattle.paged_memory.specs.Keys.{upper_key}
 use Rattle.paged_memory.specs.KnownPages.{is_awaited, missing_page, selecting_first, wanted}
 use Rattle.paged_memory.specs.PageAddressing.{read_selection}
+use Rattle.port_manager.specs.declared.deciding.Goal.{Goal}
 use Rattle.port_manager.specs.declared.job.Job.{Job}
 use Rattle.port_manager.specs.declared.job.Job.TheVariants as jobs
-use Rattle.port_manager.specs.Jobs.{asked, paged_halves, paged_tasks, procedure_after, procedure_wants, reading_after, reading_wants, waking_after, waking_wants}
+use Rattle.port_manager.specs.declared.look.Look.{Look}
+use Rattle.port_manager.specs.declared.look.LookStage.{LookStage}
+use Rattle.port_manager.specs.declared.look.LookStage.TheVariants as looking
+use Rattle.port_manager.specs.Looks as looks
+use Rattle.port_manager.specs.Jobs.{asked, look_after, look_wants, paged_halves, paged_look, paged_tasks, procedure_after, procedure_wants, reading_after, reading_wants, waking_after, waking_wants}
 use Rattle.port_manager.specs.Patients.{Patient, after_on, wants_on}
-use Rattle.port_manager.proofs.LeftLaws.{halves_counted, left_at_stage, left_of_halves, left_of_power, left_of_tasks, left_of_waking, region_wanted, task_wanted, tasks_counted}
+use Rattle.port_manager.proofs.LeftLaws.{halves_counted, left_at_stage, left_of_halves, left_of_look, left_of_power, left_of_tasks, left_of_waking, look_counted, region_wanted, task_wanted, tasks_counted}
 use Rattle.port_manager.specs.Standing.{IsWatching}
 use Rattle.port_manager.proofs.PageProgress.{InVain, left_of, patient_or_vain}
 use Rattle.port_manager.proofs.PatientLaws.{asked_on, asked_within, kept_within}
@@ -318,6 +325,66 @@ module _ (sim : SimModule) (has : HasHalves sim) (job : PatientProcedure) (op : 
       kept_within (λ (on : OnPage TaskList). Link paged_tasks on (ticked (passed_on conduct op sim).1)) (wants_on paged_tasks) (after_on paged_tasks) job reply
       (link_after paged_tasks tasks_on t.inner op sim has refl t.is reply gives task_answered)
 
+-- ---- looks
+
+look_a0 : (at : LookStage) (op : Op) → looks.wants_at at ≡ Do op → IsOnA0 op
+look_a0 looking.Lower op e = let same : looks.fetch_half 0 ≡ op = cc in subst IsOnA0 same tt
+look_a0 looking.Lanes op e = let same : looks.fetch_half 128 ≡ op = cc in subst IsOnA0 same tt
+look_a0 (looking.Seen wanted) op e = absurd cc
+
+look_page : (at : LookStage) (page : ℕ) → looks.page_at at ≡ Some page → page ≡ 0x11
+look_page looking.Lower page e = absurd cc
+look_page looking.Lanes page e = sym (let same : 0x11 ≡ page = cc in same)
+look_page (looking.Seen wanted) page e = absurd cc
+
+below_moves : (ready : Bool) → (if ready then looking.Lanes else looking.Seen false) ≡ looking.Lower → ⊥
+below_moves true e = absurd cc
+below_moves false e = absurd cc
+
+-- a half that was read is in hand no more
+look_moves : (goal : Goal) (at : LookStage) (op : Op) (reply : Reply) → looks.wants_at at ≡ Do op → Answers op reply → (reply ≡ Refused → ⊥) → looks.stage_after goal at reply ≡ at → ⊥
+look_moves goal looking.Lower op (Bytes bytes) wants answers answered same = below_moves (number_in_byte CModuleState (slice_index bytes.items 3) == 3) same
+look_moves goal looking.Lower op Done wants answers answered same = let is : op ≡ looks.fetch_half 0 = cc in subst (λ (o : Op). Answers o Done) is answers
+look_moves goal looking.Lanes op (Bytes bytes) wants answers answered same = absurd cc
+look_moves goal looking.Lanes op Done wants answers answered same = let is : op ≡ looks.fetch_half 128 = cc in subst (λ (o : Op). Answers o Done) is answers
+look_moves goal (looking.Seen wanted) op reply wants answers answered same = absurd cc
+look_moves goal at op Refused wants answers answered same = answered refl
+
+module _ (sim : SimModule) (has : HasHalves sim) (job : Patient (OnPage Look)) (op : Op) (reply : Reply) (asks : op_of (look_wants job) ≡ Some op) (answers : Answers op reply) (gives : reply ≡ reply_of sim op)
+    (link : Link paged_look job.conversation.conversation sim) where
+  abbrev look_on : OnPage Look
+  look_on = job.conversation.conversation
+
+  abbrev look : Look
+  look = look_on.conversation
+
+  abbrev l : Asks BankAndPage look_on.selection (looks.needed look) (looks.wants look) op
+  l = asked_on paged_look job op asks
+
+  look_answered : reply ≡ Refused → ⊥
+  look_answered is = not_refused sim op has (wanted_a0 BankAndPage look_on.selection (looks.needed look) l.inner op refl l.is (look_a0 look.stage l.inner l.wants)) (sym gives ∙ is)
+
+  look_there : (page : ℕ) → looks.needed look ≡ Some page → finmap.contains_key sim.image (upper_key A0 0 page) ≡ true
+  look_there page needs = there sim page has (inr (look_page look.stage page needs))
+
+  look_not_vain : InVain paged_look left_of_look look_counted look_on l.inner op l.wants l.is reply → ⊥
+  look_not_vain (inl refused) = look_answered refused
+  look_not_vain (inr (inl other)) = no_other paged_look look_on l.inner op sim has refl l.is left_of_look look_counted l.wants reply gives link (λ page needs. inl (look_there page needs)) other
+  look_not_vain (inr (inr (same, stays))) =
+      look_moves look.goal look.stage l.inner reply l.wants (subst (λ (o : Op). Answers o reply) same answers) look_answered (ap (λ (look : Look). look.stage) stays)
+
+  pub look_nearer : left (jobs.Confirming (look_after job reply)) + 1 ≤ left (jobs.Confirming job)
+  look_nearer = by (patient_or_vain paged_look left_of_look look_counted job op reply asks answers) where
+    by : (left_of paged_look left_of_look look_counted (look_after job reply) + 1 ≤ left_of paged_look left_of_look look_counted job) ⊎ InVain paged_look left_of_look look_counted look_on l.inner op l.wants l.is reply
+        → left (jobs.Confirming (look_after job reply)) + 1 ≤ left (jobs.Confirming job)
+    by (inl nearer) = omega (arith, nearer)
+    by (inr vain) = absurd (look_not_vain vain)
+
+  pub look_linked : Link paged_look (look_after job reply).conversation.conversation (ticked (passed_on conduct op sim).1)
+  look_linked =
+      kept_within (λ (on : OnPage Look). Link paged_look on (ticked (passed_on conduct op sim).1)) (wants_on paged_look) (after_on paged_look) job reply
+      (link_after paged_look look_on l.inner op sim has refl l.is reply gives look_answered)
+
 -- ---- waking up
 
 power_reads : (power : Power) (at : PowerStage) (fault : Option ProvisionFault) (op : Op) (reply : Reply) → wants_by fault (operation_at power at) ≡ Do op → Answers op reply → (reply ≡ Refused → ⊥)
@@ -361,11 +428,8 @@ LinkedJob (jobs.Waking job) sim = Unit {0}
 LinkedJob (jobs.Sleeping job) sim = Unit {0}
 LinkedJob (jobs.Provisioning job goal) sim = Link paged_tasks job.conversation.conversation sim
 LinkedJob (jobs.Activating job goal) sim = Link paged_tasks job.conversation.conversation sim
+LinkedJob (jobs.Confirming job) sim = Link paged_look job.conversation.conversation sim
 LinkedJob (jobs.Watching job) sim = Unit {0}
-
-none_more : (more before : ℕ) (P : Type 0) → (more + 0 + 1 ≤ before + 0) ⊎ P → (more + 1 ≤ before) ⊎ P
-none_more more before P (inl nearer) = inl (omega (arith, nearer))
-none_more more before P (inr p) = inr p
 
 some_more : (more before n : ℕ) (P : Type 0) → (more + 1 ≤ before) ⊎ P → (more + n + 1 ≤ before + n) ⊎ P
 some_more more before n P (inl nearer) = inl (omega (arith, nearer))
@@ -376,10 +440,11 @@ pub job_waits : (sim : SimModule) (job : Job) (op : Op) (reply : Reply) → HasH
     → (left (later job reply) + 1 ≤ left job) ⊎ (reads_state op ≡ true)
 job_waits sim (jobs.Reading job true) op reply has cmis link stays asks answers gives = inl (reading_nearer sim has job op reply asks answers gives cmis link)
 job_waits sim (jobs.Reading job false) op reply has cmis link stays asks answers gives = inl (omega (arith, reading_nearer sim has job op reply asks answers gives cmis link))
-job_waits sim (jobs.Waking job) op reply has cmis link stays asks answers gives = some_more _ _ 45 (reads_state op ≡ true) (waking_waits sim job op reply has asks answers gives)
+job_waits sim (jobs.Waking job) op reply has cmis link stays asks answers gives = some_more _ _ 49 (reads_state op ≡ true) (waking_waits sim job op reply has asks answers gives)
 job_waits sim (jobs.Sleeping job) op reply has cmis link stays asks answers gives = waking_waits sim job op reply has asks answers gives
-job_waits sim (jobs.Provisioning job goal) op reply has cmis link stays asks answers gives = procedure_waits sim has job op reply asks answers gives link 10
-job_waits sim (jobs.Activating job goal) op reply has cmis link stays asks answers gives = none_more _ _ (reads_state op ≡ true) (procedure_waits sim has job op reply asks answers gives link 0)
+job_waits sim (jobs.Provisioning job goal) op reply has cmis link stays asks answers gives = procedure_waits sim has job op reply asks answers gives link 14
+job_waits sim (jobs.Activating job goal) op reply has cmis link stays asks answers gives = procedure_waits sim has job op reply asks answers gives link 4
+job_waits sim (jobs.Confirming job) op reply has cmis link stays asks answers gives = inl (look_nearer sim has job op reply asks answers gives link)
 job_waits sim (jobs.Watching job) op reply has cmis link stays asks answers gives = absurd (stays tt)
 
 pub job_linked : (sim : SimModule) (job : Job) (op : Op) (reply : Reply) → HasHalves sim → IsCmisJob job → LinkedJob job sim → asked job ≡ Some op → Answers op reply → reply ≡ reply_of sim op
@@ -389,4 +454,5 @@ job_linked sim (jobs.Waking job) op reply has cmis link asks answers gives = tt
 job_linked sim (jobs.Sleeping job) op reply has cmis link asks answers gives = tt
 job_linked sim (jobs.Provisioning job goal) op reply has cmis link asks answers gives = procedure_linked sim has job op reply asks answers gives link
 job_linked sim (jobs.Activating job goal) op reply has cmis link asks answers gives = procedure_linked sim has job op reply asks answers gives link
+job_linked sim (jobs.Confirming job) op reply has cmis link asks answers gives = look_linked sim has job op reply asks answers gives link
 job_linked sim (jobs.Watching job) op reply has cmis link asks answers gives = tt

@@ -75,4 +75,4 @@ WantsAwake (drop ∷ before) = WantsAwake before
 abbrev pub ComesUpWithin : Type 0
 ComesUpWithin =
     (most : ℕ) (port later : Port) (sim after : SimModule) (now : ℕ) (story : Story) → HasHalves sim → IsSteady most sim → Manages (plugged now port) sim story later after
-    → IsGoingOn story → WantsAwake story → 61 + 3 * most_waits most < made_in story → IsUpStage later.stage
+    → IsGoingOn story → WantsAwake story → 65 + 3 * most_waits most < made_in story → IsUpStage later.stage

@@ -53,7 +53,7 @@ abbrev pub SuitedHasComeUpInTime : Type 0
 SuitedHasComeUpInTime =
     (most turnaround now moment : ℕ) (port later : Port) (sim after : SimModule) (story : Story) → HasHalves sim → IsSteady most sim → AreWhole sim.image → IsProvisionable most sim → Works (plugged now port) sim story later after
     → IsUndisturbed (λ result. Unit {0}) story → AllSuit sim story → IsPrompt turnaround (plugged now port).due story → IsSoon turnaround (plugged now port).due story moment
-    → (plugged now port).due + (62 + 3 * most_waits most) * (turnaround + pause_for sim.image) < moment → HasComeUp story
+    → (plugged now port).due + (66 + 3 * most_waits most) * (turnaround + pause_for sim.image) < moment → HasComeUp story
 
 -- until it has, a port that isn't to hold still asks for an operation at each moment from which it may be asked for, while none is
 -- outstanding

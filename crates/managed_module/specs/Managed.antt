@@ -14,7 +14,7 @@ use Rattle.paged_memory.specs.Keys.{lower_key, upper_key}
 use Rattle.control_sets.specs.OutcomeOperations.{read_module_state, read_path_states, read_statuses}
 use Rattle.module_reading.specs.Regions.{identifier}
 use Rattle.port_manager.specs.declared.job.Job.{Job}
-use Rattle.port_manager.specs.declared.job.Job.TheVariants.{Reading, Waking, Sleeping, Provisioning, Activating, Watching}
+use Rattle.port_manager.specs.declared.job.Job.TheVariants.{Reading, Waking, Sleeping, Provisioning, Activating, Confirming, Watching}
 use Rattle.port_manager.specs.declared.port.Outcome.{Outcome}
 use Rattle.port_manager.specs.declared.port.Port.{Port}
 use Rattle.port_manager.specs.declared.port.Stage.{Stage}
@@ -89,6 +89,7 @@ IsCmisJob (Waking job) = Unit {0}
 IsCmisJob (Sleeping job) = Unit {0}
 IsCmisJob (Provisioning job goal) = Unit {0}
 IsCmisJob (Activating job goal) = Unit {0}
+IsCmisJob (Confirming job) = Unit {0}
 IsCmisJob (Watching job) = Unit {0}
 
 abbrev pub IsCmisStage : Stage → Type 0
@@ -107,4 +108,4 @@ Manages port sim (event ∷ before) later after =
 abbrev pub ManagedComesUp : Type 0
 ManagedComesUp =
     (port later : Port) (sim after : SimModule) (now : ℕ) (story : Story) → HasHalves sim → Manages (plugged now port) sim story later after → IsGoingOn story
-    → 61 + 3 * waits_in story < made_in story → IsUpStage later.stage
+    → 65 + 3 * waits_in story < made_in story → IsUpStage later.stage

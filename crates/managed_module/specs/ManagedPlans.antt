@@ -84,9 +84,13 @@ IsInTime (outcome.Paused moment) = Unit {0}
 IsInTime (outcome.Failed because moment) = ¬ (TookTooLong because)
 IsInTime (outcome.Left reason) = Unit {0}
 
--- so many operations are made at most
+-- provisioning and activation make so many operations at most
 abbrev pub most_made : ℕ → ℕ
 most_made most = 32 + (until_deactivated most + (until_applied most + until_activated most))
+
+-- and the look at the module that came up makes four
+abbrev pub most_until_up : ℕ → ℕ
+most_until_up most = most_made most + 4
 
 -- so many may be made, and so many pauses in a row are not too long
 pub record LastsFor (made : ℕ) (patience : Patience) : Type 0 where
@@ -107,4 +111,4 @@ abbrev pub PlansComeUp : Type 0
 PlansComeUp =
     (most : ℕ) (conventions : Conventions) (paths kept : List Path) (goal : Goal) (patience : Patience) (port later : Port) (sim after : SimModule) (story : Story)
     → IsReadyFor most conventions paths kept goal sim → BeginsToProvision goal patience port → LastsFor (most_made most) patience → Manages port sim story later after
-    → IsUndisturbed (λ result. Unit {0}) story → most_made most < made_in story → HasComeUp story
+    → IsUndisturbed (λ result. Unit {0}) story → most_until_up most < made_in story → HasComeUp story

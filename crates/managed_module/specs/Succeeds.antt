@@ -115,4 +115,4 @@ Works port sim (event ∷ before) later after = (between : Port) × (sim_between
 abbrev pub ComesUpSuited : Type 0
 ComesUpSuited =
     (most : ℕ) (port later : Port) (sim after : SimModule) (now : ℕ) (story : Story) → HasHalves sim → IsSteady most sim → AreWhole sim.image → IsAwaited most sim.image → Works (plugged now port) sim story later after
-    → ProceduresSucceed story → AllSuit sim story → 61 + 3 * most_waits most < made_in story → HasComeUp story
+    → ProceduresSucceed story → AllSuit sim story → 65 + 3 * most_waits most < made_in story → HasComeUp story

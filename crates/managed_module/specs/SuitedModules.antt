@@ -39,4 +39,4 @@ NewIsProvisionable = (most : ℕ) (memory : Memory) (delays : Delays) → LastsF
 abbrev pub SuitedHasComeUp : Type 0
 SuitedHasComeUp =
     (most : ℕ) (port later : Port) (sim after : SimModule) (now : ℕ) (story : Story) → HasHalves sim → IsSteady most sim → AreWhole sim.image → IsProvisionable most sim → Works (plugged now port) sim story later after
-    → IsUndisturbed (λ result. Unit {0}) story → AllSuit sim story → 61 + 3 * most_waits most < made_in story → HasComeUp story
+    → IsUndisturbed (λ result. Unit {0}) story → AllSuit sim story → 65 + 3 * most_waits most < made_in story → HasComeUp story

@@ -8,7 +8,7 @@ ghost use Rattle.managed_module.specs.SuitedModules.{NewIsProvisionable, SuitedH
 ghost use Rattle.managed_module.specs.ManagedPlans.{PlansComeUp, PlansDontFail};
 
 /// A port at work on a simulated CMIS module, in whatever state, over a bus that refuses nothing, with pauses of any length: unless
-/// something fails or the module is left alone, it is up once more operations were made than 61, and 3 for each read of a state
+/// something fails or the module is left alone, it is up once more operations were made than 65, and 3 for each read of a state
 /// that is not yet the one that is awaited.
 pub fn a_simulated_module_comes_up()
     ensures { ManagedComesUp }
@@ -47,7 +47,7 @@ pub fn a_plan_of_its_own_does_not_fail()
 {}
 
 /// None does if a procedure may make as many operations as the module's delays give, and pause as often: so the module is up within
-/// that many.
+/// that many, and the four of the look after them.
 pub fn a_plan_of_its_own_comes_up()
     ensures { PlansComeUp }
 {}
@@ -67,7 +67,7 @@ pub fn a_new_module_is_provisionable()
 
 /// `a_suited_module_has_come_up` in milliseconds, if each reply is taken within so many, a turnaround, of the moment from which its
 /// operation may be asked for. Count a turnaround and the module's pause for each operation, from the moment on at which the port has let
-/// the module settle: once 62 operations are over, and 3 for each such read, the module has come up, unless a reply is late by then. The
+/// the module settle: once 66 operations are over, and 3 for each such read, the module has come up, unless a reply is late by then. The
 /// clock may go back.
 pub fn a_suited_module_has_come_up_in_time()
     ensures { SuitedHasComeUpInTime }

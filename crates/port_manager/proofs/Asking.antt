@@ -75,6 +75,7 @@ follows_asks wanted (jobs.Waking job) reply = begun_asks true
 follows_asks wanted (jobs.Sleeping job) reply = tt
 follows_asks wanted (jobs.Provisioning job goal) reply = (_, refl)
 follows_asks wanted (jobs.Activating job goal) reply = (_, refl)
+follows_asks wanted (jobs.Confirming job) reply = (_, refl)
 follows_asks wanted (jobs.Watching job) reply = (_, refl)
 
 turn_asks : (wanted : Wanted) (reply : Reply) (job : Job) (turn : Turn) → IsAnyTurn wanted job reply turn → IfOn turn Asks

@@ -133,6 +133,7 @@ job_watches port wanted (jobs.Waking job) reply turn now watching is = absurd wa
 job_watches port wanted (jobs.Sleeping job) reply turn now watching is = absurd watching
 job_watches port wanted (jobs.Provisioning job goal) reply turn now watching is = absurd watching
 job_watches port wanted (jobs.Activating job goal) reply turn now watching is = absurd watching
+job_watches port wanted (jobs.Confirming job) reply turn now watching is = absurd watching
 job_watches port wanted (jobs.Watching job) reply turn now watching is =
     turn_all (CalmWatches port now) (λ why. λ calm. calm) wanted (jobs.Watching job) reply turn
     (λ next e. going_watches port now (pause_of (jobs.Watching job) reply) (later (jobs.Watching job) reply) tt) (λ calm. tt) is

@@ -1,6 +1,6 @@
--- How much is left of readings, procedures and changes of power, and that each of their operations makes that less, or is fruitless.
-use Rattle.std.proofs.Common.{◌≡◌, ◌≤◌, ◌<◌, ◌+◌, ◌⊎◌, inl, inr, ℕ, true, false, List, length, Option, Some, None, refl, sym, ap, subst, ◌∙◌, arith}
-use Rattle.std.specs.Prelude.{◌-◌, slice_get}
+-- How much is left of readings, procedures, looks and changes of power, and that each of their operations makes that less, or is fruitless.
+use Rattle.std.proofs.Common.{◌≡◌, ◌==◌, ◌≤◌, ◌<◌, ◌+◌, ◌⊎◌, inl, inr, ℕ, Bool, true, false, List, length, Option, Some, None, refl, sym, ap, subst, ◌∙◌, arith}
+use Rattle.std.specs.Prelude.{◌-◌, if◌then◌else◌, slice_get, slice_index}
 use Rattle.std.proofs.lemmas.Option.{slice_get_within}
 use Rattle.bus_model.specs.declared.operation.Op.{Op}
 use Rattle.bus_model.specs.declared.operation.Reply.{Reply}
@@ -29,13 +29,20 @@ use Rattle.control_sets.specs.PowerProgress.{PatientPower, change_after, judged_
 use Rattle.control_sets.specs.Progress.{after_reply, hand, judged_at, list_at, task_at, tasks_of, told_at}
 use Rattle.control_sets.specs.Progress as progress
 use Rattle.control_sets.specs.Tasks.{operation}
+use Rattle.field_tables.specs.declared.field.Field.TheVariants.{CModuleState}
+use Rattle.field_tables.specs.FieldValues.{number_in_byte}
 use Rattle.module_reading.specs.declared.halves.Halves.{Halves}
 use Rattle.module_reading.specs.declared.region.Region.{Region}
 use Rattle.module_reading.specs.declared.region.Region.TheVariants.{Lower, FirstPage, Page}
 use Rattle.module_reading.specs.ImageReading as reader
 use Rattle.module_reading.specs.Regions as regions
 use Rattle.module_reading.proofs.RegionLaws.{at_most_five}
-use Rattle.port_manager.specs.Jobs.{paged_halves, paged_tasks, waking_after, waking_wants}
+use Rattle.port_manager.specs.declared.deciding.Goal.{Goal}
+use Rattle.port_manager.specs.declared.look.Look.{Look}
+use Rattle.port_manager.specs.declared.look.LookStage.{LookStage}
+use Rattle.port_manager.specs.declared.look.LookStage.TheVariants as looking
+use Rattle.port_manager.specs.Jobs.{paged_halves, paged_look, paged_tasks, waking_after, waking_wants}
+use Rattle.port_manager.specs.Looks as looks
 use Rattle.port_manager.specs.Patients.{pause_after}
 use Rattle.port_manager.proofs.PageProgress.{Counted, OwnStep, fruitful, repeats}
 use Rattle.port_manager.proofs.PatientLaws.{asked_within, kept_within}
@@ -149,6 +156,44 @@ tasks_counted = record {
   some = λ list op wants. task_some list.work list.met list.fault op wants;
   own = λ list op reply wants answers. task_own list.work list.met list.fault op reply wants answers;
   lacks = λ list op number wants. inr refl;
+}
+
+-- ---- looks
+
+abbrev pub left_at_look : LookStage → ℕ
+left_at_look looking.Lower = 2
+left_at_look looking.Lanes = 1
+left_at_look (looking.Seen wanted) = 0
+
+abbrev pub left_of_look : Look → ℕ
+left_of_look look = left_at_look look.stage
+
+abbrev look_of : Goal → LookStage → Look
+look_of goal at = record { goal = goal; stage = at }
+
+ready_or_not : (ready : Bool) → left_at_look (if ready then looking.Lanes else looking.Seen false) + 1 ≤ 2
+ready_or_not true = omega arith
+ready_or_not false = omega arith
+
+look_own : (goal : Goal) (at : LookStage) (op : Op) (reply : Reply) → looks.wants_at at ≡ Do op → OwnStep left_of_look (look_of goal at) (look_of goal (looks.stage_after goal at reply)) op reply
+look_own goal looking.Lower op (Bytes bytes) wants = inl (ready_or_not (number_in_byte CModuleState (slice_index bytes.items 3) == 3))
+look_own goal looking.Lower op Done wants = let same : looks.fetch_half 0 ≡ op = cc in inr (refl, inl (subst IsFetch same tt))
+look_own goal looking.Lower op Refused wants = inr (refl, inr refl)
+look_own goal looking.Lanes op (Bytes bytes) wants = inl (omega arith)
+look_own goal looking.Lanes op Done wants = let same : looks.fetch_half 128 ≡ op = cc in inr (refl, inl (subst IsFetch same tt))
+look_own goal looking.Lanes op Refused wants = inr (refl, inr refl)
+look_own goal (looking.Seen wanted) op reply wants = absurd cc
+
+look_some : (at : LookStage) (op : Op) → looks.wants_at at ≡ Do op → 1 ≤ left_at_look at
+look_some looking.Lower op wants = omega arith
+look_some looking.Lanes op wants = omega arith
+look_some (looking.Seen wanted) op wants = absurd cc
+
+pub look_counted : Counted paged_look left_of_look
+look_counted = record {
+  some = λ look op wants. look_some look.stage op wants;
+  own = λ look op reply wants answers. look_own look.goal look.stage op reply wants;
+  lacks = λ look op number wants. inr refl;
 }
 
 -- ---- changes of power

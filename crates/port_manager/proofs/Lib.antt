@@ -8,6 +8,7 @@ pub mod StoryLaws
 pub mod StoreLaws
 pub mod RefusedApplyLaws
 pub mod WakingLaws
+pub mod CameUpLaws
 pub mod IdleLaws
 pub mod Asking
 pub mod PageProgress

@@ -8,6 +8,7 @@ use Rattle.conversations.specs.declared.next.Next.TheVariants.{Do, Wait, End}
 use Rattle.conversations.specs.declared.on_page.OnPage.{OnPage}
 use Rattle.conversations.specs.declared.pausing.Patience.{Patience}
 use Rattle.conversations.specs.declared.pausing.Timed.{Timed}
+use Rattle.conversations.specs.declared.pausing.Timed.TheVariants.{InTime, Overdue}
 use Rattle.conversations.specs.declared.within.Spent.{Spent}
 use Rattle.conversations.specs.Budgets.{next_within}
 use Rattle.conversations.specs.Pauses.{is_refused, next_pausing}
@@ -86,6 +87,37 @@ on_waits addressing selected page (End end) time never e = absurd cc
 
 pub paged_never : {C E : Type 0} (paged : Paged C E) → NeverWaits paged.wants → NeverWaits (wants_on paged)
 paged_never paged never on time e = on_waits (chosen (paged.addressing on.conversation)) on.selection (paged.page on.conversation) (paged.wants on.conversation) time (never on.conversation) e
+
+-- ---- its end
+
+module _ {E : Type 0} where
+  pub within_ends : (steps limit : ℕ) (wanted : Next E) (spent : Spent E) (end : E) → next_within steps limit wanted ≡ End spent → spent.end ≡ Some end → wanted ≡ End end
+  within_ends steps limit (Do op) spent end e some = by (nat_lt steps limit) e where
+    by : (few : Bool) → ◌≡◌ {A = Next (Spent E)} (if few then Do op else End (record { steps = steps; end = None })) (End spent) → Do op ≡ End end
+    by true e = absurd cc
+    by false e =
+        let same : ◌≡◌ {A = Spent E} (record { steps = steps; end = None }) spent = cc in
+        absurd (let none : None ≡ Some end = ap (λ (s : Spent E). s.end) same ∙ some in cc)
+  within_ends steps limit (Wait time) spent end e some = absurd cc
+  within_ends steps limit (End other) spent end e some =
+      let same : ◌≡◌ {A = Spent E} (record { steps = steps; end = Some other }) spent = cc in
+      let one : Some other ≡ Some end = ap (λ (s : Spent E). s.end) same ∙ some in
+      let is : other ≡ end = cc in ap (λ (e : E). End e) is
+
+  pub pausing_ends : (due : Bool) (idle : ℕ) (patience : Patience) (wanted : Next E) (end : E) → next_pausing due idle patience wanted ≡ End (InTime end) → wanted ≡ End end
+  pausing_ends true idle patience (Do op) end e = by (nat_lt patience.limit idle) e where
+    by : (late : Bool) → ◌≡◌ {A = Next (Timed E)} (if late then End Overdue else Wait patience.pause) (End (InTime end)) → Do op ≡ End end
+    by true e = absurd cc
+    by false e = absurd cc
+  pausing_ends false idle patience (Do op) end e = absurd cc
+  pausing_ends due idle patience (Wait time) end e = absurd cc
+  pausing_ends due idle patience (End other) end e = let same : InTime other ≡ InTime end = cc in let is : other ≡ end = cc in ap (λ (e : E). End e) is
+
+-- what ends needs no page
+pub on_ends : {E : Type 0} (addressing : PageAddressing) (selected : KnownPage) (page : Option ℕ) (wanted : Next E) (end : E) → next_on addressing selected page wanted ≡ End end → wanted ≡ End end
+on_ends addressing selected page (Do op) end e = absurd cc
+on_ends addressing selected page (Wait time) end e = absurd cc
+on_ends addressing selected page (End other) end e = e
 
 -- ---- what the conversation within becomes
 

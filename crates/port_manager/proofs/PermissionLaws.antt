@@ -151,6 +151,7 @@ job_takes story op (jobs.Provisioning job goal) named asks =
 job_takes story op (jobs.Activating job goal) named asks =
     procedure_may (TakesPermitted story) (TakesPermitted story) (activation_of goal) job op named.0
     (activation_may (TakesPermitted story) (TakesPermitted story) goal (activation_takes story goal named.1)) asks
+job_takes story op (jobs.Confirming job) named asks = look_may (TakesPermitted story) (TakesPermitted story) job op asks
 job_takes story op (jobs.Watching job) named asks = look_may (TakesPermitted story) (TakesPermitted story) job op asks
 
 stage_takes : (story : Story) (op : Op) (stage : Stage) → IfWorking stage (IsNamed story) → asked_in stage ≡ Some op → TakesPermitted story op

@@ -82,6 +82,7 @@ IsResting (jobs.Waking job) = ⊥
 IsResting (jobs.Sleeping job) = Unit {0}
 IsResting (jobs.Provisioning job goal) = ⊥
 IsResting (jobs.Activating job goal) = ⊥
+IsResting (jobs.Confirming job) = ⊥
 IsResting (jobs.Watching job) = ⊥
 
 decided_rests : (woken : Bool) (patience : Patience) (decision : Decision) → Rests decision → IfOn (decided woken patience decision) IsResting
@@ -98,6 +99,7 @@ later_rests (jobs.Waking job) reply rests = absurd rests
 later_rests (jobs.Sleeping job) reply rests = tt
 later_rests (jobs.Provisioning job goal) reply rests = absurd rests
 later_rests (jobs.Activating job goal) reply rests = absurd rests
+later_rests (jobs.Confirming job) reply rests = absurd rests
 later_rests (jobs.Watching job) reply rests = absurd rests
 
 follows_rests : (wanted : Wanted) (job : Job) (reply : Reply) → wanted.asleep ≡ true → IsResting job → Follows (λ turn. IfOn turn IsResting) wanted job reply
@@ -106,6 +108,7 @@ follows_rests wanted (jobs.Waking job) reply asleep rests = absurd rests
 follows_rests wanted (jobs.Sleeping job) reply asleep rests = tt
 follows_rests wanted (jobs.Provisioning job goal) reply asleep rests = absurd rests
 follows_rests wanted (jobs.Activating job goal) reply asleep rests = absurd rests
+follows_rests wanted (jobs.Confirming job) reply asleep rests = absurd rests
 follows_rests wanted (jobs.Watching job) reply asleep rests = absurd rests
 
 turn_rests : (wanted : Wanted) (reply : Reply) (job : Job) (turn : Turn) → wanted.asleep ≡ true → IsResting job → IsAnyTurn wanted job reply turn → IfOn turn IsResting
@@ -205,7 +208,7 @@ same_request outstanding.Forsaken port = refl
 same_request outstanding.Awaited port = refl
 same_request outstanding.Stale port = refl
 
-there_left : (stage : Stage) → is_there stage ≡ true → left_in (begun_in stage) ≡ 61
+there_left : (stage : Stage) → is_there stage ≡ true → left_in (begun_in stage) ≡ 65
 there_left stages.Absent there = absurd (let same : false ≡ true = there in cc)
 there_left (stages.Left reason) there = begun_reading false
 there_left (stages.Working job) there = begun_reading false
@@ -218,6 +221,7 @@ up_rests (stages.Working (jobs.Waking job)) up rests = up
 up_rests (stages.Working (jobs.Sleeping job)) up rests = up
 up_rests (stages.Working (jobs.Provisioning job goal)) up rests = up
 up_rests (stages.Working (jobs.Activating job goal)) up rests = up
+up_rests (stages.Working (jobs.Confirming job)) up rests = up
 up_rests (stages.Working (jobs.Watching job)) up rests = rests
 
 module _ (port later : Port) (request : Request) (story : Story) (there : is_there port.stage ≡ true) (nothing : port.outstanding ≡ outstanding.Nothing) (ran : Runs (asked_for request port) story later)
@@ -225,10 +229,10 @@ module _ (port later : Port) (request : Request) (story : Story) (there : is_the
   begun : (asked_for request port).stage ≡ begun_in port.stage
   begun = asked_by port.outstanding (record port { vain = false; request = request }) nothing
 
-  first : left_in (asked_for request port).stage ≡ 61
+  first : left_in (asked_for request port).stage ≡ 65
   first = ap left_in begun ∙ there_left port.stage there
 
-  comes_up : 61 + 3 * paused_in story < made_in story → IsUpStage later.stage
+  comes_up : 65 + 3 * paused_in story < made_in story → IsUpStage later.stage
   comes_up many =
       elim (is_up_or_not later.stage) as (λ _. IsUpStage later.stage) [
         | inl up ↦ up
@@ -247,7 +251,7 @@ module _ (port later : Port) (request : Request) (story : Story) (there : is_the
   wakes true sleep up = absurd (up_rests later.stage up (asleep sleep))
   wakes false sleep up = sleep
 
-  pub done : 61 + 3 * paused_in story < made_in story → IsUpStage later.stage × (is_sleep request ≡ false)
+  pub done : 65 + 3 * paused_in story < made_in story → IsUpStage later.stage × (is_sleep request ≡ false)
   done many = (comes_up many, wakes (is_sleep request) refl (comes_up many))
 
 pub what_is_asked_is_done : IsRequestDone

@@ -159,6 +159,7 @@ job_may story op (jobs.Provisioning job goal) vain e tame named asks =
     procedure_may (ChangesPowerIn story) (IsNamedStore story) (provisioning_of goal) job op named.0 (provisioning_may (ChangesPowerIn story) (IsNamedStore story) goal (λ op store. (goal, since_map (GivesProvisioning goal) (GivesGoal goal) (provisioning_goal goal) story named.1, store))) asks
 job_may story op (jobs.Activating job goal) vain e tame named asks =
     procedure_may (ChangesPowerIn story) (IsNamedStore story) (activation_of goal) job op named.0 (activation_may (ChangesPowerIn story) (IsNamedStore story) goal (goal, since_map (GivesActivation goal) (GivesGoal goal) (activation_goal goal) story named.1, inr (inr (inr refl)))) asks
+job_may story op (jobs.Confirming job) vain e tame named asks = look_may (ChangesPowerIn story) (IsNamedStore story) job op asks
 job_may story op (jobs.Watching job) vain e tame named asks = look_may (ChangesPowerIn story) (IsNamedStore story) job op asks
 
 tame_in : (vain : Bool) (job : Job) → IfTrue vain (IfWorking (Working job) IsTame) → IfTrue vain (IsTame job)
@@ -188,6 +189,7 @@ watching_only (jobs.Waking job) op watches asks = absurd watches
 watching_only (jobs.Sleeping job) op watches asks = absurd watches
 watching_only (jobs.Provisioning job goal) op watches asks = absurd watches
 watching_only (jobs.Activating job goal) op watches asks = absurd watches
+watching_only (jobs.Confirming job) op watches asks = absurd watches
 watching_only (jobs.Watching job) op watches asks = nothing_else op (look_may (λ op. ⊥) (λ op. ⊥) job op asks)
 
 pub stage_only : (stage : Stage) (op : Op) → IfWorking stage IsWatching → asked_in stage ≡ Some op → StoresNothing op

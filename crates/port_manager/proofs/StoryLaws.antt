@@ -65,6 +65,7 @@ named_over story more (jobs.Waking change) over named = (named.0, over GivesWaki
 named_over story more (jobs.Sleeping change) over named = (named.0, over GivesSleep named.1)
 named_over story more (jobs.Provisioning procedure goal) over named = (named.0, over (GivesProvisioning goal) named.1)
 named_over story more (jobs.Activating procedure goal) over named = (named.0, over (GivesActivation goal) named.1)
+named_over story more (jobs.Confirming look) over named = over (GivesGoal look.conversation.conversation.conversation.goal) named
 named_over story more (jobs.Watching look) over named = over (GivesGoal look.conversation.conversation.conversation.goal) named
 
 stage_named : (story more : Story) (stage : Stage) → ((P : History → Wanted → Type 0) → SinceRead P story → SinceRead P more) → IfWorking stage (IsNamed story) → IfWorking stage (IsNamed more)

@@ -27,9 +27,10 @@ use Rattle.port_manager.specs.declared.deciding.LeftBecause.TheVariants.{Asleep}
 use Rattle.conversations.specs.declared.pausing.Patience.{Patience}
 use Rattle.port_manager.specs.declared.deciding.Wanted.{Wanted}
 use Rattle.port_manager.specs.declared.job.Job.{Job}
-use Rattle.port_manager.specs.declared.job.Job.TheVariants.{Reading, Waking, Sleeping, Provisioning, Activating, Watching}
+use Rattle.port_manager.specs.declared.job.Job.TheVariants.{Reading, Waking, Sleeping, Provisioning, Activating, Confirming, Watching}
 use Rattle.port_manager.specs.declared.look.LookStage.{LookStage}
 use Rattle.port_manager.specs.declared.look.LookStage.TheVariants as stages
+use Rattle.port_manager.specs.declared.turn.Note.{Note}
 use Rattle.port_manager.specs.declared.turn.Note.TheVariants as note
 use Rattle.port_manager.specs.declared.turn.PortFault.{PortFault}
 use Rattle.port_manager.specs.declared.turn.PortFault.TheVariants as fault
@@ -37,7 +38,7 @@ use Rattle.port_manager.specs.declared.turn.ProcedureFault.{ProcedureFault}
 use Rattle.port_manager.specs.Turns.{Turn}
 use Rattle.port_manager.specs.Turns.{On, Failed, Left}
 use Rattle.port_manager.specs.Decisions.{IsDecision}
-use Rattle.port_manager.specs.Jobs.{activating, asked, paged_halves, paged_look, look_after, look_wants, procedure_after, procedure_wants, reading, reading_after, reading_wants, paged_tasks, waking_after, waking_wants, watching}
+use Rattle.port_manager.specs.Jobs.{activating, asked, confirming, paged_halves, paged_look, look_after, look_wants, procedure_after, procedure_wants, reading, reading_after, reading_wants, paged_tasks, waking_after, waking_wants, watching}
 use Rattle.port_manager.specs.Looks as looks
 use Rattle.port_manager.specs.Patients.{Patient, after_on, pause_after, wants_on}
 use Rattle.port_manager.specs.Readings.{IsWhole}
@@ -85,6 +86,7 @@ later (Waking job) reply = Waking (waking_after job reply)
 later (Sleeping job) reply = Sleeping (waking_after job reply)
 later (Provisioning job goal) reply = Provisioning (procedure_after job reply) goal
 later (Activating job goal) reply = Activating (procedure_after job reply) goal
+later (Confirming job) reply = Confirming (look_after job reply)
 later (Watching job) reply = Watching (look_after job reply)
 
 abbrev pub pause_of : Job → Reply → Option ℕ
@@ -93,6 +95,7 @@ pause_of (Waking job) reply = pause_after power_wants change_after job reply
 pause_of (Sleeping job) reply = pause_after power_wants change_after job reply
 pause_of (Provisioning job goal) reply = pause_after (wants_on paged_tasks) (after_on paged_tasks) job reply
 pause_of (Activating job goal) reply = pause_after (wants_on paged_tasks) (after_on paged_tasks) job reply
+pause_of (Confirming job) reply = pause_after (wants_on paged_look) (after_on paged_look) job reply
 pause_of (Watching job) reply = pause_after (wants_on paged_look) (after_on paged_look) job reply
 
 -- whether an apply was refused before or not
@@ -107,11 +110,13 @@ Follows Q wanted (Reading job woken) reply =
 Follows Q wanted (Waking job) reply = Q (On (reading true) note.Woken)
 Follows Q wanted (Sleeping job) reply = Q (Left Asleep)
 Follows Q wanted (Provisioning job goal) reply = Q (On (activating goal (procedure_after job reply).conversation.patience) note.Provisioned)
-Follows Q wanted (Activating job goal) reply = Q (On (watching goal (procedure_after job reply).conversation.patience) note.CameUp)
+Follows Q wanted (Activating job goal) reply = Q (On (confirming goal (procedure_after job reply).conversation.patience) note.Quiet)
+Follows Q wanted (Confirming job) reply =
+    Q (On (watching (look_after job reply).conversation.conversation.conversation.goal (look_after job reply).conversation.patience) note.CameUp)
 Follows Q wanted (Watching job) reply =
     Q (On (watching (look_after job reply).conversation.conversation.conversation.goal (look_after job reply).conversation.patience) note.Held)
 
-goes : {E : Type 0} (next : Next (Spent E)) (pause : Option ℕ) (job : Job) (Ended : Option E → Turn → Type 0) (turn : Turn) (Q : Turn → Type 0) → GoesTo next pause job Ended turn
+pub goes : {E : Type 0} (next : Next (Spent E)) (pause : Option ℕ) (job : Job) (Ended : Option E → Turn → Type 0) (turn : Turn) (Q : Turn → Type 0) → GoesTo next pause job Ended turn
     → ((op : Op) → next ≡ Do op → Q (going pause job)) → ((time : ℕ) → next ≡ Wait time → ⊥) → ((spent : Spent E) → next ≡ End spent → Ended spent.end turn → Q turn) → Q turn
 goes (Do op) pause job Ended turn Q is does waits ends = subst Q (sym is) (does op refl)
 goes (Wait time) pause job Ended turn Q is does waits ends = absurd (waits time refl)
@@ -130,15 +135,15 @@ module _ (Q : Turn → Type 0) (failed : (why : PortFault) → Q (Failed why)) w
   after_provisioning goal patience None q = q
   after_provisioning goal patience (Some because) q = failed (fault.Provisioning because)
 
-  after_activating : (goal : Goal) (patience : Patience) (because : Option ProcedureFault) → Q (On (watching goal patience) note.CameUp) → Q (activated goal patience because)
+  after_activating : (goal : Goal) (patience : Patience) (because : Option ProcedureFault) → Q (On (confirming goal patience) note.Quiet) → Q (activated goal patience because)
   after_activating goal patience None q = q
   after_activating goal patience (Some because) q = failed (fault.Activating because)
 
-  after_look : (goal : Goal) (patience : Patience) (end : Option (Timed Bool)) → Q (On (watching goal patience) note.Held) → Q (seen goal patience end)
-  after_look goal patience None q = failed fault.Unseen
-  after_look goal patience (Some Overdue) q = failed fault.Unseen
-  after_look goal patience (Some (InTime true)) q = q
-  after_look goal patience (Some (InTime false)) q = failed fault.Changed
+  after_look : (goal : Goal) (patience : Patience) (noted : Note) (end : Option (Timed Bool)) → Q (On (watching goal patience) noted) → Q (seen goal patience noted end)
+  after_look goal patience noted None q = failed fault.Unseen
+  after_look goal patience noted (Some Overdue) q = failed fault.Unseen
+  after_look goal patience noted (Some (InTime true)) q = q
+  after_look goal patience noted (Some (InTime false)) q = failed fault.Changed
 
   after_reading : (wanted : Wanted) (woken : Bool) (later : Patient (OnPage Halves)) (steps : ℕ) (end : Option (Timed (Unit {0}))) (turn : Turn)
       → ((decision : Decision) → IsWhole (reading_wants later) → IsDecision wanted later.conversation.conversation.conversation.image decision → Q (decided woken (patience_for later.conversation.conversation.conversation.image) decision))
@@ -174,11 +179,16 @@ module _ (Q : Turn → Type 0) (failed : (why : PortFault) → Q (Failed why)) w
       goes (procedure_wants after) (pause_of (Activating job goal) reply) (Activating after goal) (λ end turn. turn ≡ activated goal after.conversation.patience (fault_in end)) turn Q is
       (λ op e. goes_on op (ap op_of e)) (λ time e. never_waits (wants_on paged_tasks) (after_on paged_tasks) job reply time (paged_never paged_tasks tasks_never) e)
       (λ spent e ended. subst Q (sym ended) (after_activating goal after.conversation.patience (fault_in spent.end) follows))
+  taken_all wanted (Confirming job) reply turn goes_on follows is =
+      let after = look_after job reply in
+      goes (look_wants after) (pause_of (Confirming job) reply) (Confirming after) (λ end turn. turn ≡ seen after.conversation.conversation.conversation.goal after.conversation.patience note.CameUp end) turn Q is
+      (λ op e. goes_on op (ap op_of e)) (λ time e. never_waits (wants_on paged_look) (after_on paged_look) job reply time (paged_never paged_look look_never) e)
+      (λ spent e ended. subst Q (sym ended) (after_look after.conversation.conversation.conversation.goal after.conversation.patience note.CameUp spent.end follows))
   taken_all wanted (Watching job) reply turn goes_on follows is =
       let after = look_after job reply in
-      goes (look_wants after) (pause_of (Watching job) reply) (Watching after) (λ end turn. turn ≡ seen after.conversation.conversation.conversation.goal after.conversation.patience end) turn Q is
+      goes (look_wants after) (pause_of (Watching job) reply) (Watching after) (λ end turn. turn ≡ seen after.conversation.conversation.conversation.goal after.conversation.patience note.Held end) turn Q is
       (λ op e. goes_on op (ap op_of e)) (λ time e. never_waits (wants_on paged_look) (after_on paged_look) job reply time (paged_never paged_look look_never) e)
-      (λ spent e ended. subst Q (sym ended) (after_look after.conversation.conversation.conversation.goal after.conversation.patience spent.end follows))
+      (λ spent e ended. subst Q (sym ended) (after_look after.conversation.conversation.conversation.goal after.conversation.patience note.Held spent.end follows))
 
   unless_refused : (refused : Bool) (wanted : Wanted) (job : Job) (reply : Reply) (turn : Turn) → ((op : Op) → asked (later job reply) ≡ Some op → Q (going (pause_of job reply) (later job reply)))
       → Follows Q wanted job reply → UnlessApplyRefused refused (IsTurnOf wanted job reply) turn → Q turn

@@ -33,7 +33,7 @@ use Rattle.port_manager.specs.declared.deciding.LeftBecause.TheVariants.{Advert,
 use Rattle.port_manager.specs.declared.deciding.LeftBecause.TheVariants as left
 use Rattle.port_manager.specs.declared.deciding.Wanted.{Wanted}
 use Rattle.port_manager.specs.declared.job.Job.{Job}
-use Rattle.port_manager.specs.declared.job.Job.TheVariants.{Reading, Waking, Sleeping, Provisioning, Activating, Watching}
+use Rattle.port_manager.specs.declared.job.Job.TheVariants.{Reading, Waking, Sleeping, Provisioning, Activating, Confirming, Watching}
 use Rattle.port_manager.specs.declared.look.Look.{Look}
 use Rattle.port_manager.specs.declared.port.Outcome.TheVariants as outcome
 use Rattle.port_manager.specs.declared.turn.Note.TheVariants as note
@@ -78,6 +78,7 @@ module _ (history : History) (op : Op) (reply : Reply) (answers : Answers op rep
   later_founded (Sleeping job) asks of = tt
   later_founded (Provisioning job goal) asks of = tt
   later_founded (Activating job goal) asks of = tt
+  later_founded (Confirming job) asks of = tt
   later_founded (Watching job) asks of = tt
 
 decided_founded : (history : History) (woken : Bool) (patience : Patience) (decision : Decision) → IfOn (decided woken patience decision) (IsFounded history)
@@ -95,6 +96,7 @@ follows_founded history wanted (Waking job) reply = begun_founded history true
 follows_founded history wanted (Sleeping job) reply = tt
 follows_founded history wanted (Provisioning job goal) reply = tt
 follows_founded history wanted (Activating job goal) reply = tt
+follows_founded history wanted (Confirming job) reply = tt
 follows_founded history wanted (Watching job) reply = tt
 
 pub turn_founded : (history : History) (wanted : Wanted) (op : Op) (reply : Reply) (job : Job) (turn : Turn) → IsFounded history job → asked job ≡ Some op → Answers op reply → IsAnyTurn wanted job reply turn
@@ -119,6 +121,7 @@ later_tame (Waking job) reply tame = absurd tame
 later_tame (Sleeping job) reply tame = tt
 later_tame (Provisioning job goal) reply tame = tt
 later_tame (Activating job goal) reply tame = tt
+later_tame (Confirming job) reply tame = tt
 later_tame (Watching job) reply tame = tt
 
 decided_tame : (woken : Bool) (patience : Patience) (decision : Decision) → woken ≡ true → IfOn (decided woken patience decision) IsTame
@@ -135,6 +138,7 @@ follows_tame wanted (Waking job) reply tame = absurd tame
 follows_tame wanted (Sleeping job) reply tame = tt
 follows_tame wanted (Provisioning job goal) reply tame = tt
 follows_tame wanted (Activating job goal) reply tame = tt
+follows_tame wanted (Confirming job) reply tame = tt
 follows_tame wanted (Watching job) reply tame = tt
 
 pub turn_tame : (wanted : Wanted) (reply : Reply) (job : Job) (turn : Turn) → IsTame job → IsAnyTurn wanted job reply turn → IfOn turn IsTame
@@ -156,6 +160,7 @@ later_watching (Waking job) reply watches = absurd watches
 later_watching (Sleeping job) reply watches = absurd watches
 later_watching (Provisioning job goal) reply watches = absurd watches
 later_watching (Activating job goal) reply watches = absurd watches
+later_watching (Confirming job) reply watches = absurd watches
 later_watching (Watching job) reply watches = tt
 
 settles_going : (before : Bool) (pause : Option ℕ) (job : Job) (reply : Reply) → IfTrue before (IsWatching job) → Settles before (going pause (later job reply))
@@ -173,17 +178,18 @@ decided_settles before woken patience (Hold goal) = tt
 decided_settles before woken patience (Activate goal) = tt
 decided_settles before woken patience (Provision goal) = tt
 
-follows_settles : (before : Bool) (wanted : Wanted) (job : Job) (reply : Reply) → Follows (Settles before) wanted job reply
-follows_settles before wanted (Reading job woken) reply = λ decision whole judged. decided_settles before woken _ decision
-follows_settles before wanted (Waking job) reply = tt
-follows_settles before wanted (Sleeping job) reply = tt
-follows_settles before wanted (Provisioning job goal) reply = tt
-follows_settles before wanted (Activating job goal) reply = tt
-follows_settles before wanted (Watching job) reply = tt
+follows_settles : (before : Bool) (wanted : Wanted) (job : Job) (reply : Reply) → IfTrue before (IsWatching job) → Follows (Settles before) wanted job reply
+follows_settles before wanted (Reading job woken) reply watches = λ decision whole judged. decided_settles before woken _ decision
+follows_settles before wanted (Waking job) reply watches = tt
+follows_settles before wanted (Sleeping job) reply watches = tt
+follows_settles before wanted (Provisioning job goal) reply watches = tt
+follows_settles before wanted (Activating job goal) reply watches = watches
+follows_settles before wanted (Confirming job) reply watches = tt
+follows_settles before wanted (Watching job) reply watches = tt
 
 pub turn_settles : (before : Bool) (wanted : Wanted) (reply : Reply) (job : Job) (turn : Turn) → IfTrue before (IsWatching job) → IsAnyTurn wanted job reply turn → Settles before turn
 turn_settles before wanted reply job turn watches is =
-    turn_all (Settles before) (λ why. tt) wanted job reply turn (λ next e. settles_going before (pause_of job reply) job reply watches) (follows_settles before wanted job reply) is
+    turn_all (Settles before) (λ why. tt) wanted job reply turn (λ next e. settles_going before (pause_of job reply) job reply watches) (follows_settles before wanted job reply watches) is
 
 -- ---- what stays of a job
 
@@ -227,6 +233,7 @@ module _ (story : Story) (op : Op) (reply : Reply) (wanted : Wanted) (now : ℕ)
   later_named (Sleeping job) named = (power_kept Asleep job reply named.0, named.1)
   later_named (Provisioning job goal) named = (work_kept _ job reply named.0, named.1)
   later_named (Activating job goal) named = (work_kept _ job reply named.0, named.1)
+  later_named (Confirming job) named = goal_kept (λ goal. RestsIn story goal) job reply named
   later_named (Watching job) named = goal_kept (λ goal. RestsIn story goal) job reply named
 
   named_quiet : (job : Job) → IsNamed story job → IsNamed (make op reply wanted now (outcome.Went note.Quiet) ∷ story) job
@@ -235,6 +242,7 @@ module _ (story : Story) (op : Op) (reply : Reply) (wanted : Wanted) (now : ℕ)
   named_quiet (Sleeping job) named = named
   named_quiet (Provisioning job goal) named = named
   named_quiet (Activating job goal) named = named
+  named_quiet (Confirming job) named = named
   named_quiet (Watching job) named = named
 
   named_paused : (moment : ℕ) (job : Job) → IsNamed story job → IsNamed (make op reply wanted now (outcome.Paused moment) ∷ story) job
@@ -243,6 +251,7 @@ module _ (story : Story) (op : Op) (reply : Reply) (wanted : Wanted) (now : ℕ)
   named_paused moment (Sleeping job) named = named
   named_paused moment (Provisioning job goal) named = named
   named_paused moment (Activating job goal) named = named
+  named_paused moment (Confirming job) named = named
   named_paused moment (Watching job) named = named
 
   going_named : (pause : Option ℕ) (job : Job) → IsNamed story job → NamesNext (going pause job)
@@ -326,7 +335,8 @@ module _ (story : Story) (op : Op) (reply : Reply) (wanted : Wanted) (now : ℕ)
   follows_names (Waking job) answers asks of named = tt
   follows_names (Sleeping job) answers asks of named = tt
   follows_names (Provisioning job goal) answers asks of named = (refl, since_map (GivesProvisioning goal) (GivesActivation goal) (provisioned_activates goal) story named.1)
-  follows_names (Activating job goal) answers asks of named = inr (since_map (GivesActivation goal) (GivesGoal goal) (activation_goal goal) story named.1)
+  follows_names (Activating job goal) answers asks of named = since_map (GivesActivation goal) (GivesGoal goal) (activation_goal goal) story named.1
+  follows_names (Confirming job) answers asks of named = inr (goal_kept (λ goal. RestsIn story goal) job reply named)
   follows_names (Watching job) answers asks of named = goal_kept (λ goal. RestsIn story goal) job reply named
 
   pub turn_names : (job : Job) (turn : Turn) → Answers op reply → asked job ≡ Some op → IsFounded (steps_of story) job → IsNamed story job → IsAnyTurn wishes job reply turn → NamesNext turn

@@ -23,7 +23,7 @@ use Rattle.port_manager.specs.declared.port.Stage.{Stage}
 use Rattle.port_manager.specs.declared.port.Stage.TheVariants as stages
 use Rattle.port_manager.specs.Turns.{Turn}
 use Rattle.port_manager.specs.Turns as turns
-use Rattle.port_manager.specs.Jobs.{IsReplyTo, activating, asked, paged_halves, paged_tasks, procedure_after, provisioning, reading}
+use Rattle.port_manager.specs.Jobs.{IsReplyTo, activating, asked, confirming, paged_halves, paged_look, paged_tasks, procedure_after, provisioning, reading}
 use Rattle.port_manager.specs.Ports.{IsAwaitedBy, IsRestartedIn, IsTakenBy, IsTurnedIn, answered, asked_in, awaited, noting, outcome_of, plugged, turned}
 use Rattle.port_manager.specs.Progress.{IsGoing, IsGoingOn, IsUpStage, made_in, paused_in, pauses_by}
 use Rattle.port_manager.specs.Requests.{granted}
@@ -31,7 +31,7 @@ use Rattle.port_manager.specs.Runs.{Runs}
 use Rattle.port_manager.specs.Stories.{Story, ask, drop, make, plug, pull, reconsider, acknowledge, hold, demand, hear}
 use Rattle.port_manager.specs.Standing.{IsWatching}
 use Rattle.port_manager.specs.Turns.{decided, going}
-use Rattle.port_manager.proofs.LeftLaws.{halves_counted, left_of_half, left_of_halves, left_of_tasks, left_of_waking, near_waking, some_waking, tasks_counted}
+use Rattle.port_manager.proofs.LeftLaws.{halves_counted, left_of_half, left_of_halves, left_of_look, left_of_tasks, left_of_waking, look_counted, near_waking, some_waking, tasks_counted}
 use Rattle.port_manager.proofs.PageProgress.{gained, left_of, near_patient, some_patient}
 use Rattle.port_manager.proofs.TurnCases.{Follows, IsAnyTurn, later, pause_of, turn_all}
 use Rattle.port_manager.proofs.TurnLaws.{IfOn, on_going}
@@ -39,16 +39,17 @@ use Rattle.port_manager.proofs.TurnLaws.{IfOn, on_going}
 -- ---- what is left until the module is up
 
 abbrev pub after_reading : Bool → ℕ
-after_reading true = 32
-after_reading false = 48
+after_reading true = 36
+after_reading false = 52
 
--- provisioning has eight tasks, and activation four; a module that isn't ready is woken up, and read again
+-- provisioning has eight tasks, activation four, and a look two halves; a module that isn't ready is woken up, and read again
 abbrev pub left : Job → ℕ
 left (jobs.Reading job woken) = left_of paged_halves left_of_halves halves_counted job + after_reading woken
-left (jobs.Waking job) = left_of_waking job + 45
+left (jobs.Waking job) = left_of_waking job + 49
 left (jobs.Sleeping job) = left_of_waking job
-left (jobs.Provisioning job goal) = left_of paged_tasks left_of_tasks tasks_counted job + 10
-left (jobs.Activating job goal) = left_of paged_tasks left_of_tasks tasks_counted job
+left (jobs.Provisioning job goal) = left_of paged_tasks left_of_tasks tasks_counted job + 14
+left (jobs.Activating job goal) = left_of paged_tasks left_of_tasks tasks_counted job + 4
+left (jobs.Confirming job) = left_of paged_look left_of_look look_counted job
 left (jobs.Watching job) = 0
 
 pub begun_reading : (woken : Bool) → left (reading woken) ≡ 13 + after_reading woken
@@ -79,7 +80,10 @@ later_nearer (jobs.Provisioning job goal) op next reply not asks answers goes =
     going_nearer (left (jobs.Provisioning job goal)) (pause_of (jobs.Provisioning job goal) reply) (later (jobs.Provisioning job goal) reply) (λ none. omega (arith, near.0 none)) (omega (arith, near.1))
 later_nearer (jobs.Activating job goal) op next reply not asks answers goes =
     let near = near_patient paged_tasks left_of_tasks tasks_counted job op next reply asks answers goes in
-    going_nearer (left (jobs.Activating job goal)) (pause_of (jobs.Activating job goal) reply) (later (jobs.Activating job goal) reply) near.0 near.1
+    going_nearer (left (jobs.Activating job goal)) (pause_of (jobs.Activating job goal) reply) (later (jobs.Activating job goal) reply) (λ none. omega (arith, near.0 none)) (omega (arith, near.1))
+later_nearer (jobs.Confirming job) op next reply not asks answers goes =
+    let near = near_patient paged_look left_of_look look_counted job op next reply asks answers goes in
+    going_nearer (left (jobs.Confirming job)) (pause_of (jobs.Confirming job) reply) (later (jobs.Confirming job) reply) near.0 near.1
 later_nearer (jobs.Watching job) op next reply not asks answers goes = absurd (not tt)
 
 -- what follows a job is less than the job had left
@@ -87,7 +91,7 @@ wakes_nearer : (before : ℕ) (patience : Patience) (woken : Bool) → 1 + after
 wakes_nearer before patience true few = tt
 wakes_nearer before patience false few = omega (arith, few)
 
-most_reading : (woken : Bool) → 32 ≤ after_reading woken
+most_reading : (woken : Bool) → 36 ≤ after_reading woken
 most_reading true = omega arith
 most_reading false = omega arith
 
@@ -96,8 +100,8 @@ decided_nearer before woken patience (Leave reason) few = tt
 decided_nearer before woken patience Wake few = wakes_nearer before patience woken few
 decided_nearer before woken patience Sleep few = omega (arith, few, most_reading woken)
 decided_nearer before woken patience (Hold goal) few = omega (arith, few)
-decided_nearer before woken patience (Activate goal) few = let is : left (activating goal patience) ≡ 10 = refl in omega (arith, is, few, most_reading woken)
-decided_nearer before woken patience (Provision goal) few = let is : left (provisioning goal patience) ≡ 32 = refl in omega (arith, is, few, most_reading woken)
+decided_nearer before woken patience (Activate goal) few = let is : left (activating goal patience) ≡ 14 = refl in omega (arith, is, few, most_reading woken)
+decided_nearer before woken patience (Provision goal) few = let is : left (provisioning goal patience) ≡ 36 = refl in omega (arith, is, few, most_reading woken)
 
 follows_nearer : (wanted : Wanted) (job : Job) (op : Op) (reply : Reply) → ¬ (IsWatching job) → asked job ≡ Some op → Follows (IsNearer (left job)) wanted job reply
 follows_nearer wanted (jobs.Reading job woken) op reply not asks =
@@ -106,8 +110,10 @@ follows_nearer wanted (jobs.Reading job woken) op reply not asks =
 follows_nearer wanted (jobs.Waking job) op reply not asks = omega (arith, begun_reading true, some_waking job op asks)
 follows_nearer wanted (jobs.Sleeping job) op reply not asks = tt
 follows_nearer wanted (jobs.Provisioning job goal) op reply not asks =
-    let is : left (activating goal (procedure_after job reply).conversation.patience) ≡ 10 = refl in omega (arith, is, some_patient paged_tasks left_of_tasks tasks_counted job op asks)
-follows_nearer wanted (jobs.Activating job goal) op reply not asks = omega (arith, some_patient paged_tasks left_of_tasks tasks_counted job op asks)
+    let is : left (activating goal (procedure_after job reply).conversation.patience) ≡ 14 = refl in omega (arith, is, some_patient paged_tasks left_of_tasks tasks_counted job op asks)
+follows_nearer wanted (jobs.Activating job goal) op reply not asks =
+    let is : left (confirming goal (procedure_after job reply).conversation.patience) ≡ 4 = refl in omega (arith, is, some_patient paged_tasks left_of_tasks tasks_counted job op asks)
+follows_nearer wanted (jobs.Confirming job) op reply not asks = omega (arith, some_patient paged_look left_of_look look_counted job op asks)
 follows_nearer wanted (jobs.Watching job) op reply not asks = absurd (not tt)
 
 pub turn_nearer : (wanted : Wanted) (op : Op) (reply : Reply) (job : Job) (turn : Turn) → ¬ (IsWatching job) → asked job ≡ Some op → Answers op reply → IsAnyTurn wanted job reply turn → IsNearer (left job) turn
@@ -122,6 +128,7 @@ turn_up wanted reply (jobs.Waking job) turn up is = absurd up
 turn_up wanted reply (jobs.Sleeping job) turn up is = absurd up
 turn_up wanted reply (jobs.Provisioning job goal) turn up is = absurd up
 turn_up wanted reply (jobs.Activating job goal) turn up is = absurd up
+turn_up wanted reply (jobs.Confirming job) turn up is = absurd up
 turn_up wanted reply (jobs.Watching job) turn up is =
     turn_all (λ turn. IfOn turn IsWatching) (λ why. tt) wanted (jobs.Watching job) reply turn (λ next e. on_going IsWatching (pause_of (jobs.Watching job) reply) (later (jobs.Watching job) reply) tt) tt is
 
@@ -210,21 +217,22 @@ is_up_or_not (stages.Working (jobs.Waking job)) = inr (λ up. up)
 is_up_or_not (stages.Working (jobs.Sleeping job)) = inr (λ up. up)
 is_up_or_not (stages.Working (jobs.Provisioning job goal)) = inr (λ up. up)
 is_up_or_not (stages.Working (jobs.Activating job goal)) = inr (λ up. up)
+is_up_or_not (stages.Working (jobs.Confirming job)) = inr (λ up. up)
 is_up_or_not (stages.Working (jobs.Watching job)) = inl tt
 
-pub plugged_left : (port : Port) (now : ℕ) → left_in (plugged now port).stage ≡ 61
+pub plugged_left : (port : Port) (now : ℕ) → left_in (plugged now port).stage ≡ 65
 plugged_left port now = begun_reading false
 
-begun_left : (woken : Bool) → left (reading woken) ≤ 61
+begun_left : (woken : Bool) → left (reading woken) ≤ 65
 begun_left true = omega (arith, begun_reading true)
 begun_left false = omega (arith, begun_reading false)
 
-pub comes_up_anew : (port after : Port) (woken : Bool) (story : Story) → port.stage ≡ stages.Working (reading woken) → Runs port story after → IsGoingOn story → 61 + 3 * paused_in story < made_in story → IsUpStage after.stage
+pub comes_up_anew : (port after : Port) (woken : Bool) (story : Story) → port.stage ≡ stages.Working (reading woken) → Runs port story after → IsGoingOn story → 65 + 3 * paused_in story < made_in story → IsUpStage after.stage
 comes_up_anew port after woken story begins ran goes many =
     elim (is_up_or_not after.stage) as (λ _. IsUpStage after.stage) [
       | inl up ↦ up
       | inr not ↦ absurd (omega (arith, runs_nearer port after story ran goes not, ap left_in begins, begun_left woken, many))
     ]
 
-pub comes_up : (port after : Port) (now : ℕ) (story : Story) → Runs (plugged now port) story after → IsGoingOn story → 61 + 3 * paused_in story < made_in story → IsUpStage after.stage
+pub comes_up : (port after : Port) (now : ℕ) (story : Story) → Runs (plugged now port) story after → IsGoingOn story → 65 + 3 * paused_in story < made_in story → IsUpStage after.stage
 comes_up port after now story ran goes many = comes_up_anew (plugged now port) after false story refl ran goes many

@@ -41,6 +41,8 @@ use Rattle.port_manager.specs.declared.port.Port.{Port}
 use Rattle.port_manager.specs.declared.port.Stage.{Stage}
 use Rattle.port_manager.specs.declared.port.Stage.TheVariants as stages
 use Rattle.port_manager.specs.declared.times.Times.{Times}
+use Rattle.port_manager.specs.declared.turn.Note.{Note}
+use Rattle.port_manager.specs.declared.turn.Note.TheVariants as notes
 use Rattle.port_manager.specs.declared.turn.PortFault.{PortFault}
 use Rattle.port_manager.specs.declared.turn.PortFault.TheVariants as faults
 use Rattle.port_manager.specs.declared.turn.ProcedureFault.{ProcedureFault}
@@ -76,6 +78,7 @@ IsTold told (jobs.Waking job) = IfStored job.conversation.conversation.stage tol
 IsTold told (jobs.Sleeping job) = Unit {0}
 IsTold told (jobs.Provisioning job goal) = Unit {0}
 IsTold told (jobs.Activating job goal) = Unit {0}
+IsTold told (jobs.Confirming job) = Unit {0}
 IsTold told (jobs.Watching job) = Unit {0}
 
 abbrev IsWaking : Job → Type 0
@@ -84,6 +87,7 @@ IsWaking (jobs.Waking job) = Unit {0}
 IsWaking (jobs.Sleeping job) = ⊥
 IsWaking (jobs.Provisioning job goal) = ⊥
 IsWaking (jobs.Activating job goal) = ⊥
+IsWaking (jobs.Confirming job) = ⊥
 IsWaking (jobs.Watching job) = ⊥
 
 -- a fault of a module that isn't ready says that it was told; one that it could not be told says what the job was
@@ -254,11 +258,11 @@ module _ (before told : Type 0) (op : Op) (reply : Reply) (more : before → tol
   activated_told goal patience None = tt
   activated_told goal patience (Some because) = tt
 
-  seen_told : (goal : Goal) (patience : Patience) (end : Option (Timed Bool)) → TurnTells told ⊥ (seen goal patience end)
-  seen_told goal patience None = tt
-  seen_told goal patience (Some Overdue) = tt
-  seen_told goal patience (Some (InTime true)) = tt
-  seen_told goal patience (Some (InTime false)) = tt
+  seen_told : (goal : Goal) (patience : Patience) (noted : Note) (end : Option (Timed Bool)) → TurnTells told ⊥ (seen goal patience noted end)
+  seen_told goal patience noted None = tt
+  seen_told goal patience noted (Some Overdue) = tt
+  seen_told goal patience noted (Some (InTime true)) = tt
+  seen_told goal patience noted (Some (InTime false)) = tt
 
   taken_told : (story : Story) (wanted : Wanted) (job : Job) (turn : Turn) → asked job ≡ Some op → IsNamed story job → IsTold before job → IsTurnOf wanted job reply turn → TurnTells told (IsWaking job) turn
   taken_told story wanted (jobs.Reading job woken) turn asks named was leads =
@@ -283,11 +287,16 @@ module _ (before told : Type 0) (op : Op) (reply : Reply) (more : before → tol
       let after = procedure_after job reply in
       goes_or_ends ⊥ (procedure_wants after) (pause_of (jobs.Activating job goal) reply) (jobs.Activating after goal) (λ end turn. turn ≡ activated goal after.conversation.patience (fault_in end)) turn tt
       (λ spent e ended. subst (TurnTells told ⊥) (sym ended) (activated_told goal after.conversation.patience (fault_in spent.end))) leads
+  taken_told story wanted (jobs.Confirming job) turn asks named was leads =
+      let after = look_after job reply in
+      let goal = after.conversation.conversation.conversation.goal in
+      goes_or_ends ⊥ (look_wants after) (pause_of (jobs.Confirming job) reply) (jobs.Confirming after) (λ end turn. turn ≡ seen goal after.conversation.patience notes.CameUp end) turn tt
+      (λ spent e ended. subst (TurnTells told ⊥) (sym ended) (seen_told goal after.conversation.patience notes.CameUp spent.end)) leads
   taken_told story wanted (jobs.Watching job) turn asks named was leads =
       let after = look_after job reply in
       let goal = after.conversation.conversation.conversation.goal in
-      goes_or_ends ⊥ (look_wants after) (pause_of (jobs.Watching job) reply) (jobs.Watching after) (λ end turn. turn ≡ seen goal after.conversation.patience end) turn tt
-      (λ spent e ended. subst (TurnTells told ⊥) (sym ended) (seen_told goal after.conversation.patience spent.end)) leads
+      goes_or_ends ⊥ (look_wants after) (pause_of (jobs.Watching job) reply) (jobs.Watching after) (λ end turn. turn ≡ seen goal after.conversation.patience notes.Held end) turn tt
+      (λ spent e ended. subst (TurnTells told ⊥) (sym ended) (seen_told goal after.conversation.patience notes.Held spent.end)) leads
 
   unless_told : (refused : Bool) (story : Story) (wanted : Wanted) (job : Job) (turn : Turn) → asked job ≡ Some op → IsNamed story job → IsTold before job → UnlessApplyRefused refused (IsTurnOf wanted job reply) turn
       → TurnTells told (IsWaking job) turn
@@ -393,6 +402,7 @@ untamed (jobs.Waking job) wakes tame = tame
 untamed (jobs.Sleeping job) wakes tame = absurd wakes
 untamed (jobs.Provisioning job goal) wakes tame = absurd wakes
 untamed (jobs.Activating job goal) wakes tame = absurd wakes
+untamed (jobs.Confirming job) wakes tame = absurd wakes
 untamed (jobs.Watching job) wakes tame = absurd wakes
 
 module _ (story : Story) (port : Port) (op : Op) (reply : Reply) (wanted : Wanted) (now moment : ℕ) (at : IsAt story port) (told : IsToldIn story port) where

@@ -30,7 +30,7 @@ use Rattle.port_manager.specs.declared.deciding.Goal.{Goal}
 use Rattle.port_manager.specs.declared.job.Beginning.{Beginning}
 use Rattle.port_manager.specs.declared.job.Beginning.TheVariants as beginning
 use Rattle.port_manager.specs.declared.job.Job.{Job}
-use Rattle.port_manager.specs.declared.job.Job.TheVariants.{Reading, Waking, Sleeping, Provisioning, Activating, Watching}
+use Rattle.port_manager.specs.declared.job.Job.TheVariants.{Reading, Waking, Sleeping, Provisioning, Activating, Confirming, Watching}
 use Rattle.port_manager.specs.declared.look.Look.{Look}
 use Rattle.port_manager.specs.Looks as looks
 use Rattle.port_manager.specs.Patients.{Paged, Patient, advanced, after_on, wants_of, wants_on}
@@ -101,8 +101,14 @@ provisioning goal patience = Provisioning (procedure_for (provisioning_of goal) 
 abbrev pub activating : Goal → Patience → Job
 activating goal patience = Activating (procedure_for (activation_of goal) patience) goal
 
+abbrev pub looking : Goal → Patience → Patient (OnPage Look)
+looking goal patience = begun_with (doubting (looks.begun goal)) patience
+
+abbrev pub confirming : Goal → Patience → Job
+confirming goal patience = Confirming (looking goal patience)
+
 abbrev pub watching : Goal → Patience → Job
-watching goal patience = Watching (begun_with (doubting (looks.begun goal)) patience)
+watching goal patience = Watching (looking goal patience)
 
 abbrev pub begun_by : Beginning → Job
 begun_by (beginning.Reading woken) = reading woken
@@ -110,6 +116,7 @@ begun_by (beginning.Waking patience) = waking patience
 begun_by (beginning.Sleeping patience) = sleeping patience
 begun_by (beginning.Provisioning goal patience) = provisioning goal patience
 begun_by (beginning.Activating goal patience) = activating goal patience
+begun_by (beginning.Confirming goal patience) = confirming goal patience
 begun_by (beginning.Watching goal patience) = watching goal patience
 
 -- ---- what each wants, and what a reply makes of it
@@ -145,6 +152,7 @@ asked (Waking change) = op_of (waking_wants change)
 asked (Sleeping change) = op_of (waking_wants change)
 asked (Provisioning procedure goal) = op_of (procedure_wants procedure)
 asked (Activating procedure goal) = op_of (procedure_wants procedure)
+asked (Confirming look) = op_of (look_wants look)
 asked (Watching look) = op_of (look_wants look)
 
 -- the reply is one that the operation can have

@@ -20,6 +20,7 @@ pub mod Runs
 pub mod Stores
 pub mod ReadAnew
 pub mod Wakings
+pub mod CameUp
 pub mod Idle
 pub mod KeptFlags
 pub mod Progress

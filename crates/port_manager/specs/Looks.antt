@@ -1,4 +1,4 @@
--- A look at a module that is as it is wanted: its lower memory, and page 11h. (OIF-CMIS-05.0, chapter 8 "Module Management Memory
+-- A look at a module that came up, or is as it is wanted: its lower memory, and page 11h. (OIF-CMIS-05.0, chapter 8 "Module Management Memory
 -- Map": module state of the lower memory; page 11h)
 use Rattle.std.specs.Prelude.{◌≡◌, ◌==◌, ◌&&◌, ℕ, Bool, false, List, [], ◌∷◌, slice_index, Option, Some, None, if◌then◌else◌}
 use Rattle.bus_model.specs.declared.device.Dev.TheVariants.{A0}

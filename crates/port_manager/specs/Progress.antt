@@ -80,14 +80,14 @@ paused_in (drop ∷ before) = paused_in before
 -- once so many operations were made since the plug, the module is up
 abbrev pub ComesUp : Type 0
 ComesUp =
-    (port later : Port) (now : ℕ) (story : Story) → Runs (plugged now port) story later → IsGoingOn story → 61 + 3 * paused_in story < made_in story
+    (port later : Port) (now : ℕ) (story : Story) → Runs (plugged now port) story later → IsGoingOn story → 65 + 3 * paused_in story < made_in story
     → IsUpStage later.stage
 
 -- once so many were made since the module began to be read anew, as after each failure, it is up too
 abbrev pub ComesUpAnew : Type 0
 ComesUpAnew =
     (port later : Port) (woken : Bool) (story : Story) → port.stage ≡ stages.Working (reading woken) → Runs port story later → IsGoingOn story
-    → 61 + 3 * paused_in story < made_in story → IsUpStage later.stage
+    → 65 + 3 * paused_in story < made_in story → IsUpStage later.stage
 
 -- a port that works, and isn't to hold still, asks for an operation once it may
 abbrev pub NeverStops : Type 0

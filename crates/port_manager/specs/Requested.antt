@@ -14,4 +14,4 @@ use Rattle.port_manager.specs.Stories.{Story}
 abbrev pub IsRequestDone : Type 0
 IsRequestDone =
     (port later : Port) (request : Request) (story : Story) → is_there port.stage ≡ true → port.outstanding ≡ outstanding.Nothing → Runs (asked_for request port) story later → IsGoingOn story
-    → 61 + 3 * paused_in story < made_in story → IsUpStage later.stage × (is_sleep request ≡ false)
+    → 65 + 3 * paused_in story < made_in story → IsUpStage later.stage × (is_sleep request ≡ false)

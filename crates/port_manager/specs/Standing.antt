@@ -6,7 +6,7 @@ use Rattle.control_sets.specs.declared.procedures.power.Power.TheVariants.{Awake
 use Rattle.paged_memory.specs.PageAddressing.{History}
 use Rattle.module_reading.specs.declared.halves.Halves.{Halves}
 use Rattle.port_manager.specs.declared.job.Job.{Job}
-use Rattle.port_manager.specs.declared.job.Job.TheVariants.{Reading, Waking, Sleeping, Provisioning, Activating, Watching}
+use Rattle.port_manager.specs.declared.job.Job.TheVariants.{Reading, Waking, Sleeping, Provisioning, Activating, Confirming, Watching}
 use Rattle.port_manager.specs.declared.port.Outstanding.{Outstanding}
 use Rattle.port_manager.specs.declared.port.Outstanding.TheVariants as outstanding
 use Rattle.port_manager.specs.declared.port.Port.{Port}
@@ -23,6 +23,7 @@ IsNamed story (Waking job) = (job.conversation.conversation.power ≡ Awake) × 
 IsNamed story (Sleeping job) = (job.conversation.conversation.power ≡ Asleep) × SleepsIn story
 IsNamed story (Provisioning job goal) = (job.conversation.conversation.conversation.work ≡ provisioning_of goal) × SinceRead (GivesProvisioning goal) story
 IsNamed story (Activating job goal) = (job.conversation.conversation.conversation.work ≡ activation_of goal) × SinceRead (GivesActivation goal) story
+IsNamed story (Confirming job) = RestsIn story job.conversation.conversation.conversation.goal
 IsNamed story (Watching job) = RestsIn story job.conversation.conversation.conversation.goal
 
 -- unless it is dropped with the next reply
@@ -47,6 +48,7 @@ IsFounded history (Waking job) = Unit {0}
 IsFounded history (Sleeping job) = Unit {0}
 IsFounded history (Provisioning job goal) = Unit {0}
 IsFounded history (Activating job goal) = Unit {0}
+IsFounded history (Confirming job) = Unit {0}
 IsFounded history (Watching job) = Unit {0}
 
 -- it doesn't wake a module up, now or after a reading
@@ -56,14 +58,17 @@ IsTame (Waking job) = ⊥
 IsTame (Sleeping job) = Unit {0}
 IsTame (Provisioning job goal) = Unit {0}
 IsTame (Activating job goal) = Unit {0}
+IsTame (Confirming job) = Unit {0}
 IsTame (Watching job) = Unit {0}
 
+-- it looks at a module that was found as wanted before
 abbrev pub IsWatching : Job → Type 0
 IsWatching (Reading job woken) = ⊥
 IsWatching (Waking job) = ⊥
 IsWatching (Sleeping job) = ⊥
 IsWatching (Provisioning job goal) = ⊥
 IsWatching (Activating job goal) = ⊥
+IsWatching (Confirming job) = ⊥
 IsWatching (Watching job) = Unit {0}
 
 abbrev pub IfTrue : Bool → Type 0 → Type 0

@@ -22,7 +22,7 @@ use Rattle.port_manager.specs.declared.deciding.Goal.{Goal}
 use Rattle.port_manager.specs.declared.deciding.LeftBecause.TheVariants.{Asleep}
 use Rattle.port_manager.specs.declared.deciding.Wanted.{Wanted}
 use Rattle.port_manager.specs.declared.job.Job.{Job}
-use Rattle.port_manager.specs.declared.job.Job.TheVariants.{Reading, Waking, Sleeping, Provisioning, Activating, Watching}
+use Rattle.port_manager.specs.declared.job.Job.TheVariants.{Reading, Waking, Sleeping, Provisioning, Activating, Confirming, Watching}
 use Rattle.port_manager.specs.declared.look.Look.{Look}
 use Rattle.module_reading.specs.declared.halves.Halves.{Halves}
 use Rattle.port_manager.specs.declared.deciding.LeftBecause.{LeftBecause}
@@ -36,7 +36,7 @@ use Rattle.port_manager.specs.declared.turn.ProcedureFault.{ProcedureFault}
 use Rattle.port_manager.specs.declared.turn.ProcedureFault.TheVariants as why
 use Rattle.port_manager.specs.Decisions.{IsDecision}
 use Rattle.port_manager.specs.RefusedApplies.{is_refused_apply}
-use Rattle.port_manager.specs.Jobs.{activating, asked, begun_by, paged_halves, paged_look, look_after, look_wants, procedure_after, procedure_wants, provisioning, sleeping, reading, reading_after, reading_wants, paged_tasks, waking, waking_after, waking_wants, watching}
+use Rattle.port_manager.specs.Jobs.{activating, asked, begun_by, confirming, paged_halves, paged_look, look_after, look_wants, procedure_after, procedure_wants, provisioning, sleeping, reading, reading_after, reading_wants, paged_tasks, waking, waking_after, waking_wants, watching}
 use Rattle.port_manager.specs.Patients.{Patient, after_on, pause_after, wants_on}
 
 pub data Turn : Type 0 where
@@ -116,15 +116,17 @@ abbrev pub provisioned : Goal → Patience → Option ProcedureFault → Turn
 provisioned goal patience None = On (activating goal patience) note.Provisioned
 provisioned goal patience (Some because) = Failed (fault.Provisioning because)
 
+-- the module is looked at before it is said that it came up
 abbrev pub activated : Goal → Patience → Option ProcedureFault → Turn
-activated goal patience None = On (watching goal patience) note.CameUp
+activated goal patience None = On (confirming goal patience) note.Quiet
 activated goal patience (Some because) = Failed (fault.Activating because)
 
-abbrev pub seen : Goal → Patience → Option (Timed Bool) → Turn
-seen goal patience None = Failed fault.Unseen
-seen goal patience (Some Late) = Failed fault.Unseen
-seen goal patience (Some (InTime true)) = On (watching goal patience) note.Held
-seen goal patience (Some (InTime false)) = Failed fault.Changed
+-- this is said of a module that a look has found as wanted
+abbrev pub seen : Goal → Patience → Note → Option (Timed Bool) → Turn
+seen goal patience noted None = Failed fault.Unseen
+seen goal patience noted (Some Late) = Failed fault.Unseen
+seen goal patience noted (Some (InTime true)) = On (watching goal patience) noted
+seen goal patience noted (Some (InTime false)) = Failed fault.Changed
 
 -- ---- each job
 
@@ -156,11 +158,17 @@ IsActivatingTurn job goal reply turn =
     GoesTo (procedure_wants later) (pause_after (wants_on paged_tasks) (after_on paged_tasks) job reply) (Activating later goal)
     (λ end turn. turn ≡ activated goal later.conversation.patience (fault_in end)) turn
 
+abbrev pub IsConfirmingTurn : Patient (OnPage Look) → Reply → Turn → Type 0
+IsConfirmingTurn job reply turn =
+    let later = look_after job reply in
+    GoesTo (look_wants later) (pause_after (wants_on paged_look) (after_on paged_look) job reply) (Confirming later)
+    (λ end turn. turn ≡ seen later.conversation.conversation.conversation.goal later.conversation.patience note.CameUp end) turn
+
 abbrev pub IsWatchingTurn : Patient (OnPage Look) → Reply → Turn → Type 0
 IsWatchingTurn job reply turn =
     let later = look_after job reply in
     GoesTo (look_wants later) (pause_after (wants_on paged_look) (after_on paged_look) job reply) (Watching later)
-    (λ end turn. turn ≡ seen later.conversation.conversation.conversation.goal later.conversation.patience end) turn
+    (λ end turn. turn ≡ seen later.conversation.conversation.conversation.goal later.conversation.patience note.Held end) turn
 
 -- the job takes the reply
 abbrev pub IsTurnOf : Wanted → Job → Reply → Turn → Type 0
@@ -169,6 +177,7 @@ IsTurnOf wanted (Waking job) reply turn = IsWakingTurn job reply turn
 IsTurnOf wanted (Sleeping job) reply turn = IsSleepingTurn job reply turn
 IsTurnOf wanted (Provisioning job goal) reply turn = IsProvisioningTurn job goal reply turn
 IsTurnOf wanted (Activating job goal) reply turn = IsActivatingTurn job goal reply turn
+IsTurnOf wanted (Confirming job) reply turn = IsConfirmingTurn job reply turn
 IsTurnOf wanted (Watching job) reply turn = IsWatchingTurn job reply turn
 
 -- unless the reply refuses an apply, and none was refused before: the module may have taken it, so it is read anew

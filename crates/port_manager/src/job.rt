@@ -1,4 +1,4 @@
-// What works at a module: one of six conversations, of which each may be the next one's reason.
+// What works at a module: one of seven conversations, of which each may be the next one's reason.
 ghost use Rattle.std.specs.Prelude.{◌≡◌, Option, Some, IfSome};
 ghost use Rattle.bus_model.specs.Operations.{IsWellShaped};
 ghost use Rattle.conversations.specs.Wanted.{IfDo, op_of};
@@ -34,6 +34,8 @@ pub enum Job {
     Provisioning(PatientProcedure, Goal),
     /// The plan's lanes come up.
     Activating(PatientProcedure, Goal),
+    /// The plan's lanes came up, and the module is looked at: they may be those of another plan, if it was reset meanwhile.
+    Confirming(WatchingJob),
     /// The module is looked at, and has its goal up.
     Watching(WatchingJob),
 }
@@ -47,6 +49,7 @@ pub enum Beginning {
     Sleeping(Patience),
     Provisioning(Goal, Patience),
     Activating(Goal, Patience),
+    Confirming(Goal, Patience),
     Watching(Goal, Patience),
 }
 
@@ -61,6 +64,7 @@ impl Beginning {
             Beginning::Sleeping(patience) => Job::sleeping(patience),
             Beginning::Provisioning(goal, patience) => Job::provisioning(goal, patience),
             Beginning::Activating(goal, patience) => Job::activating(goal, patience),
+            Beginning::Confirming(goal, patience) => Job::confirming(goal, patience),
             Beginning::Watching(goal, patience) => Job::watching(goal, patience),
         }
     }
@@ -117,11 +121,16 @@ impl Job {
         Job::Activating(TaskList::patient(work, patience), goal)
     }
 
+    pub fn confirming(goal: Goal, patience: Patience) -> Job
+        ensures { result ≡ spec.confirming goal patience }
+    {
+        Job::Confirming(looking(goal, patience))
+    }
+
     pub fn watching(goal: Goal, patience: Patience) -> Job
         ensures { result ≡ spec.watching goal patience }
     {
-        let pausing = Pausing::new(doubting(Look::at(goal)), patience);
-        Job::Watching(Within::new(pausing, MAX_STEPS))
+        Job::Watching(looking(goal, patience))
     }
 
     /// The operation to be made now.
@@ -135,9 +144,15 @@ impl Job {
             Job::Provisioning(procedure, _) | Job::Activating(procedure, _) => {
                 op_of(procedure.next())
             },
-            Job::Watching(look) => op_of(look.next()),
+            Job::Confirming(look) | Job::Watching(look) => op_of(look.next()),
         }
     }
+}
+
+fn looking(goal: Goal, patience: Patience) -> WatchingJob
+    ensures { result ≡ spec.looking goal patience }
+{
+    Within::new(Pausing::new(doubting(Look::at(goal)), patience), MAX_STEPS)
 }
 
 // The page selection is unknown, and doubted after each refusal.

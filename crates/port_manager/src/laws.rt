@@ -14,6 +14,7 @@ ghost use Rattle.port_manager.specs.declared.deciding.Decision.{Decision};
 ghost use Rattle.port_manager.specs.declared.deciding.Goal.{Goal};
 ghost use Rattle.port_manager.specs.declared.deciding.Wanted.{Wanted};
 ghost use Rattle.port_manager.specs.declared.port.Port.{Port};
+ghost use Rattle.port_manager.specs.CameUp.{CameUpAsWanted};
 ghost use Rattle.port_manager.specs.Changes.{IsStoreOfChange, first_hindrance};
 ghost use Rattle.port_manager.specs.Decisions.{IsDecision};
 ghost use Rattle.port_manager.specs.Goals.{IsGoalBy, is_deactivated, kept_of, wanted_of};
@@ -69,6 +70,12 @@ pub fn a_module_is_not_given_up_unasked()
     ensures again { MayBeToldAgain }
 {}
 
+/// After any story, each time that the port said that its module came up, page 11h as it had just fetched it, by a look or as the last of a
+/// reading, had the control bytes of the last reading's goal as active, and its lanes as up.
+pub fn a_module_that_came_up_is_as_wanted()
+    ensures { (story : Story) (port : Port) → Reaches story port → CameUpAsWanted story }
+{}
+
 /// What the calls of a port give, one after the other, is a story of which all that is said of stories holds: one operation at a
 /// time, none before the moment that the pause after an operation in vain, or a failure, leads to, and flags as they were read and
 /// acknowledged.
@@ -77,7 +84,7 @@ pub fn stories_are_lawful()
 {}
 
 /// After a module was plugged, or began to be read anew, as after each failure, unless something fails, it is left alone, pulled or
-/// wanted otherwise: once more operations were made than 61, and 3 for each that was followed by a pause, it is up as it is wanted.
+/// wanted otherwise: once more operations were made than 65, and 3 for each that was followed by a pause, it is up as it is wanted.
 pub fn a_module_comes_up()
     ensures plugged { ComesUp }
     ensures anew { ComesUpAnew }
@@ -121,7 +128,7 @@ pub fn a_silent_module_is_pulled()
 {}
 
 /// After somebody asked something of a port with a module and nothing outstanding, unless something fails, it is left alone, pulled or
-/// wanted otherwise: once more operations were made than 61, and 3 for each that was followed by a pause, it is up as it is wanted.
+/// wanted otherwise: once more operations were made than 65, and 3 for each that was followed by a pause, it is up as it is wanted.
 /// If it was to be in low power, it is left alone before that.
 pub fn what_is_asked_is_done()
     ensures { IsRequestDone }

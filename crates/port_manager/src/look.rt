@@ -1,5 +1,5 @@
-// A look at a module that is as it is wanted: its lower memory, and page 11h, which is selected anew since somebody else or a reset
-// may have changed that.
+// A look at a module that came up, or is as it is wanted: its lower memory, and page 11h, which is selected anew since somebody else
+// or a reset may have changed that.
 ghost use Rattle.std.specs.Prelude.{◌≡◌, length};
 ghost use Rattle.conversations.specs.Wanted.{IsReplyTo};
 ghost use Rattle.port_manager.specs.Looks as spec;

@@ -29,9 +29,9 @@ pub enum Note {
     Woken,
     /// The control bytes are active.
     Provisioned,
-    /// The lanes are up.
+    /// The module was read or looked at, and is as wanted: it is ready, and the lanes are up with their control bytes.
     CameUp,
-    /// The module was looked at, and is as wanted.
+    /// The module was looked at again, and is as wanted still.
     Held,
 }
 
@@ -61,7 +61,7 @@ pub enum PortFault {
     Activating(ProcedureFault),
     /// It could not be looked at.
     Unseen,
-    /// It is no longer as it was wanted.
+    /// It is no longer as it was wanted, or did not come up so.
     Changed,
     /// An apply was refused, which the module may have taken all the same: before it is stored again, the module is read.
     ApplyRefused,
@@ -108,6 +108,7 @@ impl Job {
             Job::Sleeping(change) => sleeping_turn(change, reply),
             Job::Provisioning(procedure, goal) => provisioning_turn(procedure, *goal, reply),
             Job::Activating(procedure, goal) => activating_turn(procedure, *goal, reply),
+            Job::Confirming(look) => confirming_turn(look, reply),
             Job::Watching(look) => watching_turn(look, reply),
         }
     }
@@ -279,12 +280,28 @@ fn activating_turn(procedure: &mut PatientProcedure, goal: Goal, reply: &Reply) 
     }
 }
 
+// The module is looked at before it is said that it came up.
 fn activated(goal: Goal, patience: Patience, fault: Option<ProcedureFault>) -> Course
     ensures { (job : Job) → turn_by job result ≡ activated goal patience fault }
 {
     match fault {
-        None => Course::Next(Beginning::Watching(goal, patience), Note::CameUp),
+        None => Course::Next(Beginning::Confirming(goal, patience), Note::Quiet),
         Some(fault) => Course::Failed(PortFault::Activating(fault)),
+    }
+}
+
+fn confirming_turn(look: &mut WatchingJob, reply: &Reply) -> Course
+    requires { conversations.IsReplyTo (look_wants look.old) reply.now }
+    ensures { spec.IsConfirmingTurn look.old reply.now (turn_by (jobs.Confirming look.new) result) }
+{
+    let pause = advance(look, reply);
+    match look.next() {
+        Next::Do(_op) => going(pause),
+        Next::Wait(_time) => going(pause),
+        Next::End(spent) => {
+            let goal = look.conversation.conversation.conversation.goal;
+            seen(goal, look.conversation.patience, Note::CameUp, spent.end)
+        }
     }
 }
 
@@ -298,16 +315,17 @@ fn watching_turn(look: &mut WatchingJob, reply: &Reply) -> Course
         Next::Wait(_time) => going(pause),
         Next::End(spent) => {
             let goal = look.conversation.conversation.conversation.goal;
-            seen(goal, look.conversation.patience, spent.end)
+            seen(goal, look.conversation.patience, Note::Held, spent.end)
         }
     }
 }
 
-fn seen(goal: Goal, patience: Patience, end: Option<Timed<bool>>) -> Course
-    ensures { (job : Job) → turn_by job result ≡ seen goal patience end }
+// What a look leads to: what is said of a module that it has found as wanted.
+fn seen(goal: Goal, patience: Patience, note: Note, end: Option<Timed<bool>>) -> Course
+    ensures { (job : Job) → turn_by job result ≡ seen goal patience note end }
 {
     match end {
-        Some(Timed::InTime(true)) => Course::Next(Beginning::Watching(goal, patience), Note::Held),
+        Some(Timed::InTime(true)) => Course::Next(Beginning::Watching(goal, patience), note),
         Some(Timed::InTime(false)) => Course::Failed(PortFault::Changed),
         Some(Timed::Overdue) => Course::Failed(PortFault::Unseen),
         None => Course::Failed(PortFault::Unseen),

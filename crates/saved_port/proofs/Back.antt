@@ -18,7 +18,7 @@ use Rattle.control_sets.specs.declared.fault.ProvisionFault.TheVariants.{Bus}
 use Rattle.control_sets.specs.SavedNumbers.{fault_in, restored, saved_fault}
 use Rattle.module_reading.specs.declared.halves.Halves.{Halves}
 use Rattle.port_manager.specs.declared.deciding.Goal.{Goal}
-use Rattle.port_manager.specs.declared.job.Job.TheVariants.{Reading, Waking, Sleeping, Provisioning, Activating, Watching}
+use Rattle.port_manager.specs.declared.job.Job.TheVariants.{Reading, Waking, Sleeping, Provisioning, Activating, Confirming, Watching}
 use Rattle.port_manager.specs.declared.port.Stage.TheVariants.{Working}
 use Rattle.port_manager.specs.declared.look.Look.{Look}
 use Rattle.port_manager.specs.declared.look.LookStage.{LookStage}
@@ -95,10 +95,10 @@ waking_back job =
       limit = job.limit;
     }
 
-pub watching_back : (job : Patient (OnPage Look)) →
+pub looking_back : (job : Patient (OnPage Look)) →
     let work = work_of_look job in
     patient_in work (on_page_in work (record { goal = job.conversation.conversation.conversation.goal; stage = look_stage_in work.stage })) ≡ job
-watching_back job =
+looking_back job =
     let on = job.conversation.conversation in
     λ i. record {
       conversation = record {
@@ -156,7 +156,14 @@ pub watching_stage : (job : Patient (OnPage Look)) (image : Memory) (left : Save
 watching_stage job image left goal work goals is =
     ap (λ (w : SavedWork). stage_in 6 left goal w image) is
     ∙ ap (λ (g : Goal). let w = work_of_look job in Some (Working (Watching (patient_in w (on_page_in w (record { goal = g; stage = look_stage_in w.stage })))))) goals
-    ∙ ap (λ (j : Patient (OnPage Look)). Some (Working (Watching j))) (watching_back job)
+    ∙ ap (λ (j : Patient (OnPage Look)). Some (Working (Watching j))) (looking_back job)
+
+pub confirming_stage : (job : Patient (OnPage Look)) (image : Memory) (left : SavedLeft) (goal : SavedGoal) (work : SavedWork) → goal_in goal ≡ job.conversation.conversation.conversation.goal →
+    work ≡ work_of_look job → stage_in 8 left goal work image ≡ Some (Working (Confirming job))
+confirming_stage job image left goal work goals is =
+    ap (λ (w : SavedWork). stage_in 8 left goal w image) is
+    ∙ ap (λ (g : Goal). let w = work_of_look job in Some (Working (Confirming (patient_in w (on_page_in w (record { goal = g; stage = look_stage_in w.stage })))))) goals
+    ∙ ap (λ (j : Patient (OnPage Look)). Some (Working (Confirming j))) (looking_back job)
 
 -- these are the numbers of the port, but for what is in it
 pub record Stands (saved : SavedPort) (port : Port) : Type 0 where

@@ -6,7 +6,7 @@ use Rattle.port_manager.specs.declared.deciding.Decision.{Decision}
 use Rattle.port_manager.specs.declared.deciding.Decision.TheVariants.{Leave, Wake, Sleep, Hold, Activate, Provision}
 use Rattle.port_manager.specs.declared.deciding.Wanted.{Wanted}
 use Rattle.port_manager.specs.declared.job.Job.{Job}
-use Rattle.port_manager.specs.declared.job.Job.TheVariants.{Reading, Waking, Sleeping, Provisioning, Activating, Watching}
+use Rattle.port_manager.specs.declared.job.Job.TheVariants.{Reading, Waking, Sleeping, Provisioning, Activating, Confirming, Watching}
 use Rattle.port_manager.specs.declared.port.Outcome.{Outcome}
 use Rattle.port_manager.specs.declared.port.Outstanding.{Outstanding}
 use Rattle.port_manager.specs.declared.port.Outstanding.TheVariants as outstanding
@@ -41,6 +41,7 @@ later_known (Waking job) reply tells answers known = tt
 later_known (Sleeping job) reply tells answers known = tt
 later_known (Provisioning job goal) reply tells answers known = procedure_told job reply tells answers known
 later_known (Activating job goal) reply tells answers known = procedure_told job reply tells answers known
+later_known (Confirming job) reply tells answers known = tt
 later_known (Watching job) reply tells answers known = tt
 
 decided_known : (woken : Bool) (patience : Patience) (decision : Decision) → IfOn (decided woken patience decision) IsKnownJob
@@ -58,6 +59,7 @@ follows_known wanted (Waking job) reply = tt
 follows_known wanted (Sleeping job) reply = tt
 follows_known wanted (Provisioning job goal) reply = begun_told (activation_of goal) _
 follows_known wanted (Activating job goal) reply = tt
+follows_known wanted (Confirming job) reply = tt
 follows_known wanted (Watching job) reply = tt
 
 turn_known : (wanted : Wanted) (reply : Reply) (job : Job) (turn : Turn) → TellsSo reply job → IsReplyTo (asked job) reply → IsKnownJob job → IsAnyTurn wanted job reply turn → IfOn turn IsKnownJob
@@ -95,6 +97,7 @@ module _ (before : Stage) (reply : Reply) where
   later_reads (Sleeping job) is = tt
   later_reads (Provisioning job goal) is = tt
   later_reads (Activating job goal) is = tt
+  later_reads (Confirming job) is = tt
   later_reads (Watching job) is = tt
 
   decided_reads : (woken : Bool) (patience : Patience) (decision : Decision) → IfOn (decided woken patience decision) (ReadsOn before reply)
@@ -112,6 +115,7 @@ module _ (before : Stage) (reply : Reply) where
   follows_reads wanted (Sleeping job) = tt
   follows_reads wanted (Provisioning job goal) = tt
   follows_reads wanted (Activating job goal) = tt
+  follows_reads wanted (Confirming job) = tt
   follows_reads wanted (Watching job) = tt
 
   turn_reads : (wanted : Wanted) (job : Job) (turn : Turn) → before ≡ Working job → IsAnyTurn wanted job reply turn → IfOn turn (ReadsOn before reply)

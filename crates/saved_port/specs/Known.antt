@@ -12,7 +12,7 @@ use Rattle.conversations.specs.declared.on_page.OnPage.{OnPage}
 use Rattle.paged_memory.specs.Images.{Memory}
 use Rattle.module_reading.specs.declared.halves.Halves.{Halves}
 use Rattle.port_manager.specs.declared.job.Job.{Job}
-use Rattle.port_manager.specs.declared.job.Job.TheVariants.{Reading, Waking, Sleeping, Provisioning, Activating, Watching}
+use Rattle.port_manager.specs.declared.job.Job.TheVariants.{Reading, Waking, Sleeping, Provisioning, Activating, Confirming, Watching}
 use Rattle.port_manager.specs.declared.port.Outstanding.{Outstanding}
 use Rattle.port_manager.specs.declared.port.Outstanding.TheVariants.{Nothing, Awaited, Stale, Forsaken}
 use Rattle.port_manager.specs.declared.port.Port.{Port}
@@ -34,6 +34,7 @@ IsKnownJob (Waking job) = Unit {0}
 IsKnownJob (Sleeping job) = Unit {0}
 IsKnownJob (Provisioning job goal) = IsToldSo job
 IsKnownJob (Activating job goal) = IsToldSo job
+IsKnownJob (Confirming job) = Unit {0}
 IsKnownJob (Watching job) = Unit {0}
 
 abbrev pub IsKnown : Port → Type 0
@@ -50,6 +51,7 @@ HasRead image (Waking job) = Unit {0}
 HasRead image (Sleeping job) = Unit {0}
 HasRead image (Provisioning job goal) = Unit {0}
 HasRead image (Activating job goal) = Unit {0}
+HasRead image (Confirming job) = Unit {0}
 HasRead image (Watching job) = Unit {0}
 
 -- a reading begins
@@ -59,6 +61,7 @@ Begins (Waking job) = Unit {0}
 Begins (Sleeping job) = Unit {0}
 Begins (Provisioning job goal) = Unit {0}
 Begins (Activating job goal) = Unit {0}
+Begins (Confirming job) = Unit {0}
 Begins (Watching job) = Unit {0}
 
 -- a reading is the one that was there after the reply, or begins
@@ -70,6 +73,7 @@ ReadsOn before reply (Waking job) = Unit {0}
 ReadsOn before reply (Sleeping job) = Unit {0}
 ReadsOn before reply (Provisioning job goal) = Unit {0}
 ReadsOn before reply (Activating job goal) = Unit {0}
+ReadsOn before reply (Confirming job) = Unit {0}
 ReadsOn before reply (Watching job) = Unit {0}
 
 -- where the reply was awaited; where it was stale a reading begins, and where it was forsaken all is as it was
@@ -91,4 +95,5 @@ TellsSo reply (Waking job) = Unit {0}
 TellsSo reply (Sleeping job) = Unit {0}
 TellsSo reply (Provisioning job goal) = ToldNext reply job
 TellsSo reply (Activating job goal) = ToldNext reply job
+TellsSo reply (Confirming job) = Unit {0}
 TellsSo reply (Watching job) = Unit {0}

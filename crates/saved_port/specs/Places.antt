@@ -11,7 +11,7 @@ use Rattle.module_reading.specs.declared.halves.Halves.{Halves}
 use Rattle.module_reading.specs.ImageReading as reading
 use Rattle.module_reading.specs.Regions.{key_of}
 use Rattle.port_manager.specs.declared.job.Job.{Job}
-use Rattle.port_manager.specs.declared.job.Job.TheVariants.{Reading, Waking, Sleeping, Provisioning, Activating, Watching}
+use Rattle.port_manager.specs.declared.job.Job.TheVariants.{Reading, Waking, Sleeping, Provisioning, Activating, Confirming, Watching}
 use Rattle.port_manager.specs.declared.look.Look.{Look}
 use Rattle.port_manager.specs.declared.look.LookStage.{LookStage}
 use Rattle.port_manager.specs.declared.look.LookStage.TheVariants.{Lower, Lanes, Seen}
@@ -42,6 +42,7 @@ place_in (Waking job) = None
 place_in (Sleeping job) = None
 place_in (Provisioning job goal) = None
 place_in (Activating job goal) = None
+place_in (Confirming job) = place_of_look job.conversation.conversation
 place_in (Watching job) = place_of_look job.conversation.conversation
 
 abbrev pub place_at : Stage → Option Key

@@ -29,7 +29,7 @@ use Rattle.port_manager.specs.declared.deciding.LeftBecause.TheVariants as reaso
 use Rattle.port_manager.specs.declared.codes.LaneCodes.{LaneCodes}
 use Rattle.port_manager.specs.declared.flags.Flags.{Flags}
 use Rattle.port_manager.specs.declared.job.Job.{Job}
-use Rattle.port_manager.specs.declared.job.Job.TheVariants.{Reading, Waking, Sleeping, Provisioning, Activating, Watching}
+use Rattle.port_manager.specs.declared.job.Job.TheVariants.{Reading, Waking, Sleeping, Provisioning, Activating, Confirming, Watching}
 use Rattle.port_manager.specs.declared.look.Look.{Look}
 use Rattle.port_manager.specs.declared.look.LookStage.{LookStage}
 use Rattle.port_manager.specs.declared.look.LookStage.TheVariants.{Lower, Lanes, Seen}
@@ -184,7 +184,8 @@ job_in number goal work image =
     else (if number == 5 then option_map (λ (procedure : PatientProcedure). Activating procedure (goal_in goal)) (procedure_in work)
     else (if number == 6 then Some (Watching (patient_in work (on_page_in work (look_in goal work))))
     else (if number == 7 then Some (Sleeping (patient_in work (change_in work)))
-    else None)))))
+    else (if number == 8 then Some (Confirming (patient_in work (on_page_in work (look_in goal work))))
+    else None))))))
 
 abbrev pub stage_in : ℕ → SavedLeft → SavedGoal → SavedWork → Memory → Option Stage
 stage_in number left goal work image =

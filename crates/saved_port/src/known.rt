@@ -33,7 +33,8 @@ fn tell_job(job: &Job, reply: &Reply)
     ensures { TellsSo reply.now job.now }
 {
     match job {
-        Job::Reading(_, _) | Job::Waking(_) | Job::Sleeping(_) | Job::Watching(_) => {}
+        Job::Reading(_, _) | Job::Waking(_) | Job::Sleeping(_) => {}
+        Job::Confirming(_) | Job::Watching(_) => {}
         Job::Provisioning(procedure, _) => tell_procedure(procedure, reply),
         Job::Activating(procedure, _) => tell_procedure(procedure, reply),
     }

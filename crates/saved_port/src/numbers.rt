@@ -95,8 +95,8 @@ pub struct SavedPort {
     pub refusals: u32,
     /// How many halves its reading has read: the caller's.
     pub half_count: u16,
-    /// 0 if no module is there, 1 if it is left alone; 2 to 7 if it is read, woken up, provisioned, activated,
-    /// looked at, put to sleep.
+    /// 0 if no module is there, 1 if it is left alone; 2 to 8 if it is read, woken up, provisioned, activated, looked at as one that is
+    /// as wanted, put to sleep, looked at as one whose lanes came up.
     pub stage: u8,
     pub held: u8,
     /// 0 if nothing is, 1 if the reply is awaited, 2 if it is stale, 3 if it is forsaken.

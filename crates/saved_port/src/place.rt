@@ -26,7 +26,9 @@ fn place_in(job: &Job) -> Option<Key>
         Job::Waking(_) | Job::Sleeping(_) | Job::Provisioning(_, _) | Job::Activating(_, _) => {
             None
         },
-        Job::Watching(look) => place_of_look(&look.conversation.conversation),
+        Job::Confirming(look) | Job::Watching(look) => {
+            place_of_look(&look.conversation.conversation)
+        },
     }
 }
 

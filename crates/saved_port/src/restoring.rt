@@ -212,8 +212,9 @@ fn job_in(saved: &SavedPort) -> Option<Job>
             Some(procedure) => Some(Job::Activating(procedure, goal)),
             None => None,
         },
-        6 => Some(Job::Watching(work::watching_in(goal, &saved.work))),
+        6 => Some(Job::Watching(work::look_in(goal, &saved.work))),
         7 => Some(Job::Sleeping(work::waking_in(&saved.work))),
+        8 => Some(Job::Confirming(work::look_in(goal, &saved.work))),
         _ => None,
     }
 }

@@ -207,11 +207,17 @@ fn numbers_of_job(job: &Job) -> StageNumbers
             goal: numbers_of_goal(goal),
             work: work::work_of_procedure(procedure),
         },
+        Job::Confirming(look) => StageNumbers {
+            stage: 8,
+            left: no_reason(),
+            goal: numbers_of_goal(&look.conversation.conversation.conversation.goal),
+            work: work::work_of_look(look),
+        },
         Job::Watching(look) => StageNumbers {
             stage: 6,
             left: no_reason(),
             goal: numbers_of_goal(&look.conversation.conversation.conversation.goal),
-            work: work::work_of_watching(look),
+            work: work::work_of_look(look),
         },
     }
 }

@@ -50,7 +50,7 @@ pub fn waking_in(work: &SavedWork) -> PatientPower
     patient_in(work, change)
 }
 
-pub fn watching_in(goal: Goal, work: &SavedWork) -> WatchingJob
+pub fn look_in(goal: Goal, work: &SavedWork) -> WatchingJob
     ensures { result ≡ spec.patient_in work.now (spec.on_page_in work.now (record { goal = goal; stage = spec.look_stage_in work.now.stage })) }
 {
     let look = Look {
@@ -214,7 +214,7 @@ pub fn work_of_waking(change: &PatientPower) -> SavedWork
     work
 }
 
-pub fn work_of_watching(look: &WatchingJob) -> SavedWork
+pub fn work_of_look(look: &WatchingJob) -> SavedWork
     ensures { result ≡ spec.work_of_look look.now }
 {
     let on_page = &look.conversation.conversation;

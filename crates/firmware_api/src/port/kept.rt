@@ -107,6 +107,7 @@ fn count_at(job: &Job, count: u16) -> u16
         | Job::Sleeping(_)
         | Job::Provisioning(_, _)
         | Job::Activating(_, _)
+        | Job::Confirming(_)
         | Job::Watching(_) => 0,
     }
 }
@@ -168,6 +169,7 @@ fn half_at(job: &Job, reply: &Reply) -> Option<HalfBytes>
         | Job::Sleeping(_)
         | Job::Provisioning(_, _)
         | Job::Activating(_, _)
+        | Job::Confirming(_)
         | Job::Watching(_) => None,
     }
 }

@@ -3,7 +3,7 @@ use Rattle.port_manager.specs.declared.job.Job.{Job}
 use Rattle.port_manager.specs.declared.port.Stage.TheVariants.{Working}
 use Rattle.saved_port.specs.Known.{HasRead, IsKnownJob}
 use Rattle.std.specs.Prelude.{Some}
-use Rattle.saved_port.proofs.Back.{activating_stage, provisioning_stage, reading_stage, sleeping_stage, waking_stage, watching_stage}
+use Rattle.saved_port.proofs.Back.{activating_stage, confirming_stage, provisioning_stage, reading_stage, sleeping_stage, waking_stage, watching_stage}
 use Rattle.saved_port.proofs.saving.numbers_of_job.Goals as goal
 
 pub returns-in-Reading-clause-same : goal.returns-in-Reading-clause-same
@@ -29,7 +29,12 @@ returns-in-Activating-clause-same c image read known =
     activating_stage c.in-Activating.procedure c.in-Activating.goal image c.no_reason-in-Activating.result c.numbers_of_goal-in-Activating.result c.work_of_procedure-in-Activating.result c.numbers_of_goal-in-Activating.ensures
     (c.work_of_procedure-in-Activating.ensures (subst IsKnownJob c.in-Activating.is known)) ∙ ap (λ (j : Job). Some (Working j)) (sym c.in-Activating.is)
 
+pub returns-in-Confirming-clause-same : goal.returns-in-Confirming-clause-same
+returns-in-Confirming-clause-same c image read known =
+    confirming_stage c.in-Confirming.look image c.no_reason-in-Confirming.result c.numbers_of_goal-in-Confirming.result c.work_of_look.result c.numbers_of_goal-in-Confirming.ensures c.work_of_look.ensures
+    ∙ ap (λ (j : Job). Some (Working j)) (sym c.in-Confirming.is)
+
 pub returns-in-Watching-clause-same : goal.returns-in-Watching-clause-same
 returns-in-Watching-clause-same c image read known =
-    watching_stage c.in-Watching.look image c.no_reason-in-Watching.result c.numbers_of_goal-in-Watching.result c.work_of_watching.result c.numbers_of_goal-in-Watching.ensures c.work_of_watching.ensures
+    watching_stage c.in-Watching.look image c.no_reason-in-Watching.result c.numbers_of_goal-in-Watching.result c.work_of_look-in-Watching.result c.numbers_of_goal-in-Watching.ensures c.work_of_look-in-Watching.ensures
     ∙ ap (λ (j : Job). Some (Working j)) (sym c.in-Watching.is)
