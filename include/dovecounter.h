@@ -1781,7 +1781,8 @@ enum dovecounter_port_stage {
     DOVECOUNTER_PORT_PROVISIONING = 4, /* the plan's control bytes become active */
     DOVECOUNTER_PORT_ACTIVATING = 5,   /* the plan's lanes come up */
     DOVECOUNTER_PORT_WATCHING = 6,     /* it is as wanted, and looked at every period */
-    DOVECOUNTER_PORT_SLEEPING = 7      /* it is put to sleep */
+    DOVECOUNTER_PORT_SLEEPING = 7,     /* it is put to sleep */
+    DOVECOUNTER_PORT_CONFIRMING = 8    /* lanes came up; a look finds whether they are the plan's */
 };
 
 /* Why a module is left alone; or, if nothing can be planned, a status of dovecounter_advertisement, 11 to 16. */
@@ -1841,9 +1842,9 @@ struct dovecounter_work {
     uint8_t found;
 };
 
-/* A port. You may copy it, save it, and read flags, due, stage, held, goal (from PROVISIONING to WATCHING), left,
-   request and request_lanes, but don't write its fields: a changed one is refused, or taken for another port, perhaps
-   one that no events lead to. */
+/* A port. You may copy it, save it, and read flags, due, stage, held, goal (from PROVISIONING to WATCHING, and in
+   CONFIRMING), left, request and request_lanes, but don't write its fields: a changed one is refused, or taken for
+   another port, perhaps one that no events lead to. */
 struct dovecounter_port {
     struct dovecounter_flag_counts flags;
     uint64_t due; /* no operation is named before this moment */

@@ -73,6 +73,7 @@ class Stage(IntEnum):
     ACTIVATING = 5
     WATCHING = 6
     SLEEPING = 7
+    CONFIRMING = 8
 
 
 class Kind(IntEnum):
@@ -363,7 +364,7 @@ class Port:
     def goal(self) -> Optional[Tuple[bytes, int]]:
         """The control bytes and the byte of host lanes that the port works for, while it does."""
         goal = self._saved.goal
-        works = self.stage in (Stage.PROVISIONING, Stage.ACTIVATING, Stage.WATCHING)
+        works = self.stage in (Stage.PROVISIONING, Stage.ACTIVATING, Stage.CONFIRMING, Stage.WATCHING)
         return (bytes(goal.control), int(goal.lanes)) if works else None
 
     @property

@@ -99,13 +99,14 @@ static uint8_t lanes_up_as_wanted(void) {
 
 /* ---- what is judged ---- */
 
-/* A port that reads or watches stores nothing but selections, nor does one before it has read its module anew after a first refused
+/* A port that reads or looks stores nothing but selections, nor does one before it has read its module anew after a first refused
    apply. No lane goes down that was read to be up and may not. No apply comes to lanes that are up as wanted, unless two were refused, or
    the module reset itself since it was read. */
 static void judge_store(const struct dovecounter_operation *op) {
     if (op->offset == 126) return;
     expect("a store has a reason", 0,
-           port.stage == DOVECOUNTER_PORT_READING || port.stage == DOVECOUNTER_PORT_WATCHING);
+           port.stage == DOVECOUNTER_PORT_READING || port.stage == DOVECOUNTER_PORT_CONFIRMING ||
+               port.stage == DOVECOUNTER_PORT_WATCHING);
     expect("the module was read anew", 0, (unsigned long)known.is_unread);
     int is_sleep = op->offset == CONTROL && (op->bytes[0] & 0x10);
     uint8_t lanes = is_sleep ? ALL_LANES : op->offset == DEINIT || op->offset == APPLY ? op->bytes[0] : 0;

@@ -111,7 +111,9 @@ static void print_control(FILE *out, const uint8_t control[8]) {
 static void print_plan(FILE *out, const struct port *port) {
     const struct dovecounter_goal *goal = &port->core.goal;
     const struct dovecounter_plan *plan = &port->plan;
-    if (port->core.stage < DOVECOUNTER_PORT_PROVISIONING || port->core.stage > DOVECOUNTER_PORT_WATCHING) return;
+    uint8_t stage = port->core.stage;
+    bool works = stage >= DOVECOUNTER_PORT_PROVISIONING && stage <= DOVECOUNTER_PORT_WATCHING;
+    if (!works && stage != DOVECOUNTER_PORT_CONFIRMING) return;
     fputs(", \"plan\": {", out);
     print_control(out, goal->control);
     bool is_same = plan->count > 0 && memcmp(plan->control, goal->control, sizeof plan->control) == 0;
@@ -225,6 +227,7 @@ static const char *const stages[] = {
     [DOVECOUNTER_PORT_ACTIVATING] = "activating",
     [DOVECOUNTER_PORT_WATCHING] = "up",
     [DOVECOUNTER_PORT_SLEEPING] = "going to sleep",
+    [DOVECOUNTER_PORT_CONFIRMING] = "confirming",
 };
 
 /* Whether it is shown as left alone: also while its module is read again. */
