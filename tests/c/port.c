@@ -79,6 +79,25 @@ static void try_changes(void) {
     expect("all its lanes", ALL_LANES, lanes_up());
 }
 
+/* A module that is reset while its lanes come up brings up its default, which isn't told as what is wanted. */
+static void try_default(void) {
+    static const uint8_t other[8] = {0x20, 0x20, 0x20, 0x20, 0x28, 0x28, 0x28, 0x28};
+    uint8_t active[8];
+    memcpy(halves[PAGE_11].bytes + 206 - 128, other, sizeof other);
+    for (unsigned made = 1; made < 12; made++) {
+        begin();
+        wanted.may_take_down = ALL_LANES;
+        plug_in();
+        expect("it is provisioned", 1, (unsigned long)drive_to(DOVECOUNTER_PORT_WENT, DOVECOUNTER_PORT_PROVISIONED));
+        expect("its default is not the goal", 1, memcmp(other, port.goal.control, sizeof other) != 0);
+        reset_at = transactions + made;
+        expect("it comes up", 1, (unsigned long)comes_up());
+        expect("its bytes", 0, dovecounter_module_active(&module, active));
+        expect_same("are the goal's", port.goal.control, active, sizeof active);
+    }
+    memset(halves[PAGE_11].bytes + 206 - 128, 0, sizeof other);
+}
+
 /* A pull drops the reply that is outstanding. */
 static void try_pull(void) {
     begin();
@@ -179,7 +198,7 @@ static void try_other_families(void) {
 
 /* Each lane's state and status is known since when it was read, whatever is acknowledged or pulled. */
 static void try_lane_codes(void) {
-    enum { LANE_1 = 0, LANE_5 = 4, LANE_6 };
+    enum { LANE_1 = 0, LANE_5 = 4, LANE_6, LOOK = 4 /* operations, each in a millisecond */ };
     static const struct dovecounter_lane_codes none;
     begin();
     expect_same("no state was read", &none, &port.flags.states, sizeof none);
@@ -189,10 +208,11 @@ static void try_lane_codes(void) {
     for (int lane = 0; lane < 8; lane++) {
         expect("a lane is DPActivated", 4, port.flags.states.codes[lane]);
         expect("its states were seen", 1, port.flags.states.changes[lane] >= 3);
-        expect("the last one now", (unsigned long)now - 1, (unsigned long)port.flags.states.last[lane]);
+        expect("the last one before the look", (unsigned long)now - 1 - LOOK,
+               (unsigned long)port.flags.states.last[lane]);
         expect("its status is ConfigSuccess", 1, port.flags.statuses.codes[lane]);
         expect("it was seen", 1, port.flags.statuses.changes[lane] >= 1);
-        expect("before that", 1, port.flags.statuses.last[lane] < now - 1);
+        expect("before that", 1, port.flags.statuses.last[lane] < now - 1 - LOOK);
     }
     const struct dovecounter_lane_codes states = port.flags.states, statuses = port.flags.statuses;
     expect("it is still up", 1, (unsigned long)drive_to(DOVECOUNTER_PORT_WENT, DOVECOUNTER_PORT_STILL_UP));
@@ -532,6 +552,7 @@ int main(void) {
     try_places();
     try_restart();
     try_changes();
+    try_default();
     try_pull();
     try_hold();
     try_flags();
