@@ -519,7 +519,7 @@ static void try_refusals(void) {
     memset(&port, 0, sizeof port);
     refuse_all("zeros", DOVECOUNTER_NO_CONVERSATION);
     begin();
-    port.stage = 8;
+    port.stage = 9;
     refuse_all("no stage", DOVECOUNTER_NO_CONVERSATION);
     port.stage = DOVECOUNTER_PORT_LEFT;
     refuse_all("left for no reason", DOVECOUNTER_NO_CONVERSATION);
