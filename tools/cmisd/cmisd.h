@@ -79,6 +79,7 @@ struct port {
         uint8_t request, lanes; /* this is asked again, which was asked before */
     } before;
 
+    uint16_t anew;                /* bits of the halves that were read as wholes since it was last read again */
     bool is_read_again;           /* by itself, so that what comes of it is told only if it is another reason: */
     struct dovecounter_left left; /* as it was told last, */
     uint8_t stage;                /* and so was this */

@@ -184,14 +184,16 @@ static void look(struct port *port) {
 
 /* ---- what the library decides */
 
-static void take_half(struct port *port, const struct dovecounter_half *half) {
+/* Answers where it is kept. */
+static size_t take_half(struct port *port, const struct dovecounter_half *half) {
     size_t at = 0;
     while (at < port->half_count && memcmp(&port->halves[at], half, offsetof(struct dovecounter_half, bytes)) != 0)
         at++;
-    if (at == DOVECOUNTER_MOST_READ) return;
+    if (at == DOVECOUNTER_MOST_READ) return at;
     if (at == port->half_count || memcmp(&port->halves[at], half, sizeof *half) != 0) port->has_new_image = true;
     if (at == port->half_count) port->half_count++;
     port->halves[at] = *half;
+    return at;
 }
 
 /* Keeps what an answer shows of the memory: halves, and bytes of those that were read before. The library reads which page is selected
@@ -209,8 +211,10 @@ static void remember(struct port *port, const struct dovecounter_port_next *next
     if (!next->whole && known == NULL) return;
     if (!next->whole) half = *known;
     memcpy(half.bytes + made->offset % 128, bytes, made->count);
-    take_half(port, &half);
-    if (next->whole) port->read_at = now();
+    size_t at = take_half(port, &half);
+    if (!next->whole) return;
+    port->read_at = now();
+    port->anew |= (uint16_t)(1U << at);
 }
 
 /* A module with lanes was read, perhaps as up already, or its lanes came up or did not. */
@@ -250,6 +254,7 @@ static bool is_to_be_read_again(const struct port *port) {
 
 static void read_again(struct port *port) {
     port->is_read_again = true;
+    port->anew = 0;
     must(dovecounter_port_reconsider(&port->core));
 }
 

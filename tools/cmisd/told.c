@@ -124,10 +124,20 @@ static bool has_image(const struct dovecounter_port_outcome *outcome) {
     return is_asleep || outcome->kind == DOVECOUNTER_PORT_LEAVES || outcome->note != DOVECOUNTER_PORT_QUIET;
 }
 
+/* What was only read of the module before goes: it may have been exchanged since. */
+static void forget_former(struct port *port) {
+    size_t count = 0;
+    for (size_t i = 0; i < port->half_count; i++)
+        if (port->anew >> i & 1) port->halves[count++] = port->halves[i];
+    port->has_new_image = port->has_new_image || count < port->half_count;
+    port->half_count = count;
+}
+
 /* A module at which something is done, or has failed, is no longer only read again. */
 void hear(struct port *port, const struct dovecounter_port_outcome *outcome) {
     char words[WORDS_SIZE];
     bool has_failed = outcome->kind == DOVECOUNTER_PORT_FAILED;
+    if (has_image(outcome) && port->is_read_again) forget_former(port);
     if (has_image(outcome)) put_image(port);
     if (has_failed || outcome->note != DOVECOUNTER_PORT_QUIET) port->is_read_again = false;
     if (outcome->note == DOVECOUNTER_PORT_IDENTIFIED || outcome->note == DOVECOUNTER_PORT_CAME_UP) find_plan(port);
