@@ -5,6 +5,7 @@ ghost use Rattle.paged_memory.specs.Images.{Memory};
 ghost use Rattle.port_manager.specs.declared.job.Job.TheVariants as jobs;
 ghost use Rattle.port_manager.specs.declared.port.Stage.TheVariants as stages;
 ghost use Rattle.port_manager.specs.Ports.{IfWorking};
+ghost use Rattle.control_sets.specs.Progress.{PatientProcedure};
 ghost use Rattle.saved_port.specs.Known.{HasRead};
 ghost use Rattle.saved_port.specs.SavedPorts.{port_in};
 ghost use Rattle.saved_port.specs.SavedPorts as spec;
@@ -187,35 +188,86 @@ fn put_job(saved: &SavedPort, stage: &mut Stage) -> bool
     ensures none { result ≡ false → (image : Memory) → option_map stages.Working (spec.job_in saved.now.stage saved.now.goal saved.now.work image) ≡ None }
     ensures read { result ≡ true → (image : Memory) → IfWorking stage.new (HasRead image) }
 {
-    match job_in(saved) {
-        Some(job) => {
-            *stage = Stage::Working(job);
+    match saved.stage {
+        3 => {
+            put_waking(saved, stage);
+            true
+        }
+        4 => put_provisioning(saved, stage),
+        5 => put_activating(saved, stage),
+        6 => {
+            put_watching(saved, stage);
+            true
+        }
+        7 => {
+            put_sleeping(saved, stage);
+            true
+        }
+        8 => {
+            put_confirming(saved, stage);
+            true
+        }
+        _ => false,
+    }
+}
+
+// None of these is inlined: each job that is made takes of a stack.
+
+#[inline(never)]
+fn put_waking(saved: &SavedPort, stage: &mut Stage)
+    ensures { stage.new ≡ stages.Working (jobs.Waking (spec.patient_in saved.now.work (spec.change_in saved.now.work))) }
+{
+    *stage = Stage::Working(Job::Waking(work::waking_in(&saved.work)));
+}
+
+#[inline(never)]
+fn put_sleeping(saved: &SavedPort, stage: &mut Stage)
+    ensures { stage.new ≡ stages.Working (jobs.Sleeping (spec.patient_in saved.now.work (spec.change_in saved.now.work))) }
+{
+    *stage = Stage::Working(Job::Sleeping(work::waking_in(&saved.work)));
+}
+
+#[inline(never)]
+fn put_watching(saved: &SavedPort, stage: &mut Stage)
+    ensures { stage.new ≡ stages.Working (jobs.Watching (spec.patient_in saved.now.work (spec.on_page_in saved.now.work (spec.look_in saved.now.goal saved.now.work)))) }
+{
+    *stage = Stage::Working(Job::Watching(work::look_in(goal_in(saved.goal), &saved.work)));
+}
+
+#[inline(never)]
+fn put_confirming(saved: &SavedPort, stage: &mut Stage)
+    ensures { stage.new ≡ stages.Working (jobs.Confirming (spec.patient_in saved.now.work (spec.on_page_in saved.now.work (spec.look_in saved.now.goal saved.now.work)))) }
+{
+    *stage = Stage::Working(Job::Confirming(work::look_in(goal_in(saved.goal), &saved.work)));
+}
+
+#[inline(never)]
+fn put_provisioning(saved: &SavedPort, stage: &mut Stage) -> bool
+    ensures found { result ≡ true → option_map stages.Working (option_map (λ (procedure : PatientProcedure). jobs.Provisioning procedure (spec.goal_in saved.now.goal)) (spec.procedure_in saved.now.work)) ≡ Some stage.new }
+    ensures none { result ≡ false → option_map stages.Working (option_map (λ (procedure : PatientProcedure). jobs.Provisioning procedure (spec.goal_in saved.now.goal)) (spec.procedure_in saved.now.work)) ≡ None }
+    ensures read { result ≡ true → (image : Memory) → IfWorking stage.new (HasRead image) }
+{
+    match work::procedure_in(&saved.work) {
+        Some(procedure) => {
+            *stage = Stage::Working(Job::Provisioning(procedure, goal_in(saved.goal)));
             true
         }
         None => false,
     }
 }
 
-fn job_in(saved: &SavedPort) -> Option<Job>
-    requires { saved.now.stage ≢ 2 }
-    ensures value { (image : Memory) → result ≡ spec.job_in saved.now.stage saved.now.goal saved.now.work image }
-    ensures read { (image : Memory) → IfSome result (HasRead image) }
+#[inline(never)]
+fn put_activating(saved: &SavedPort, stage: &mut Stage) -> bool
+    ensures found { result ≡ true → option_map stages.Working (option_map (λ (procedure : PatientProcedure). jobs.Activating procedure (spec.goal_in saved.now.goal)) (spec.procedure_in saved.now.work)) ≡ Some stage.new }
+    ensures none { result ≡ false → option_map stages.Working (option_map (λ (procedure : PatientProcedure). jobs.Activating procedure (spec.goal_in saved.now.goal)) (spec.procedure_in saved.now.work)) ≡ None }
+    ensures read { result ≡ true → (image : Memory) → IfWorking stage.new (HasRead image) }
 {
-    let goal = goal_in(saved.goal);
-    match saved.stage {
-        3 => Some(Job::Waking(work::waking_in(&saved.work))),
-        4 => match work::procedure_in(&saved.work) {
-            Some(procedure) => Some(Job::Provisioning(procedure, goal)),
-            None => None,
-        },
-        5 => match work::procedure_in(&saved.work) {
-            Some(procedure) => Some(Job::Activating(procedure, goal)),
-            None => None,
-        },
-        6 => Some(Job::Watching(work::look_in(goal, &saved.work))),
-        7 => Some(Job::Sleeping(work::waking_in(&saved.work))),
-        8 => Some(Job::Confirming(work::look_in(goal, &saved.work))),
-        _ => None,
+    match work::procedure_in(&saved.work) {
+        Some(procedure) => {
+            *stage = Stage::Working(Job::Activating(procedure, goal_in(saved.goal)));
+            true
+        }
+        None => false,
     }
 }
 
