@@ -88,10 +88,11 @@ pub fn plans_are_read_back()
         AreHostPathsOf advert paths (host_paths (control_bytes advert paths)) }
 {}
 
-/// If provisioning succeeds, its last step has read the control bytes as active, on a confirmed page 11h.
+/// If provisioning succeeds, its last step has read the control bytes as active, on a confirmed page 11h. With doubts, the
+/// steps since the newest refusal confirm it.
 pub fn a_success_was_read()
-    ensures { (control : List ℕ) (lanes : Lanes) (made room : ℕ) (history : History) (steps : ℕ) →
-        IsProvisioning control lanes (made ≡ room) history (Ok steps) → ReadsActive control history }
+    ensures { (doubts : Bool) (control : List ℕ) (lanes : Lanes) (made room : ℕ) (history : History) (steps : ℕ) →
+        IsProvisioningBy doubts control lanes (made ≡ room) history (Ok steps) → ReadsActive doubts control history }
 {}
 
 /// Each store of provisioning to DPDeinit and to ApplyDPInit, accepted or refused, has the bits of its lanes, and no others.
