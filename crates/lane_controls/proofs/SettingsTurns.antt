@@ -113,7 +113,7 @@ module _ (history : History) (changing : ChangingSettings) where
           at = (record { up = fit.up; explicit = fit.explicit; read = fit.read; mixed_so = fit.mixed_so }, ap (λ (l : List ℕ). Some l) ((bytes_eq-Decides items changing.mixed).0 is));
         }
         by items false is true = record { steps = (inl tt, steps); at = record { up = fit.up; explicit = fit.explicit; read = fit.read; mixed_so = fit.mixed_so } }
-        by items false is false = record { steps = (inl tt, steps); at = tt }
+        by items false is false = record { steps = (inl tt, steps); at = (changing.staged, items, fit.read, refl, ap (bytes_eq items) (sym fit.mixed_so) ∙ is) }
 
         go : (r : Reply) → Turns stage.Stored (read_from 153 21) r
         go (Bytes bytes) = by bytes.items (bytes_eq bytes.items changing.mixed) refl (nat_lt 0 changing.tries)

@@ -1,6 +1,7 @@
 -- What holds of a change of settings whatever happens: it is applied only to lanes that are up, and settings are called active only as
 -- they were read last. Steps stand with the newest first. (docs/lanes.md; this project's own)
-use Rattle.std.specs.Prelude.{◌≡◌, ◌⊎◌, ℕ, ◌==◌, List, [], ◌∷◌, Option, Some, None, if◌then◌else◌}
+use Rattle.std.specs.Prelude.{◌≡◌, ◌⊎◌, ℕ, ◌==◌, false, List, [], ◌∷◌, Option, Some, None, if◌then◌else◌}
+use Rattle.std.specs.Str.{bytes_eq}
 use Rattle.bus_model.specs.declared.operation.Op.{Op}
 use Rattle.bus_model.specs.declared.operation.Op.TheVariants.{Fetch, Store}
 use Rattle.bus_model.specs.declared.operation.Reply.{Reply}
@@ -61,7 +62,8 @@ HasEndedIn change ends.Active history = AreActive change history
 HasEndedIn change (ends.NotUp lane) history = (states : List ℕ) × (bytes_read 128 history ≡ Some states) × (down_lane change.lanes states ≡ Some lane)
 HasEndedIn change (ends.NotExplicit lane) history =
     (staged active : List ℕ) × (bytes_read 145 history ≡ Some staged) × (bytes_read 206 history ≡ Some active) × (unfit_lane change.lanes staged active ≡ Some lane)
-HasEndedIn change ends.NotStaged history = Unit {0}
+HasEndedIn change ends.NotStaged history =
+    (staged bytes : List ℕ) × (bytes_read 145 history ≡ Some staged) × (bytes_read 153 history ≡ Some bytes) × (bytes_eq bytes (mixed change staged) ≡ false)
 HasEndedIn change (ends.Rejected lane) history = (statuses : List ℕ) × (bytes_read 202 history ≡ Some statuses) × (rejected_lane change.lanes statuses ≡ Some lane)
 HasEndedIn change (ends.NotActive lane) history = (active : List ℕ) × (bytes_read 214 history ≡ Some active) × (inactive_lane change.lanes change.settings active ≡ Some lane)
 
