@@ -1976,7 +1976,7 @@ enum dovecounter_port_failure {
     DOVECOUNTER_PORT_NOT_PROVISIONED = 4, /* see fault */
     DOVECOUNTER_PORT_NOT_ACTIVATED = 5,   /* see fault */
     DOVECOUNTER_PORT_UNSEEN = 6,          /* the module could not be looked at */
-    DOVECOUNTER_PORT_CHANGED = 7,         /* it is no longer as wanted, or did not come up so */
+    DOVECOUNTER_PORT_CHANGED = 7,         /* it is no longer as wanted, did not come up so, or asks for low power again */
     DOVECOUNTER_PORT_NOT_ASLEEP = 8,      /* see fault */
     DOVECOUNTER_PORT_APPLY_REFUSED = 9,   /* an apply was refused, which the module may have taken all the same */
     DOVECOUNTER_PORT_WAKING_REFUSED = 10  /* its global controls were not read or stored, so it wasn't asked to wake up */

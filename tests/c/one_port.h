@@ -37,12 +37,16 @@ static unsigned reset_at,
     late_at;              /* the transactions before which the module resets itself, and that is refused too late */
 static unsigned needless; /* lanes that were up as wanted, and were applied to */
 static int is_stuck;      /* the module stays in its state */
+static uint8_t has_pin;   /* the low power pin is on */
 
 /* What the port read last, by the places that it named. */
 static struct dovecounter_half seen[HALVES];
 static size_t seen_count;
 
-static void insert_module(void) { expect("a module", 0, dovecounter_module_begin(halves, HALVES, &delays, &module)); }
+static void insert_module(void) {
+    expect("a module", 0, dovecounter_module_begin(halves, HALVES, &delays, &module));
+    expect("its pin", 0, dovecounter_module_pin(&module, has_pin));
+}
 
 static void want(uint32_t eight_lanes, uint32_t four_lanes) {
     memset(&wanted, 0, sizeof wanted);

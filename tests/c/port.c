@@ -443,6 +443,33 @@ static void try_waking_refused(void) {
     }
 }
 
+/* Once more, if it was left alone, since its reading had one page from before a reset, and one from after it. */
+static int comes_up_anew(void) {
+    if (port.stage == DOVECOUNTER_PORT_LEFT) {
+        expect("for that", 1, port.left.reason == DOVECOUNTER_ABSENT || port.left.reason == DOVECOUNTER_BAD_SUM);
+        expect("and not in vain", 0, port.vain);
+        expect("asked", 0, dovecounter_port_reconsider(&port));
+    }
+    return comes_up();
+}
+
+/* A module that resets itself while it is woken up, or before it is read then, asks for low power again. It is woken up once more. */
+static void try_waking_undone(void) {
+    enum { BY_SOFTWARE = 0x10, BY_PIN = 0x40 };
+    for (unsigned made = 1; made <= 40; made++) {
+        begin();
+        has_pin = made % 2;
+        halves[LOWER].bytes[26] = has_pin ? BY_PIN : BY_SOFTWARE;
+        plug_in();
+        expect("it is asleep", 1, (unsigned long)drive_to(DOVECOUNTER_PORT_WENT, DOVECOUNTER_PORT_IDENTIFIED));
+        reset_at = transactions + made;
+        expect("it comes up", 1, (unsigned long)(comes_up() || comes_up_anew()));
+        expect("it had reset itself", 1, transactions > reset_at);
+        expect("all its lanes", ALL_LANES, lanes_up());
+    }
+    has_pin = halves[LOWER].bytes[26] = 0;
+}
+
 /* Drives the port until it asks for an apply, which the bus refuses. */
 static void refuse_apply(void) {
     enum { CONTROL_PAGE = 0x10, APPLY = 143 };
@@ -567,6 +594,7 @@ int main(void) {
     try_silence();
     try_left();
     try_waking_refused();
+    try_waking_undone();
     try_apply_refused();
     try_refusals();
     return judged("port");

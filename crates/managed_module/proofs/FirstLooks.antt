@@ -1,15 +1,14 @@
 -- The first look at a simulated module that came up finds its goal up. It reads the lower half, selects page 11h, reads that back, and
 -- reads the page; each of them in vain never.
-use Rattle.std.proofs.Common.{◌≡◌, inl, inr, ℕ, zero, suc, ◌+◌, ◌-◌, ◌&&◌, ◌||◌, ◌==◌, not, Bool, true, false, List, [], ◌∷◌, Option, Some, None, get_or, map, refl, sym, ap, subst, ◌∙◌, if◌then◌else◌, arith, eq-eqb}
+use Rattle.std.proofs.Common.{◌≡◌, inl, inr, ℕ, zero, suc, ◌+◌, ◌-◌, ◌&&◌, ◌||◌, ◌==◌, not, Bool, true, false, List, [], ◌∷◌, Some, None, get_or, map, refl, sym, ap, subst, ◌∙◌, if◌then◌else◌, arith, eq-eqb}
 use Rattle.std.specs.Prelude.{slice_index}
 use Rattle.std.specs.FinSet as set
 use Rattle.std.specs.List.{range_with_len}
 use Rattle.std.proofs.lemmas.List.FromFn.{get_or-map-range_with_len}
 use Rattle.bus_model.specs.declared.device.Dev.TheVariants.{A0}
 use Rattle.bus_model.specs.declared.operation.Op.{Op}
-use Rattle.bus_model.specs.declared.operation.Op.TheVariants.{Fetch}
 use Rattle.bus_model.specs.declared.operation.Reply.{Reply}
-use Rattle.bus_model.specs.declared.operation.Reply.TheVariants.{Bytes, Done}
+use Rattle.bus_model.specs.declared.operation.Reply.TheVariants.{Bytes}
 use Rattle.bus_model.specs.ScriptedBus.{passed_on}
 use Rattle.conversations.specs.declared.next.Next.TheVariants.{End}
 use Rattle.conversations.specs.declared.on_page.OnPage.{OnPage}
@@ -20,10 +19,8 @@ use Rattle.conversations.specs.declared.within.Spent.{Spent}
 use Rattle.conversations.specs.Pauses.{idle_after, is_fruitless, is_selecting}
 use Rattle.conversations.specs.Wanted.{op_of}
 use Rattle.control_sets.specs.OutcomeAnswers.{most_steps}
-use Rattle.control_sets.specs.OutcomeOperations.{CoversSelection}
 use Rattle.datapath_states.specs.StateCodes.{code_of}
 use Rattle.datapath_states.specs.declared.state.PathState.{PathState}
-use Rattle.datapath_states.specs.declared.state.PathState.TheVariants.{Activated}
 use Rattle.field_tables.specs.declared.field.Field.TheVariants.{CModuleState}
 use Rattle.field_tables.specs.FieldValues.{number_in_byte}
 use Rattle.field_tables.specs.LaneSets.{IsLane}
@@ -43,7 +40,7 @@ use Rattle.port_manager.specs.Jobs.{look_after, look_wants, paged_look}
 use Rattle.port_manager.specs.Looks.{above, below, fetch_half}
 use Rattle.port_manager.specs.Patients.{Patient, pause_in, rested_if, wants_on}
 use Rattle.sim_module.specs.declared.module.SimModule.{SimModule}
-use Rattle.sim_module.specs.Lanes.{active_bytes, lane_at}
+use Rattle.sim_module.specs.Lanes.{lane_at}
 use Rattle.sim_module.specs.Modules.{conduct}
 use Rattle.sim_module.specs.ShownBytes.{shown_byte}
 use Rattle.sim_module.specs.Ticks.{ticked}

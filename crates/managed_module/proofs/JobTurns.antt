@@ -236,16 +236,16 @@ no_look : (job : Patient (OnPage Look)) (goal : Goal) (work : PatientProcedure) 
 no_look job goal work (inl e) = cc
 no_look job goal work (inr e) = cc
 
-decided_leads : (most done budget : ℕ) (after : SimModule) (woken : Bool) (patience : Patience) (decision : Decision) → IsJudgedWhole decision → (less : ℕ) → IsSteady most after → reading_waits most woken ≤ less → less ≤ budget
-    → Leads most done budget after (decided woken patience decision)
-decided_leads most done budget after woken patience (Leave reason) judged less steady few fewer = tt
-decided_leads most done budget after true patience Wake judged less steady few fewer = tt
-decided_leads most done budget after false patience Wake judged less steady few fewer = (less, (refl, steady, few), fewer)
-decided_leads most done budget after woken patience Sleep judged less steady few fewer = absurd (let wrong : true ≡ false = judged.awake in cc)
-decided_leads most done budget after woken patience (Hold goal) judged less steady few fewer = (less, tt, fewer)
-decided_leads most done budget after woken patience (Activate goal) judged less steady few fewer =
+decided_leads : (most done budget : ℕ) (after : SimModule) (woken requested : Bool) (patience : Patience) (decision : Decision) → IsJudgedWhole decision → (less : ℕ) → IsSteady most after → reading_waits most woken ≤ less → less ≤ budget
+    → Leads most done budget after (decided woken requested patience decision)
+decided_leads most done budget after woken requested patience (Leave reason) judged less steady few fewer = tt
+decided_leads most done budget after true requested patience Wake judged less steady few fewer = tt
+decided_leads most done budget after false requested patience Wake judged less steady few fewer = (less, (refl, steady, few), fewer)
+decided_leads most done budget after woken requested patience Sleep judged less steady few fewer = absurd (let wrong : true ≡ false = judged.awake in cc)
+decided_leads most done budget after woken requested patience (Hold goal) judged less steady few fewer = (less, tt, fewer)
+decided_leads most done budget after woken requested patience (Activate goal) judged less steady few fewer =
     (less, activating_at most goal patience after less (judged.whole goal refl) steady (omega (arith, reads_few most woken less few)), fewer)
-decided_leads most done budget after woken patience (Provision goal) judged less steady few fewer =
+decided_leads most done budget after woken requested patience (Provision goal) judged less steady few fewer =
     (less, (refl, judged.whole goal refl, steady.counters, (λ page e. absurd cc), (steady, reads_few most woken less few)), fewer)
 
 pub woken_few : (most : ℕ) (at : PowerStage) (sim : SimModule) (less : ℕ) → Wakes most at sim less → reading_waits most true ≤ less
@@ -293,7 +293,7 @@ module _ (most budget : ℕ) (sim : SimModule) (op : Op) (reply : Reply) (has : 
   follows_leads : (wanted : Wanted) (job : Job) → wanted.asleep ≡ false → ((goal : Goal) (work : PatientProcedure) → (job ≡ jobs.Provisioning work goal) ⊎ (job ≡ jobs.Activating work goal) → ⊥) → GoesOn most job op reply after budget → Follows (Leads most (left job) budget after) wanted job reply
   follows_leads wanted (jobs.Reading job woken) awake not on = λ decision whole judged.
       let image = (reading_after job reply).conversation.conversation.conversation.image in
-      decided_leads most (left (jobs.Reading job woken)) budget after woken (patience_for image) decision (decided_whole wanted image decision (is_awake wanted decision image wanted.asleep awake judged)) on.less on.at.0 on.at.1 on.fewer
+      decided_leads most (left (jobs.Reading job woken)) budget after woken _ (patience_for image) decision (decided_whole wanted image decision (is_awake wanted decision image wanted.asleep awake judged)) on.less on.at.0 on.at.1 on.fewer
   follows_leads wanted (jobs.Waking job) awake not on =
       (on.less, (on.at.1, woken_few most (waking_after job reply).conversation.conversation.stage after on.less on.at.2), on.fewer)
   follows_leads wanted (jobs.Sleeping job) awake not on = tt

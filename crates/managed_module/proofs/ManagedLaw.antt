@@ -42,17 +42,17 @@ use Rattle.managed_module.proofs.Waits.{LinkedJob, job_linked, job_waits}
 -- ---- links over turns
 
 -- nothing is awaited at the beginning
-decided_linked : (sim : SimModule) (woken : Bool) (patience : Patience) (decision : Decision) → IfOn (decided woken patience decision) (λ job. LinkedJob job sim)
-decided_linked sim woken patience (Leave reason) = tt
-decided_linked sim true patience Wake = tt
-decided_linked sim false patience Wake = tt
-decided_linked sim woken patience Sleep = tt
-decided_linked sim woken patience (Hold goal) = tt
-decided_linked sim woken patience (Activate goal) = λ opened. absurd (let same : false ≡ true = opened in cc)
-decided_linked sim woken patience (Provision goal) = λ opened. absurd (let same : false ≡ true = opened in cc)
+decided_linked : (sim : SimModule) (woken requested : Bool) (patience : Patience) (decision : Decision) → IfOn (decided woken requested patience decision) (λ job. LinkedJob job sim)
+decided_linked sim woken requested patience (Leave reason) = tt
+decided_linked sim true requested patience Wake = tt
+decided_linked sim false requested patience Wake = tt
+decided_linked sim woken requested patience Sleep = tt
+decided_linked sim woken requested patience (Hold goal) = tt
+decided_linked sim woken requested patience (Activate goal) = λ opened. absurd (let same : false ≡ true = opened in cc)
+decided_linked sim woken requested patience (Provision goal) = λ opened. absurd (let same : false ≡ true = opened in cc)
 
 follows_linked : (sim : SimModule) (wanted : Wanted) (job : Job) (reply : Reply) → Follows (λ turn. IfOn turn (λ job. LinkedJob job sim)) wanted job reply
-follows_linked sim wanted (jobs.Reading job woken) reply = λ decision whole judged. decided_linked sim woken _ decision
+follows_linked sim wanted (jobs.Reading job woken) reply = λ decision whole judged. decided_linked sim woken _ _ decision
 follows_linked sim wanted (jobs.Waking job) reply = λ opened. absurd (let same : false ≡ true = opened in cc)
 follows_linked sim wanted (jobs.Sleeping job) reply = tt
 follows_linked sim wanted (jobs.Provisioning job goal) reply = λ opened. absurd (let same : false ≡ true = opened in cc)
@@ -79,17 +79,17 @@ going_waits : (before : ℕ) (op : Op) (pause : Option ℕ) (job : Job) → (lef
 going_waits before op None job either = tt
 going_waits before op (Some time) job either = either
 
-decided_waits : (before : ℕ) (op : Op) (woken : Bool) (patience : Patience) (decision : Decision) → Waits before op (decided woken patience decision)
-decided_waits before op woken patience (Leave reason) = tt
-decided_waits before op true patience Wake = tt
-decided_waits before op false patience Wake = tt
-decided_waits before op woken patience Sleep = tt
-decided_waits before op woken patience (Hold goal) = tt
-decided_waits before op woken patience (Activate goal) = tt
-decided_waits before op woken patience (Provision goal) = tt
+decided_waits : (before : ℕ) (op : Op) (woken requested : Bool) (patience : Patience) (decision : Decision) → Waits before op (decided woken requested patience decision)
+decided_waits before op woken requested patience (Leave reason) = tt
+decided_waits before op true requested patience Wake = tt
+decided_waits before op false requested patience Wake = tt
+decided_waits before op woken requested patience Sleep = tt
+decided_waits before op woken requested patience (Hold goal) = tt
+decided_waits before op woken requested patience (Activate goal) = tt
+decided_waits before op woken requested patience (Provision goal) = tt
 
 follows_waits : (before : ℕ) (op : Op) (wanted : Wanted) (job : Job) (reply : Reply) → Follows (Waits before op) wanted job reply
-follows_waits before op wanted (jobs.Reading job woken) reply = λ decision whole judged. decided_waits before op woken _ decision
+follows_waits before op wanted (jobs.Reading job woken) reply = λ decision whole judged. decided_waits before op woken _ _ decision
 follows_waits before op wanted (jobs.Waking job) reply = tt
 follows_waits before op wanted (jobs.Sleeping job) reply = tt
 follows_waits before op wanted (jobs.Provisioning job goal) reply = tt

@@ -38,7 +38,7 @@ use Rattle.port_manager.specs.declared.job.Job.TheVariants as jobs
 use Rattle.port_manager.specs.declared.turn.ProcedureFault.{ProcedureFault}
 use Rattle.port_manager.specs.Jobs.{asked, look_after, paged_halves, paged_look, reading_after, reading_wants, waking_after, procedure_after, procedure_wants, paged_tasks}
 use Rattle.port_manager.specs.Patients.{Patient, after_on, pause_after as pause_of_patient, wants_on}
-use Rattle.port_manager.specs.Turns.{GoesTo, IsRead, IsReadingTurn, IsTurnOf, Turn, activated, decided, fault_in, going, provisioned}
+use Rattle.port_manager.specs.Turns.{GoesTo, IsRead, IsReadingTurn, IsTurnOf, Turn, activated, decided, fault_in, going, is_low_power_requested, provisioned}
 use Rattle.port_manager.proofs.PatientLaws.{never_waits, paged_never}
 use Rattle.port_manager.proofs.TurnCases.{IsAnyTurn, halves_never}
 use Rattle.sim_module.specs.declared.module.SimModule.{SimModule}
@@ -112,14 +112,14 @@ module _ (most : ℕ) (sim : SimModule) (has : HasHalves sim) (whole : AreWhole 
   own_after : IsProvisionable most first → after.advert ≡ own_advert after.image
   own_after may = advert_kept op sim ∙ same_advert ∙ may.own ∙ ap own_advert (sym (image_kept op sim ∙ same_image))
 
-  work_own : (woken : Bool) (patience : Patience) → patience ≡ patience_for first.image → (decision : Decision) → IsWork decision → ((goal : Goal) → named decision ≡ Some goal → IsPlanned (conventions_of wanted) first → IsOwnGoal most wanted after goal)
-      → ((goal : Goal) → decision ≡ Activate goal → IsOwnGoal most wanted after goal → active_bytes after ≡ goal.control) → OwnTurn most wanted first after (decided woken patience decision)
-  work_own woken patience same (Leave reason) work goals active = absurd work
-  work_own woken patience same Wake work goals active = absurd work
-  work_own woken patience same Sleep work goals active = absurd work
-  work_own woken patience same (Hold goal) work goals active = inl tt
-  work_own woken patience same (Activate goal) work goals active = inr ((λ may. begins_activating most wanted after goal (goals goal refl (may.planned wanted suits)) (own_after may) first patience same (active goal refl (goals goal refl (may.planned wanted suits)))), λ e. goals goal refl)
-  work_own woken patience same (Provision goal) work goals active = inr ((λ may. begins_provisioning most wanted after goal (goals goal refl (may.planned wanted suits)) (own_after may) first patience same), λ e. goals goal refl)
+  work_own : (woken requested : Bool) (patience : Patience) → patience ≡ patience_for first.image → (decision : Decision) → IsWork decision → ((goal : Goal) → named decision ≡ Some goal → IsPlanned (conventions_of wanted) first → IsOwnGoal most wanted after goal)
+      → ((goal : Goal) → decision ≡ Activate goal → IsOwnGoal most wanted after goal → active_bytes after ≡ goal.control) → OwnTurn most wanted first after (decided woken requested patience decision)
+  work_own woken requested patience same (Leave reason) work goals active = absurd work
+  work_own woken requested patience same Wake work goals active = absurd work
+  work_own woken requested patience same Sleep work goals active = absurd work
+  work_own woken requested patience same (Hold goal) work goals active = inl tt
+  work_own woken requested patience same (Activate goal) work goals active = inr ((λ may. begins_activating most wanted after goal (goals goal refl (may.planned wanted suits)) (own_after may) first patience same (active goal refl (goals goal refl (may.planned wanted suits)))), λ e. goals goal refl)
+  work_own woken requested patience same (Provision goal) work goals active = inr ((λ may. begins_provisioning most wanted after goal (goals goal refl (may.planned wanted suits)) (own_after may) first patience same), λ e. goals goal refl)
 
   -- the control bytes that are active stay those of a plan
   planned_after : KeepsLanes first after → IsPlanned (conventions_of wanted) first → IsPlanned (conventions_of wanted) after
@@ -132,9 +132,9 @@ module _ (most : ℕ) (sim : SimModule) (has : HasHalves sim) (whole : AreWhole 
         active = keeps.active ∙ planned.active ∙ ap (λ (advert : Advertised). control_bytes advert planned.paths) (sym advert);
       }
 
-  wakes_own : (woken : Bool) (patience : Patience) → patience ≡ patience_for sim.image → IsSteady most after → KeepsLanes first after → (woken ≡ true → ⊥) → OwnTurn most wanted first after (decided woken patience Wake)
-  wakes_own true patience same steady spares never = absurd (never refl)
-  wakes_own false patience same steady spares never = inr ((subst (λ (patience : Patience). IsOwnWaking most (begun_waking patience) after) (sym same) (waking_begins most sim.image after awaited steady), spares), λ e. tt)
+  wakes_own : (woken requested : Bool) (patience : Patience) → patience ≡ patience_for sim.image → IsSteady most after → KeepsLanes first after → (woken ≡ true → ⊥) → OwnTurn most wanted first after (decided woken requested patience Wake)
+  wakes_own true requested patience same steady spares never = absurd (never refl)
+  wakes_own false requested patience same steady spares never = inr ((subst (λ (patience : Patience). IsOwnWaking most (begun_waking patience) after) (sym same) (waking_begins most sim.image after awaited steady), spares), λ e. tt)
 
   module _ (woken : Bool) (job : Patient (OnPage Halves)) (r : IsOwnReading most woken job sim) (spares : KeepsLanes first sim) (asks : asked (jobs.Reading job woken) ≡ Some op) where
     abbrev next : Patient (OnPage Halves)
@@ -162,15 +162,15 @@ module _ (most : ℕ) (sim : SimModule) (has : HasHalves sim) (whole : AreWhole 
     shows_after : (lanes : HasLanes halves.image sim) (lane : ℕ) → IsLane lane → active_at lanes.page lane ≡ at_lane (active_bytes after) lane
     shows_after lanes lane within = lanes.shows.active lane within ∙ ap (λ (bytes : List ℕ). at_lane bytes lane) (spares.active ∙ sym spares_on.active)
 
-    good_own : (decision : Decision) (all : 5 ≤ halves.settled) (lanes : HasLanes halves.image sim) → IsGood sim wanted suits_here halves.image (image_whole all) lanes decision → OwnTurn most wanted first after (decided woken (patience_for halves.image) decision)
-    good_own decision all lanes (inl w) = work_own woken (patience_for halves.image) (patience_same sim.image halves.image (image_whole all) ∙ ap patience_for same_image) decision w.work (λ goal is planned.
+    good_own : (decision : Decision) (all : 5 ≤ halves.settled) (lanes : HasLanes halves.image sim) → IsGood sim wanted suits_here halves.image (image_whole all) lanes decision → OwnTurn most wanted first after (decided woken (is_low_power_requested halves.image) (patience_for halves.image) decision)
+    good_own decision all lanes (inl w) = work_own woken _ (patience_for halves.image) (patience_same sim.image halves.image (image_whole all) ∙ ap patience_for same_image) decision w.work (λ goal is planned.
         let advert : read_by (conventions_of wanted) sim ≡ read_by (conventions_of wanted) after = ap (advertised_under (conventions_of wanted)) (sym (image_kept op sim)) in
         let has_goal = subst (λ (advert : Advertised). HasGoal (with_active (active_in halves.image) advert) wanted lanes.page goal) advert (w.goals goal is) in
         own_goal most wanted after (active_in halves.image) lanes.page goal has_goal (planned_after spares_on planned)
         (shows_after lanes) (halves_ticked (passed_on conduct op sim).1 (halves_passed op sim has)) now.steady (now.tells.ready (omega (arith, all)) w.ready).0) (λ goal is own. all_active most wanted after goal own lanes.page (shows_after lanes) (w.all goal is))
     good_own decision all lanes (inr (wakes, not_ready)) =
-        subst (λ (decision : Decision). OwnTurn most wanted first after (decided woken (patience_for halves.image) decision)) (sym wakes)
-        (wakes_own woken (patience_for halves.image) (patience_same sim.image halves.image (image_whole all)) now.steady spares_on (λ is. not_ready (now.tells.read is (omega (arith, all)))))
+        subst (λ (decision : Decision). OwnTurn most wanted first after (decided woken (is_low_power_requested halves.image) (patience_for halves.image) decision)) (sym wakes)
+        (wakes_own woken _ (patience_for halves.image) (patience_same sim.image halves.image (image_whole all)) now.steady spares_on (λ is. not_ready (now.tells.read is (omega (arith, all)))))
 
     ended : (spent : Spent (Timed (Unit {0}))) (turn : Turn) → reading_wants next ≡ End spent → IsRead wanted woken halves.image spent.end turn → OwnTurn most wanted first after turn
     ended spent turn e is =

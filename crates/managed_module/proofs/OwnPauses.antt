@@ -138,14 +138,14 @@ going_brief : (longest : ℕ) (pause : Option ℕ) (job : Job) → IsBriefJob lo
 going_brief longest None job brief few = (brief, tt)
 going_brief longest (Some time) job brief few = (brief, few time refl)
 
-decided_brief : (longest : ℕ) (woken : Bool) (patience : Patience) (decision : Decision) → patience.pause ≤ longest → IsBrief longest (decided woken patience decision)
-decided_brief longest woken patience (Leave reason) few = tt
-decided_brief longest true patience Wake few = tt
-decided_brief longest false patience Wake few = (few, tt)
-decided_brief longest woken patience Sleep few = (few, tt)
-decided_brief longest woken patience (Hold goal) few = (few, tt)
-decided_brief longest woken patience (Activate goal) few = (few, tt)
-decided_brief longest woken patience (Provision goal) few = (few, tt)
+decided_brief : (longest : ℕ) (woken requested : Bool) (patience : Patience) (decision : Decision) → patience.pause ≤ longest → IsBrief longest (decided woken requested patience decision)
+decided_brief longest woken requested patience (Leave reason) few = tt
+decided_brief longest true requested patience Wake few = tt
+decided_brief longest false requested patience Wake few = (few, tt)
+decided_brief longest woken requested patience Sleep few = (few, tt)
+decided_brief longest woken requested patience (Hold goal) few = (few, tt)
+decided_brief longest woken requested patience (Activate goal) few = (few, tt)
+decided_brief longest woken requested patience (Provision goal) few = (few, tt)
 
 -- what a reading that ends has read asks for no longer pause
 abbrev pub ReadsBrief : ℕ → Job → Reply → Type 0
@@ -158,7 +158,7 @@ ReadsBrief longest (jobs.Confirming job) reply = Unit {0}
 ReadsBrief longest (jobs.Watching job) reply = Unit {0}
 
 follows_brief : (longest : ℕ) (wanted : Wanted) (job : Job) (reply : Reply) → pause_for finmap.empty ≤ longest → IsBriefJob longest job → ReadsBrief longest job reply → Follows (IsBrief longest) wanted job reply
-follows_brief longest wanted (jobs.Reading job woken) reply first brief reads = λ decision whole judged. decided_brief longest woken (patience_for (reading_after job reply).conversation.conversation.conversation.image) decision (reads whole)
+follows_brief longest wanted (jobs.Reading job woken) reply first brief reads = λ decision whole judged. decided_brief longest woken _ (patience_for (reading_after job reply).conversation.conversation.conversation.image) decision (reads whole)
 follows_brief longest wanted (jobs.Waking job) reply first brief reads = (first, tt)
 follows_brief longest wanted (jobs.Sleeping job) reply first brief reads = tt
 follows_brief longest wanted (jobs.Provisioning job goal) reply first brief reads = (later_brief longest (jobs.Provisioning job goal) reply brief, tt)

@@ -1,11 +1,9 @@
 -- What a module's states and statuses tell of a task of a plan of its own: no fault.
-use Rattle.std.proofs.Common.{◌≡◌, inl, inr, ℕ, ◌+◌, ◌%◌, ◌&&◌, ◌||◌, ◌==◌, not, Bool, true, false, List, Option, Some, None, refl, sym, ap, subst, ◌∙◌, arith}
+use Rattle.std.proofs.Common.{◌≡◌, inl, inr, ℕ, ◌+◌, ◌%◌, ◌&&◌, Bool, true, false, List, Option, Some, None, refl, sym, ap, subst, ◌∙◌, arith}
 use Rattle.std.specs.FinSet as set
 use Rattle.std.specs.FinSet.{contains-empty}
 use Rattle.std.specs.Ordering.{nat_cmp}
-use Rattle.std.proofs.lemmas.Bool.{eqb-true}
 use Rattle.field_tables.specs.LaneSets.{IsLane, Lanes}
-use Rattle.field_tables.proofs.TrueTests.{in_range}
 use Rattle.datapath_states.specs.StateCodes.{code_of}
 use Rattle.datapath_states.specs.StatusCodes.{status_code_of}
 use Rattle.datapath_states.specs.declared.state.PathState.{PathState}

@@ -60,17 +60,17 @@ begun_asks woken = (Fetch A0 0 128, ap first_asked (asked_of_nothing everything)
 
 -- ---- after a turn
 
-decided_asks : (woken : Bool) (patience : Patience) (decision : Decision) → IfOn (decided woken patience decision) Asks
-decided_asks woken patience (Leave reason) = tt
-decided_asks true patience Wake = tt
-decided_asks false patience Wake = (_, refl)
-decided_asks woken patience Sleep = (_, refl)
-decided_asks woken patience (Hold goal) = (_, refl)
-decided_asks woken patience (Activate goal) = (_, refl)
-decided_asks woken patience (Provision goal) = (_, refl)
+decided_asks : (woken requested : Bool) (patience : Patience) (decision : Decision) → IfOn (decided woken requested patience decision) Asks
+decided_asks woken requested patience (Leave reason) = tt
+decided_asks true requested patience Wake = tt
+decided_asks false requested patience Wake = (_, refl)
+decided_asks woken requested patience Sleep = (_, refl)
+decided_asks woken requested patience (Hold goal) = (_, refl)
+decided_asks woken requested patience (Activate goal) = (_, refl)
+decided_asks woken requested patience (Provision goal) = (_, refl)
 
 follows_asks : (wanted : Wanted) (job : Job) (reply : Reply) → Follows (λ turn. IfOn turn Asks) wanted job reply
-follows_asks wanted (jobs.Reading job woken) reply = λ decision whole judged. decided_asks woken _ decision
+follows_asks wanted (jobs.Reading job woken) reply = λ decision whole judged. decided_asks woken _ _ decision
 follows_asks wanted (jobs.Waking job) reply = begun_asks true
 follows_asks wanted (jobs.Sleeping job) reply = tt
 follows_asks wanted (jobs.Provisioning job goal) reply = (_, refl)

@@ -1,6 +1,6 @@
 -- What came up was found as it is wanted: by the look after activation, or by a reading.
 use Rattle.std.proofs.Common.{◌≡◌, ◌⊎◌, inl, inr, ℕ, Bool, true, false, List, [], ◌∷◌, Option, Some, None, refl, sym, ap, subst, ◌∙◌}
-use Rattle.std.specs.Prelude.{◌&&◌, ◌==◌, MatchOption, if◌then◌else◌, not, slice_index}
+use Rattle.std.specs.Prelude.{◌&&◌, ◌==◌, MatchOption, if◌then◌else◌, slice_index}
 use Rattle.std.proofs.lemmas.Bool.{and_parts}
 use Rattle.applications.specs.declared.fault.AdvertFault.{AdvertFault}
 use Rattle.applications.specs.Refusals.{advert_fault_under}
@@ -9,7 +9,7 @@ use Rattle.bus_model.specs.declared.operation.Reply.{Reply}
 use Rattle.bus_model.specs.declared.operation.Reply.TheVariants.{Bytes, Done, Refused}
 use Rattle.bus_model.specs.Operations.{Answers}
 use Rattle.conversations.specs.declared.next.Next.{Next}
-use Rattle.conversations.specs.declared.next.Next.TheVariants.{Do, Wait, End}
+use Rattle.conversations.specs.declared.next.Next.TheVariants.{Do, End}
 use Rattle.conversations.specs.declared.on_page.OnPage.{OnPage}
 use Rattle.conversations.specs.declared.pausing.Patience.{Patience}
 use Rattle.conversations.specs.declared.pausing.Timed.{Timed}
@@ -18,7 +18,6 @@ use Rattle.conversations.specs.declared.within.Spent.{Spent}
 use Rattle.conversations.specs.Pauses.{is_refused, next_pausing}
 use Rattle.conversations.specs.Selecting.{after_missing, lacked, told_lacked}
 use Rattle.conversations.specs.Wanted.{op_of}
-use Rattle.control_sets.specs.Durations.{patience_for}
 use Rattle.field_tables.specs.declared.field.Field.TheVariants.{CModuleState}
 use Rattle.field_tables.specs.FieldValues.{number_in_byte}
 use Rattle.field_tables.specs.Readings.{number}
@@ -46,20 +45,20 @@ use Rattle.port_manager.specs.declared.port.Stage.TheVariants as stages
 use Rattle.port_manager.specs.declared.request.Request.{Request}
 use Rattle.port_manager.specs.declared.times.Times.{Times}
 use Rattle.port_manager.specs.declared.turn.Note.TheVariants as notes
-use Rattle.port_manager.specs.CameUp.{CameUpAsWanted, IfCameUp, IfUp, IsFoundUp, IsLookedAt, IsReadUp, ShowsUp}
-use Rattle.port_manager.specs.Decisions.{IsDecision, IsDecisionFor, IsDecisionIn, IsJudged, has_no_plan, if_permitted, page_of_lanes, sleep_in, sleep_within, wake_within}
+use Rattle.port_manager.specs.CameUp.{CameUpAsWanted, IfCameUp, IfUp, IsFoundUp, IsLookedAt, ShowsUp}
+use Rattle.port_manager.specs.Decisions.{IsDecision, IsDecisionFor, IsDecisionIn, IsJudged, has_no_plan, if_permitted, page_of_lanes, sleep_in, sleep_within}
 use Rattle.port_manager.specs.Flags.{no_flags}
 use Rattle.port_manager.specs.Goals.{are_up, conventions_of, has_all, may_activate, may_provision}
-use Rattle.port_manager.specs.Jobs.{IsReplyTo, asked, look_after, look_wants, paged_look, reading_after, reading_wants, watching}
+use Rattle.port_manager.specs.Jobs.{IsReplyTo, asked, look_after, look_wants, paged_look, watching}
 use Rattle.port_manager.specs.Looks as looks
 use Rattle.port_manager.specs.Patients.{Patient, after_on, wants_on}
 use Rattle.port_manager.specs.Ports.{IfWorking, IsAwaitedBy, IsRestartedIn, IsTakenBy, IsTurnedIn, absent, asked_in, awaited, outcome_of}
-use Rattle.port_manager.specs.Readings.{IsJustRead, IsWhole, RestsIn}
+use Rattle.port_manager.specs.Readings.{IsJustRead, RestsIn}
 use Rattle.port_manager.specs.Requests.{granted}
 use Rattle.port_manager.specs.Runs.{Becomes, Reaches, Runs}
 use Rattle.port_manager.specs.Standing.{IsAt, IsFounded, IsNamed, UnlessStale}
 use Rattle.port_manager.specs.Stories.{Event, Story, acknowledge, ask, demand, drop, hear, hold, make, plug, pull, reconsider, request_in, step_with, steps_of}
-use Rattle.port_manager.specs.Turns.{GoesTo, IsTurnOf, Turn, UnlessApplyRefused, decided, going, seen}
+use Rattle.port_manager.specs.Turns.{IsTurnOf, Turn, UnlessApplyRefused, decided, going, seen}
 use Rattle.port_manager.specs.Turns as turns
 use Rattle.port_manager.proofs.PatientLaws.{asked_on, doubting_if, kept_within, never_waits, on_ends, paged_never, pausing_ends, trusting_if, within_ends}
 use Rattle.port_manager.proofs.StoryLaws.{reaches_at}
@@ -229,18 +228,18 @@ module _ (before : Story) (op : Op) (reply : Reply) (wanted : Wanted) where
   going_up None job = tt
   going_up (Some time) job = tt
 
-  decided_up : (image : Memory) (woken : Bool) (patience : Patience) (decision : Decision) → IsJustRead (step_with op reply ∷ steps_of before) image → IfHold decision (IsUpIn image) → IsUpTurn (decided woken patience decision)
-  decided_up image woken patience (Leave reason) read shown = tt
-  decided_up image true patience Wake read shown = tt
-  decided_up image false patience Wake read shown = tt
-  decided_up image woken patience Sleep read shown = tt
-  decided_up image woken patience (Hold goal) read shown = (goal, patience, refl, inr (image, read, shown.0, shown.1, shown.2))
-  decided_up image woken patience (Activate goal) read shown = tt
-  decided_up image woken patience (Provision goal) read shown = tt
+  decided_up : (image : Memory) (woken requested : Bool) (patience : Patience) (decision : Decision) → IsJustRead (step_with op reply ∷ steps_of before) image → IfHold decision (IsUpIn image) → IsUpTurn (decided woken requested patience decision)
+  decided_up image woken requested patience (Leave reason) read shown = tt
+  decided_up image true requested patience Wake read shown = tt
+  decided_up image false requested patience Wake read shown = tt
+  decided_up image woken requested patience Sleep read shown = tt
+  decided_up image woken requested patience (Hold goal) read shown = (goal, patience, refl, inr (image, read, shown.0, shown.1, shown.2))
+  decided_up image woken requested patience (Activate goal) read shown = tt
+  decided_up image woken requested patience (Provision goal) read shown = tt
 
   follows_up : (job : Job) → ((look : Patient (OnPage Look)) → job ≡ jobs.Confirming look → ⊥) → Answers op reply → asked job ≡ Some op → IsFounded (steps_of before) job → Follows IsUpTurn wanted job reply
   follows_up (jobs.Reading job woken) other answers asks of = λ decision whole judged.
-      decided_up _ woken _ decision (just_read (steps_of before) op reply job of asks answers whole) (decision_shown wanted _ decision judged)
+      decided_up _ woken _ _ decision (just_read (steps_of before) op reply job of asks answers whole) (decision_shown wanted _ decision judged)
   follows_up (jobs.Waking job) other answers asks of = tt
   follows_up (jobs.Sleeping job) other answers asks of = tt
   follows_up (jobs.Provisioning job goal) other answers asks of = tt

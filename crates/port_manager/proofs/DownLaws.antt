@@ -4,7 +4,6 @@ use Rattle.std.proofs.lemmas.Bool.{cases_Bool, eqb-true}
 use Rattle.std.specs.Cmp.{nat_cmp_total}
 use Rattle.std.specs.FinSet as set
 use Rattle.std.specs.FinSet.{contains-empty, contains-intersection, empty_of_len}
-use Rattle.std.specs.List.{list_any}
 use Rattle.std.specs.Ordering.{nat_cmp}
 use Rattle.field_tables.specs.LaneSets.{Lanes, every_lane, is_disjoint}
 use Rattle.applications.specs.Advertised.{Advertised}

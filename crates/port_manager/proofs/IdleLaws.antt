@@ -78,15 +78,15 @@ Watches (turns.Paused job time) = IsWatching job
 Watches (turns.Failed fault) = ⊥
 Watches (turns.Left reason) = ⊥
 
-held_watches : (woken : Bool) (patience : Patience) (decision : Decision) (turn : Turn) → IsHolding decision → turn ≡ decided woken patience decision → Watches turn
-held_watches woken patience decision turn (goal, is) leads = subst Watches (sym (leads ∙ ap (decided woken patience) is)) tt
+held_watches : (woken requested : Bool) (patience : Patience) (decision : Decision) (turn : Turn) → IsHolding decision → turn ≡ decided woken requested patience decision → Watches turn
+held_watches woken requested patience decision turn (goal, is) leads = subst Watches (sym (leads ∙ ap (decided woken requested patience) is)) tt
 
 ended_watches : (wanted : Wanted) (woken : Bool) (after : Patient (OnPage Halves)) (next : Next (Spent (Timed (Unit {0})))) (pause : Option ℕ) (turn : Turn) → IsWhole next
     → IsUp wanted after.conversation.conversation.conversation.image
     → GoesTo next pause (jobs.Reading after woken) (λ end turn. IsRead wanted woken after.conversation.conversation.conversation.image end turn) turn → Watches turn
 ended_watches wanted woken after next pause turn (steps, ends) up is =
     let (decision, judged, leads) = subst (λ (next : Next (Spent (Timed (Unit {0})))). GoesTo next pause (jobs.Reading after woken) (λ end turn. IsRead wanted woken after.conversation.conversation.conversation.image end turn) turn) ends is in
-    held_watches woken (patience_for after.conversation.conversation.conversation.image) decision turn (holds wanted after.conversation.conversation.conversation.image decision up judged) leads
+    held_watches woken _ (patience_for after.conversation.conversation.conversation.image) decision turn (holds wanted after.conversation.conversation.conversation.image decision up judged) leads
 
 reading_watches : (wanted : Wanted) (woken : Bool) (job : Patient (OnPage Halves)) (reply : Reply) (turn : Turn) → IsWhole (reading_wants (reading_after job reply)) → IsUp wanted (reading_after job reply).conversation.conversation.conversation.image
     → IsAnyTurn wanted (jobs.Reading job woken) reply turn → Watches turn

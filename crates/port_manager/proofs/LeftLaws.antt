@@ -26,7 +26,7 @@ use Rattle.control_sets.specs.OutcomeCodes.{module_code}
 use Rattle.control_sets.specs.OutcomeOperations.{read_module_state}
 use Rattle.control_sets.specs.PowerControls.{read_controls, set_controls, wanted_controls}
 use Rattle.control_sets.specs.PowerProgress.{PatientPower, change_after, judged_power, moved_to, operation_at, power_wants, stage_after, stage_judged, wants_by}
-use Rattle.control_sets.specs.Progress.{after_reply, hand, judged_at, list_at, task_at, tasks_of, told_at}
+use Rattle.control_sets.specs.Progress.{hand, judged_at, list_at, task_at, tasks_of, told_at}
 use Rattle.control_sets.specs.Progress as progress
 use Rattle.control_sets.specs.Tasks.{operation}
 use Rattle.field_tables.specs.declared.field.Field.TheVariants.{CModuleState}

@@ -1,5 +1,5 @@
 -- What is heard of a module is an event, and pulls it if it is silent.
-use Rattle.std.proofs.Common.{◌≡◌, ◌-◌, ◌<◌, ◌∷◌, ℕ, Bool, true, false, not, ◌&&◌, refl, sym, ap, subst, ◌∙◌, nat_lt}
+use Rattle.std.proofs.Common.{◌≡◌, ◌-◌, ◌<◌, ◌∷◌, ℕ, Bool, true, false, not, ◌&&◌, refl, sym, ap, ◌∙◌, nat_lt}
 use Rattle.std.specs.Prelude.{if◌then◌else◌}
 use Rattle.std.proofs.lemmas.Bool.{lt-ltb, ltb-true}
 use Rattle.port_manager.specs.declared.port.Port.{Port}
@@ -7,7 +7,7 @@ use Rattle.port_manager.specs.declared.silence.Presence.{Presence}
 use Rattle.port_manager.specs.declared.silence.Presence.TheVariants.{Same, Plugged, Pulled}
 use Rattle.port_manager.specs.declared.silence.Silence.{Silence}
 use Rattle.port_manager.specs.Ports.{heard_as, is_there, presence_by}
-use Rattle.port_manager.specs.Presences.{IsPulledBySilence, IsSilent, event_of}
+use Rattle.port_manager.specs.Presences.{IsPulledBySilence, event_of}
 use Rattle.port_manager.specs.Runs.{Becomes, Reaches}
 use Rattle.port_manager.specs.Silences.{after, is_gone}
 use Rattle.port_manager.specs.Stories.{Story, hear, silence_in}

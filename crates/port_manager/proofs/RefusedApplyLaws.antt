@@ -1,7 +1,6 @@
 -- A refused apply leads to a reading, in which none is stored.
-use Rattle.std.proofs.Common.{◌≡◌, ◌⊎◌, inl, inr, ℕ, Bool, true, false, [], ◌∷◌, Option, Some, None, refl, sym, ap, subst, ◌∙◌}
+use Rattle.std.proofs.Common.{◌≡◌, inl, inr, ℕ, Bool, true, false, [], ◌∷◌, Option, Some, None, refl, sym, ap, subst, ◌∙◌}
 use Rattle.std.specs.Prelude.{◌&&◌, not}
-use Rattle.bus_model.specs.declared.device.Dev.TheVariants.{A0, A2}
 use Rattle.bus_model.specs.declared.operation.Op.{Op}
 use Rattle.bus_model.specs.declared.operation.Op.TheVariants.{Fetch, Store}
 use Rattle.bus_model.specs.declared.operation.Reply.{Reply}

@@ -4,7 +4,6 @@ use Rattle.std.specs.Prelude.{◌||◌, ◌==◌, MatchOption, if◌then◌else�
 use Rattle.std.specs.FinSet as set
 use Rattle.applications.specs.declared.fault.AdvertFault.{AdvertFault}
 use Rattle.applications.specs.Refusals.{advert_fault_under}
-use Rattle.bus_model.specs.declared.operation.Op.{Op}
 use Rattle.bus_model.specs.declared.operation.Reply.{Reply}
 use Rattle.conversations.specs.declared.pausing.Patience.{Patience}
 use Rattle.field_tables.specs.declared.field.Field.TheVariants.{CModuleState}
@@ -36,8 +35,8 @@ use Rattle.port_manager.specs.Jobs.{asked}
 use Rattle.port_manager.specs.Ports.{IfWorking, IsTakenBy, IsTurnedIn, answered, asked_for, begun_in, is_there, noting, reconsidered_by, request_after, turned}
 use Rattle.port_manager.specs.Progress.{IsGoing, IsGoingOn, IsUpStage, made_in, paused_in}
 use Rattle.port_manager.specs.Requests.{ended, granted, is_sleep}
-use Rattle.port_manager.specs.Runs.{Becomes, Runs}
-use Rattle.port_manager.specs.Stories.{Event, Story, acknowledge, ask, demand, drop, hear, hold, make, plug, pull, reconsider}
+use Rattle.port_manager.specs.Runs.{Runs}
+use Rattle.port_manager.specs.Stories.{Story, acknowledge, ask, demand, drop, hear, hold, make, plug, pull, reconsider}
 use Rattle.port_manager.specs.Turns.{decided}
 use Rattle.port_manager.proofs.TurnCases.{Follows, IsAnyTurn, later, pause_of, turn_all}
 use Rattle.port_manager.proofs.TurnLaws.{IfOn, on_going}
@@ -85,13 +84,13 @@ IsResting (jobs.Activating job goal) = ⊥
 IsResting (jobs.Confirming job) = ⊥
 IsResting (jobs.Watching job) = ⊥
 
-decided_rests : (woken : Bool) (patience : Patience) (decision : Decision) → Rests decision → IfOn (decided woken patience decision) IsResting
-decided_rests woken patience (Leave reason) rests = tt
-decided_rests woken patience Wake rests = absurd rests
-decided_rests woken patience Sleep rests = tt
-decided_rests woken patience (Hold goal) rests = absurd rests
-decided_rests woken patience (Activate goal) rests = absurd rests
-decided_rests woken patience (Provision goal) rests = absurd rests
+decided_rests : (woken requested : Bool) (patience : Patience) (decision : Decision) → Rests decision → IfOn (decided woken requested patience decision) IsResting
+decided_rests woken requested patience (Leave reason) rests = tt
+decided_rests woken requested patience Wake rests = absurd rests
+decided_rests woken requested patience Sleep rests = tt
+decided_rests woken requested patience (Hold goal) rests = absurd rests
+decided_rests woken requested patience (Activate goal) rests = absurd rests
+decided_rests woken requested patience (Provision goal) rests = absurd rests
 
 later_rests : (job : Job) (reply : Reply) → IsResting job → IsResting (later job reply)
 later_rests (jobs.Reading job woken) reply rests = tt
@@ -103,7 +102,7 @@ later_rests (jobs.Confirming job) reply rests = absurd rests
 later_rests (jobs.Watching job) reply rests = absurd rests
 
 follows_rests : (wanted : Wanted) (job : Job) (reply : Reply) → wanted.asleep ≡ true → IsResting job → Follows (λ turn. IfOn turn IsResting) wanted job reply
-follows_rests wanted (jobs.Reading job woken) reply asleep rests = λ decision whole judged. decided_rests woken _ decision (decision_rests wanted _ decision asleep judged)
+follows_rests wanted (jobs.Reading job woken) reply asleep rests = λ decision whole judged. decided_rests woken _ _ decision (decision_rests wanted _ decision asleep judged)
 follows_rests wanted (jobs.Waking job) reply asleep rests = absurd rests
 follows_rests wanted (jobs.Sleeping job) reply asleep rests = tt
 follows_rests wanted (jobs.Provisioning job goal) reply asleep rests = absurd rests

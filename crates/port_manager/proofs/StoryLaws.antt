@@ -30,7 +30,7 @@ use Rattle.port_manager.specs.declared.request.Request.{Request}
 use Rattle.port_manager.specs.declared.silence.Silence.{Silence}
 use Rattle.port_manager.specs.Requests.{ended, granted}
 use Rattle.port_manager.specs.Silences as silences
-use Rattle.port_manager.specs.Ports.{acknowledged_to, asked_for, request_after, silent, IfWorking, IsAwaitedBy, IsRestartedIn, IsTakenBy, IsTurnedIn, absent, answered, asked_in, asking, awaited, begun_in, forsaken, holding, is_vain, next_at, next_in, next_of, next_when, noted_of, noting, outcome_of, plugged, pulled, reconsidered, reconsidered_by, restarted, turned, vain_after, is_apply_refused, is_settled_by}
+use Rattle.port_manager.specs.Ports.{acknowledged_to, asked_for, request_after, silent, IfWorking, IsAwaitedBy, IsRestartedIn, IsTakenBy, IsTurnedIn, absent, answered, asked_in, asking, awaited, begun_in, forsaken, holding, is_vain_after, next_at, next_in, next_of, next_when, noted_of, noting, outcome_of, plugged, pulled, reconsidered, reconsidered_by, restarted, turned, vain_after, is_apply_refused, is_settled_by}
 use Rattle.port_manager.specs.Runs.{Becomes, Reaches, Runs}
 use Rattle.port_manager.specs.Stories.{Event, Story, ask, drop, keeper_in, make, outstanding_in, plug, pull, reconsider, acknowledge, request_in, settled_in, staled, step_with, steps_of, hold, demand, hear, held_in}
 use Rattle.port_manager.specs.Readings.{GivesActivation, GivesGoal, GivesProvisioning, GivesSleep, GivesWaking, SinceRead}
@@ -410,7 +410,7 @@ module _ (story : Story) (port : Port) (job : Job) (op : Op) (reply : Reply) (wa
         silence = w.at.silence;
         apply_refused = ap (λ (refused : Bool). refused || is_apply_refused why) w.at.apply_refused;
         founded = begun_founded (step_with op reply ∷ steps_of story) (vain_after port why);
-        vain = ap (λ (vain : Bool). vain || is_vain why) w.at.vain;
+        vain = ap (is_vain_after why) w.at.vain;
         tame = if_itself (vain_after port why);
         settled = tt;
         kept = noted_is;

@@ -43,7 +43,7 @@ use Rattle.port_manager.specs.Looks as looks
 use Rattle.port_manager.specs.Patients.{Patient, after_on, pause_after, wants_on}
 use Rattle.port_manager.specs.Readings.{IsWhole}
 use Rattle.port_manager.specs.RefusedApplies.{is_refused_apply}
-use Rattle.port_manager.specs.Turns.{GoesTo, IsRead, IsTurn, IsTurnOf, UnlessApplyRefused, activated, decided, fault_in, going, provisioned, seen, slept, waking_fault, woken_up}
+use Rattle.port_manager.specs.Turns.{GoesTo, IsRead, IsTurn, IsTurnOf, UnlessApplyRefused, activated, decided, fault_in, going, is_low_power_requested, provisioned, seen, slept, waking_fault, woken_up}
 use Rattle.port_manager.proofs.PatientLaws.{NeverWaits, never_waits, paged_never}
 
 -- ---- none waits by itself
@@ -106,7 +106,7 @@ IsAnyTurn wanted job reply turn = (apply_refused : Bool) × IsTurn apply_refused
 abbrev pub Follows : (Turn → Type 0) → Wanted → Job → Reply → Type 0
 Follows Q wanted (Reading job woken) reply =
     let image = (reading_after job reply).conversation.conversation.conversation.image in
-    (decision : Decision) → IsWhole (reading_wants (reading_after job reply)) → IsDecision wanted image decision → Q (decided woken (patience_for image) decision)
+    (decision : Decision) → IsWhole (reading_wants (reading_after job reply)) → IsDecision wanted image decision → Q (decided woken (is_low_power_requested image) (patience_for image) decision)
 Follows Q wanted (Waking job) reply = Q (On (reading true) note.Woken)
 Follows Q wanted (Sleeping job) reply = Q (Left Asleep)
 Follows Q wanted (Provisioning job goal) reply = Q (On (activating goal (procedure_after job reply).conversation.patience) note.Provisioned)
@@ -146,7 +146,7 @@ module _ (Q : Turn → Type 0) (failed : (why : PortFault) → Q (Failed why)) w
   after_look goal patience noted (Some (InTime false)) q = failed fault.Changed
 
   after_reading : (wanted : Wanted) (woken : Bool) (later : Patient (OnPage Halves)) (steps : ℕ) (end : Option (Timed (Unit {0}))) (turn : Turn)
-      → ((decision : Decision) → IsWhole (reading_wants later) → IsDecision wanted later.conversation.conversation.conversation.image decision → Q (decided woken (patience_for later.conversation.conversation.conversation.image) decision))
+      → ((decision : Decision) → IsWhole (reading_wants later) → IsDecision wanted later.conversation.conversation.conversation.image decision → Q (decided woken (is_low_power_requested later.conversation.conversation.conversation.image) (patience_for later.conversation.conversation.conversation.image) decision))
       → reading_wants later ≡ End (record { steps = steps; end = end }) → IsRead wanted woken later.conversation.conversation.conversation.image end turn → Q turn
   after_reading wanted woken later steps None turn q e is = subst Q (sym is) (failed fault.Unread)
   after_reading wanted woken later steps (Some Overdue) turn q e is = subst Q (sym is) (failed fault.Unread)

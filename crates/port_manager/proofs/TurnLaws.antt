@@ -12,7 +12,6 @@ use Rattle.applications.specs.declared.fault.AdvertFault.{AdvertFault}
 use Rattle.applications.specs.Refusals.{advert_fault_under}
 use Rattle.field_tables.specs.declared.field.Field.TheVariants.{CMaxPower, CModuleState}
 use Rattle.std.specs.FinSet as set
-use Rattle.field_tables.specs.LaneSets as lanes
 use Rattle.field_tables.specs.Readings.{number}
 use Rattle.paged_memory.specs.Images.{Memory}
 use Rattle.paged_memory.specs.PageAddressing.{History}
@@ -81,17 +80,17 @@ module _ (history : History) (op : Op) (reply : Reply) (answers : Answers op rep
   later_founded (Confirming job) asks of = tt
   later_founded (Watching job) asks of = tt
 
-decided_founded : (history : History) (woken : Bool) (patience : Patience) (decision : Decision) → IfOn (decided woken patience decision) (IsFounded history)
-decided_founded history woken patience (Leave reason) = tt
-decided_founded history true patience Wake = tt
-decided_founded history false patience Wake = tt
-decided_founded history woken patience Sleep = tt
-decided_founded history woken patience (Hold goal) = tt
-decided_founded history woken patience (Activate goal) = tt
-decided_founded history woken patience (Provision goal) = tt
+decided_founded : (history : History) (woken requested : Bool) (patience : Patience) (decision : Decision) → IfOn (decided woken requested patience decision) (IsFounded history)
+decided_founded history woken requested patience (Leave reason) = tt
+decided_founded history true requested patience Wake = tt
+decided_founded history false requested patience Wake = tt
+decided_founded history woken requested patience Sleep = tt
+decided_founded history woken requested patience (Hold goal) = tt
+decided_founded history woken requested patience (Activate goal) = tt
+decided_founded history woken requested patience (Provision goal) = tt
 
 follows_founded : (history : History) (wanted : Wanted) (job : Job) (reply : Reply) → Follows (λ turn. IfOn turn (IsFounded history)) wanted job reply
-follows_founded history wanted (Reading job woken) reply = λ decision whole judged. decided_founded history woken _ decision
+follows_founded history wanted (Reading job woken) reply = λ decision whole judged. decided_founded history woken _ _ decision
 follows_founded history wanted (Waking job) reply = begun_founded history true
 follows_founded history wanted (Sleeping job) reply = tt
 follows_founded history wanted (Provisioning job goal) reply = tt
@@ -124,16 +123,16 @@ later_tame (Activating job goal) reply tame = tt
 later_tame (Confirming job) reply tame = tt
 later_tame (Watching job) reply tame = tt
 
-decided_tame : (woken : Bool) (patience : Patience) (decision : Decision) → woken ≡ true → IfOn (decided woken patience decision) IsTame
-decided_tame woken patience (Leave reason) tame = tt
-decided_tame woken patience Wake tame = subst (λ (woken : Bool). IfOn (decided woken patience Wake) IsTame) (sym tame) tt
-decided_tame woken patience Sleep tame = tt
-decided_tame woken patience (Hold goal) tame = tt
-decided_tame woken patience (Activate goal) tame = tt
-decided_tame woken patience (Provision goal) tame = tt
+decided_tame : (woken requested : Bool) (patience : Patience) (decision : Decision) → woken ≡ true → IfOn (decided woken requested patience decision) IsTame
+decided_tame woken requested patience (Leave reason) tame = tt
+decided_tame woken requested patience Wake tame = subst (λ (woken : Bool). IfOn (decided woken requested patience Wake) IsTame) (sym tame) tt
+decided_tame woken requested patience Sleep tame = tt
+decided_tame woken requested patience (Hold goal) tame = tt
+decided_tame woken requested patience (Activate goal) tame = tt
+decided_tame woken requested patience (Provision goal) tame = tt
 
 follows_tame : (wanted : Wanted) (job : Job) (reply : Reply) → IsTame job → Follows (λ turn. IfOn turn IsTame) wanted job reply
-follows_tame wanted (Reading job woken) reply tame = λ decision whole judged. decided_tame woken _ decision tame
+follows_tame wanted (Reading job woken) reply tame = λ decision whole judged. decided_tame woken _ _ decision tame
 follows_tame wanted (Waking job) reply tame = absurd tame
 follows_tame wanted (Sleeping job) reply tame = tt
 follows_tame wanted (Provisioning job goal) reply tame = tt
@@ -169,17 +168,17 @@ settles_going true (Some time) job reply watches = later_watching job reply watc
 settles_going false None job reply watches = tt
 settles_going false (Some time) job reply watches = tt
 
-decided_settles : (before woken : Bool) (patience : Patience) (decision : Decision) → Settles before (decided woken patience decision)
-decided_settles before woken patience (Leave reason) = tt
-decided_settles before true patience Wake = tt
-decided_settles before false patience Wake = tt
-decided_settles before woken patience Sleep = tt
-decided_settles before woken patience (Hold goal) = tt
-decided_settles before woken patience (Activate goal) = tt
-decided_settles before woken patience (Provision goal) = tt
+decided_settles : (before woken requested : Bool) (patience : Patience) (decision : Decision) → Settles before (decided woken requested patience decision)
+decided_settles before woken requested patience (Leave reason) = tt
+decided_settles before true requested patience Wake = tt
+decided_settles before false requested patience Wake = tt
+decided_settles before woken requested patience Sleep = tt
+decided_settles before woken requested patience (Hold goal) = tt
+decided_settles before woken requested patience (Activate goal) = tt
+decided_settles before woken requested patience (Provision goal) = tt
 
 follows_settles : (before : Bool) (wanted : Wanted) (job : Job) (reply : Reply) → IfTrue before (IsWatching job) → Follows (Settles before) wanted job reply
-follows_settles before wanted (Reading job woken) reply watches = λ decision whole judged. decided_settles before woken _ decision
+follows_settles before wanted (Reading job woken) reply watches = λ decision whole judged. decided_settles before woken _ _ decision
 follows_settles before wanted (Waking job) reply watches = tt
 follows_settles before wanted (Sleeping job) reply watches = tt
 follows_settles before wanted (Provisioning job goal) reply watches = tt
@@ -267,14 +266,14 @@ module _ (story : Story) (op : Op) (reply : Reply) (wanted : Wanted) (now : ℕ)
   Given (Activate goal) = GivesActivation goal history wishes
   Given (Provision goal) = GivesProvisioning goal history wishes
 
-  decided_names : (woken : Bool) (patience : Patience) (decision : Decision) → Given decision → NamesNext (decided woken patience decision)
-  decided_names woken patience (Leave reason) given = tt
-  decided_names true patience Wake given = tt
-  decided_names false patience Wake given = (refl, given)
-  decided_names woken patience Sleep given = (refl, given)
-  decided_names woken patience (Hold goal) given = inl given
-  decided_names woken patience (Activate goal) given = (refl, given)
-  decided_names woken patience (Provision goal) given = (refl, given)
+  decided_names : (woken requested : Bool) (patience : Patience) (decision : Decision) → Given decision → NamesNext (decided woken requested patience decision)
+  decided_names woken requested patience (Leave reason) given = tt
+  decided_names true requested patience Wake given = tt
+  decided_names false requested patience Wake given = (refl, given)
+  decided_names woken requested patience Sleep given = (refl, given)
+  decided_names woken requested patience (Hold goal) given = inl given
+  decided_names woken requested patience (Activate goal) given = (refl, given)
+  decided_names woken requested patience (Provision goal) given = (refl, given)
 
   permits : (may : Bool) (decision : Decision) → (may ≡ true → Given decision) → Given (if_permitted may decision)
   permits true decision gives = gives refl
@@ -331,7 +330,7 @@ module _ (story : Story) (op : Op) (reply : Reply) (wanted : Wanted) (now : ℕ)
   gives image decision was is = gives_for wishes.asleep image decision refl was is
 
   follows_names : (job : Job) → Answers op reply → asked job ≡ Some op → IsFounded (steps_of story) job → IsNamed story job → Follows NamesNext wishes job reply
-  follows_names (Reading job woken) answers asks of named = λ decision whole judged. decided_names woken _ decision (gives _ decision (just_read (steps_of story) op reply job of asks answers whole) judged)
+  follows_names (Reading job woken) answers asks of named = λ decision whole judged. decided_names woken _ _ decision (gives _ decision (just_read (steps_of story) op reply job of asks answers whole) judged)
   follows_names (Waking job) answers asks of named = tt
   follows_names (Sleeping job) answers asks of named = tt
   follows_names (Provisioning job goal) answers asks of named = (refl, since_map (GivesProvisioning goal) (GivesActivation goal) (provisioned_activates goal) story named.1)

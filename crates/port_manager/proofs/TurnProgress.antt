@@ -87,26 +87,26 @@ later_nearer (jobs.Confirming job) op next reply not asks answers goes =
 later_nearer (jobs.Watching job) op next reply not asks answers goes = absurd (not tt)
 
 -- what follows a job is less than the job had left
-wakes_nearer : (before : ℕ) (patience : Patience) (woken : Bool) → 1 + after_reading woken ≤ before → IsNearer before (decided woken patience Wake)
-wakes_nearer before patience true few = tt
-wakes_nearer before patience false few = omega (arith, few)
+wakes_nearer : (before : ℕ) (patience : Patience) (woken requested : Bool) → 1 + after_reading woken ≤ before → IsNearer before (decided woken requested patience Wake)
+wakes_nearer before patience true requested few = tt
+wakes_nearer before patience false requested few = omega (arith, few)
 
 most_reading : (woken : Bool) → 36 ≤ after_reading woken
 most_reading true = omega arith
 most_reading false = omega arith
 
-decided_nearer : (before : ℕ) (woken : Bool) (patience : Patience) (decision : Decision) → 1 + after_reading woken ≤ before → IsNearer before (decided woken patience decision)
-decided_nearer before woken patience (Leave reason) few = tt
-decided_nearer before woken patience Wake few = wakes_nearer before patience woken few
-decided_nearer before woken patience Sleep few = omega (arith, few, most_reading woken)
-decided_nearer before woken patience (Hold goal) few = omega (arith, few)
-decided_nearer before woken patience (Activate goal) few = let is : left (activating goal patience) ≡ 14 = refl in omega (arith, is, few, most_reading woken)
-decided_nearer before woken patience (Provision goal) few = let is : left (provisioning goal patience) ≡ 36 = refl in omega (arith, is, few, most_reading woken)
+decided_nearer : (before : ℕ) (woken requested : Bool) (patience : Patience) (decision : Decision) → 1 + after_reading woken ≤ before → IsNearer before (decided woken requested patience decision)
+decided_nearer before woken requested patience (Leave reason) few = tt
+decided_nearer before woken requested patience Wake few = wakes_nearer before patience woken requested few
+decided_nearer before woken requested patience Sleep few = omega (arith, few, most_reading woken)
+decided_nearer before woken requested patience (Hold goal) few = omega (arith, few)
+decided_nearer before woken requested patience (Activate goal) few = let is : left (activating goal patience) ≡ 14 = refl in omega (arith, is, few, most_reading woken)
+decided_nearer before woken requested patience (Provision goal) few = let is : left (provisioning goal patience) ≡ 36 = refl in omega (arith, is, few, most_reading woken)
 
 follows_nearer : (wanted : Wanted) (job : Job) (op : Op) (reply : Reply) → ¬ (IsWatching job) → asked job ≡ Some op → Follows (IsNearer (left job)) wanted job reply
 follows_nearer wanted (jobs.Reading job woken) op reply not asks =
     let some = some_patient paged_halves left_of_halves halves_counted job op asks in
-    λ decision whole judged. decided_nearer (left (jobs.Reading job woken)) woken _ decision (omega (arith, some))
+    λ decision whole judged. decided_nearer (left (jobs.Reading job woken)) woken _ _ decision (omega (arith, some))
 follows_nearer wanted (jobs.Waking job) op reply not asks = omega (arith, begun_reading true, some_waking job op asks)
 follows_nearer wanted (jobs.Sleeping job) op reply not asks = tt
 follows_nearer wanted (jobs.Provisioning job goal) op reply not asks =

@@ -1,7 +1,7 @@
 -- A module is taken as woken up in vain only after it was told to wake up: until its global controls are stored, waking it can only be
 -- refused.
-use Rattle.std.proofs.Common.{◌≡◌, ◌⊎◌, inl, inr, ℕ, nat_lt, Bool, true, false, [], ◌∷◌, Option, Some, None, refl, sym, ap, subst, ◌∙◌}
-use Rattle.std.specs.Prelude.{◌||◌, ◌&&◌, not, if◌then◌else◌}
+use Rattle.std.proofs.Common.{◌≡◌, ◌⊎◌, inl, inr, ℕ, Bool, true, false, [], ◌∷◌, Option, Some, None, refl, sym, ap, subst, ◌∙◌}
+use Rattle.std.specs.Prelude.{◌&&◌, not}
 use Rattle.bus_model.specs.declared.operation.Op.{Op}
 use Rattle.bus_model.specs.declared.operation.Reply.{Reply}
 use Rattle.bus_model.specs.declared.operation.Reply.TheVariants.{Bytes, Done, Refused}
@@ -11,7 +11,6 @@ use Rattle.conversations.specs.declared.pausing.Patience.{Patience}
 use Rattle.conversations.specs.declared.pausing.Timed.{Timed}
 use Rattle.conversations.specs.declared.pausing.Timed.TheVariants.{InTime, Overdue}
 use Rattle.conversations.specs.declared.within.Spent.{Spent}
-use Rattle.conversations.specs.Budgets.{next_within}
 use Rattle.conversations.specs.Pauses.{next_pausing}
 use Rattle.control_sets.specs.declared.fault.ProvisionFault.{ProvisionFault}
 use Rattle.control_sets.specs.declared.fault.ProvisionFault.TheVariants.{GaveUp}
@@ -49,16 +48,16 @@ use Rattle.port_manager.specs.declared.turn.ProcedureFault.{ProcedureFault}
 use Rattle.port_manager.specs.declared.turn.ProcedureFault.TheVariants as why
 use Rattle.port_manager.specs.Flags.{no_flags}
 use Rattle.port_manager.specs.Jobs.{asked, look_after, look_wants, procedure_after, procedure_wants, reading, reading_after, reading_wants, waking_after, waking_wants}
-use Rattle.port_manager.specs.Ports.{IfWorking, IsRestartedIn, IsTakenBy, IsTurnedIn, absent, answered, awaited, begun_in, forsaken, is_vain, noting, outcome_of, reconsidered_by, turned, vain_after}
+use Rattle.port_manager.specs.Ports.{IfWorking, IsRestartedIn, IsTakenBy, IsTurnedIn, absent, answered, awaited, begun_in, forsaken, is_vain_after, noting, outcome_of, reconsidered_by, turned, vain_after}
 use Rattle.port_manager.specs.Requests.{granted}
 use Rattle.port_manager.specs.RefusedApplies.{is_refused_apply}
 use Rattle.port_manager.specs.Runs.{Becomes, Reaches, Runs}
 use Rattle.port_manager.specs.Standing.{IfTrue, IsAt, IsNamed, IsTame, UnlessStale}
 use Rattle.port_manager.specs.Stories.{Event, Story, acknowledge, ask, demand, drop, hear, hold, make, plug, pull, reconsider, vain_in}
-use Rattle.port_manager.specs.Turns.{GoesTo, IsRead, IsTurn, IsTurnOf, Turn, UnlessApplyRefused, activated, decided, fault_in, going, provisioned, seen, slept, waking_fault, woken_up}
+use Rattle.port_manager.specs.Turns.{GoesTo, IsRead, IsTurn, IsTurnOf, Turn, UnlessApplyRefused, activated, decided, fault_in, going, provisioned, seen, slept, unready, waking_fault, woken_up}
 use Rattle.port_manager.specs.Turns as turns
 use Rattle.port_manager.specs.Wakings.{TellsToWake, WasTold}
-use Rattle.port_manager.proofs.PatientLaws.{asked_within, kept_within}
+use Rattle.port_manager.proofs.PatientLaws.{asked_within, kept_within, pausing_ends, within_ends}
 use Rattle.port_manager.proofs.StoreLaws.{not_vain}
 use Rattle.port_manager.proofs.StoryLaws.{asks_job, asks_when, fresh, reaches_at, unless_at}
 use Rattle.port_manager.proofs.TurnCases.{pause_of}
@@ -109,50 +108,26 @@ TurnTells told wakes (turns.Paused job time) = IsTold told job
 TurnTells told wakes (turns.Failed fault) = Says told wakes fault
 TurnTells told wakes (turns.Left reason) = Unit {0}
 
-said_if_vain : (told wakes : Type 0) (fault : PortFault) → Says told wakes fault → IfTrue (is_vain fault) told
-said_if_vain told wakes faults.Asleep says = says
-said_if_vain told wakes (faults.Waking because) says = says
-said_if_vain told wakes faults.WakingRefused says = tt
-said_if_vain told wakes faults.Unread says = tt
-said_if_vain told wakes (faults.Sleeping because) says = tt
-said_if_vain told wakes (faults.Provisioning because) says = tt
-said_if_vain told wakes (faults.Activating because) says = tt
-said_if_vain told wakes faults.Unseen says = tt
-said_if_vain told wakes faults.Changed says = tt
-said_if_vain told wakes faults.ApplyRefused says = tt
+said_if_vain : (told wakes : Type 0) (fault : PortFault) (vain : Bool) → Says told wakes fault → IfTrue vain told → IfTrue (is_vain_after fault vain) told
+said_if_vain told wakes faults.Asleep vain says before = says
+said_if_vain told wakes (faults.Waking because) vain says before = says
+said_if_vain told wakes faults.Changed vain says before = tt
+said_if_vain told wakes faults.WakingRefused vain says before = before
+said_if_vain told wakes faults.Unread vain says before = before
+said_if_vain told wakes (faults.Sleeping because) vain says before = before
+said_if_vain told wakes (faults.Provisioning because) vain says before = before
+said_if_vain told wakes (faults.Activating because) vain says before = before
+said_if_vain told wakes faults.Unseen vain says before = before
+said_if_vain told wakes faults.ApplyRefused vain says before = before
+
+-- a module that was told to wake up, and isn't ready
+unready_told : (told : Type 0) (requested : Bool) → told → Says told ⊥ (unready requested)
+unready_told told true is = tt
+unready_told told false is = is
 
 more_if : (b : Bool) (P Q : Type 0) → (P → Q) → IfTrue b P → IfTrue b Q
 more_if true P Q more p = more p
 more_if false P Q more p = tt
-
-or_if : (a b : Bool) (P : Type 0) → IfTrue a P → IfTrue b P → IfTrue (a || b) P
-or_if true b P first second = first
-or_if false b P first second = second
-
--- ---- a conversation that ends in time ends as the one within it
-
-module _ {E : Type 0} where
-  within_ends : (steps limit : ℕ) (wanted : Next E) (spent : Spent E) (end : E) → next_within steps limit wanted ≡ End spent → spent.end ≡ Some end → wanted ≡ End end
-  within_ends steps limit (Do op) spent end e some = by (nat_lt steps limit) e where
-    by : (few : Bool) → ◌≡◌ {A = Next (Spent E)} (if few then Do op else End (record { steps = steps; end = None })) (End spent) → Do op ≡ End end
-    by true e = absurd cc
-    by false e =
-        let same : ◌≡◌ {A = Spent E} (record { steps = steps; end = None }) spent = cc in
-        absurd (let none : None ≡ Some end = ap (λ (s : Spent E). s.end) same ∙ some in cc)
-  within_ends steps limit (Wait time) spent end e some = absurd cc
-  within_ends steps limit (End other) spent end e some =
-      let same : ◌≡◌ {A = Spent E} (record { steps = steps; end = Some other }) spent = cc in
-      let one : Some other ≡ Some end = ap (λ (s : Spent E). s.end) same ∙ some in
-      let is : other ≡ end = cc in ap (λ (e : E). End e) is
-
-  pausing_ends : (due : Bool) (idle : ℕ) (patience : Patience) (wanted : Next E) (end : E) → next_pausing due idle patience wanted ≡ End (InTime end) → wanted ≡ End end
-  pausing_ends true idle patience (Do op) end e = by (nat_lt patience.limit idle) e where
-    by : (late : Bool) → ◌≡◌ {A = Next (Timed E)} (if late then End Overdue else Wait patience.pause) (End (InTime end)) → Do op ≡ End end
-    by true e = absurd cc
-    by false e = absurd cc
-  pausing_ends false idle patience (Do op) end e = absurd cc
-  pausing_ends due idle patience (Wait time) end e = absurd cc
-  pausing_ends due idle patience (End other) end e = let same : InTime other ≡ InTime end = cc in let is : other ≡ end = cc in ap (λ (e : E). End e) is
 
 ended_within : (job : PatientPower) (steps : ℕ) → waking_wants job ≡ End (record { steps = steps; end = Some (InTime None) }) → power_wants job.conversation.conversation ≡ End None
 ended_within job steps e =
@@ -232,19 +207,19 @@ module _ (before told : Type 0) (op : Op) (reply : Reply) (more : before → tol
   goes_or_ends wakes (Wait time) pause job Ended turn is ended leads = subst (TurnTells told wakes) (sym leads) (going_told wakes pause job is)
   goes_or_ends wakes (End spent) pause job Ended turn is ended leads = ended spent refl leads
 
-  decided_told : (woken : Bool) (patience : Patience) (decision : Decision) → IfTrue woken told → TurnTells told ⊥ (decided woken patience decision)
-  decided_told woken patience (Leave reason) is = tt
-  decided_told true patience Wake is = is
-  decided_told false patience Wake is = tt
-  decided_told woken patience Sleep is = tt
-  decided_told woken patience (Hold goal) is = tt
-  decided_told woken patience (Activate goal) is = tt
-  decided_told woken patience (Provision goal) is = tt
+  decided_told : (woken requested : Bool) (patience : Patience) (decision : Decision) → IfTrue woken told → TurnTells told ⊥ (decided woken requested patience decision)
+  decided_told woken requested patience (Leave reason) is = tt
+  decided_told true requested patience Wake is = unready_told told requested is
+  decided_told false requested patience Wake is = tt
+  decided_told woken requested patience Sleep is = tt
+  decided_told woken requested patience (Hold goal) is = tt
+  decided_told woken requested patience (Activate goal) is = tt
+  decided_told woken requested patience (Provision goal) is = tt
 
   read_told : (wanted : Wanted) (woken : Bool) (image : Memory) (end : Option (Timed (Unit {0}))) (turn : Turn) → IfTrue woken told → IsRead wanted woken image end turn → TurnTells told ⊥ turn
   read_told wanted woken image None turn is leads = subst (TurnTells told ⊥) (sym leads) tt
   read_told wanted woken image (Some Overdue) turn is leads = subst (TurnTells told ⊥) (sym leads) tt
-  read_told wanted woken image (Some (InTime end)) turn is (decision, judged, leads) = subst (TurnTells told ⊥) (sym leads) (decided_told woken (patience_for image) decision is)
+  read_told wanted woken image (Some (InTime end)) turn is (decision, judged, leads) = subst (TurnTells told ⊥) (sym leads) (decided_told woken _ (patience_for image) decision is)
 
   slept_told : (because : Option ProcedureFault) → TurnTells told ⊥ (slept because)
   slept_told None = tt
@@ -345,7 +320,7 @@ module _ (story : Story) (port : Port) (op : Op) (reply : Reply) (wanted : Wante
   turned_told job (turns.Paused after time) tells = record { vain = more_if port.vain (WasTold story) AfterIt (λ was. inr was) told.vain; job = tells }
   turned_told job (turns.Failed fault) tells =
       let vain : IfTrue (vain_after port fault) AfterIt =
-      or_if port.vain (is_vain fault) AfterIt (more_if port.vain (WasTold story) AfterIt (λ was. inr was) told.vain) (said_if_vain AfterIt (IsWaking job) fault tells) in
+      said_if_vain AfterIt (IsWaking job) fault port.vain tells (more_if port.vain (WasTold story) AfterIt (λ was. inr was) told.vain) in
       record { vain = vain; job = vain }
   turned_told job (turns.Left reason) tells = record { vain = more_if port.vain (WasTold story) AfterIt (λ was. inr was) told.vain; job = tt }
 
@@ -393,7 +368,7 @@ told_if_vain story port (times, ran) vain =
     let at = reaches_at story port (times, ran) in
     subst (λ (vain : Bool). IfTrue vain (WasTold story)) (at.vain ∙ vain) (runs_told times story port ran).vain
 
--- ---- a module that could not be told to wake up
+-- ---- a module that could not be told to wake up, or has changed since
 
 -- nothing is woken up that was woken up in vain
 untamed : (job : Job) → IsWaking job → IsTame job → ⊥
@@ -405,44 +380,54 @@ untamed (jobs.Activating job goal) wakes tame = absurd wakes
 untamed (jobs.Confirming job) wakes tame = absurd wakes
 untamed (jobs.Watching job) wakes tame = absurd wakes
 
-module _ (story : Story) (port : Port) (op : Op) (reply : Reply) (wanted : Wanted) (now moment : ℕ) (at : IsAt story port) (told : IsToldIn story port) where
-  abbrev refused : Outcome
-  refused = outcome.Failed faults.WakingRefused moment
+module _ (story : Story) (port : Port) (op : Op) (reply : Reply) (wanted : Wanted) (now moment : ℕ) (fault : PortFault) (again : (fault ≡ faults.WakingRefused) ⊎ (fault ≡ faults.Changed))
+    (at : IsAt story port) (told : IsToldIn story port) where
+  abbrev failed : Outcome
+  failed = outcome.Failed fault moment
 
-  failed_by : (turn : Turn) → refused ≡ outcome_of port turn now → turn ≡ turns.Failed faults.WakingRefused
+  failed_by : (turn : Turn) → failed ≡ outcome_of port turn now → turn ≡ turns.Failed fault
   failed_by (turns.On job note) gives = absurd (let same = gives in cc)
   failed_by (turns.Paused job time) gives = absurd (let same = gives in cc)
-  failed_by (turns.Failed fault) gives = let same : fault ≡ faults.WakingRefused = cc in ap (λ (fault : PortFault). turns.Failed fault) same
+  failed_by (turns.Failed other) gives = let same : other ≡ fault = cc in ap (λ (fault : PortFault). turns.Failed fault) same
   failed_by (turns.Left reason) gives = absurd (let same = gives in cc)
 
   never_vain : (job : Job) → port.stage ≡ stages.Working job → IsWaking job → port.vain ≡ false
   never_vain job works wakes =
       not_vain port.vain (more_if port.vain (IfWorking port.stage IsTame) ⊥ (λ tame. untamed job wakes (subst (λ (stage : Stage). IfWorking stage IsTame) works tame)) at.tame)
 
+  -- it isn't taken as woken up in vain
+  spared : (job : Job) → port.stage ≡ stages.Working job → Says (AfterIt story port op reply wanted now at told) (IsWaking job) fault → (fault ≡ faults.WakingRefused) ⊎ (fault ≡ faults.Changed)
+      → vain_after port fault ≡ false
+  spared job works says (inl refused) =
+      ap (λ (fault : PortFault). vain_after port fault) refused
+      ∙ never_vain job works (subst (Says (AfterIt story port op reply wanted now at told) (IsWaking job)) refused says)
+  spared job works says (inr changed) = ap (λ (fault : PortFault). vain_after port fault) changed
+
   abbrev IsAgain : Port → Type 0
   IsAgain after = (after.vain ≡ false) × (after.stage ≡ stages.Working (reading false))
 
   take_again : (o : Outstanding) (after : Port) → (o ≡ outstanding.Awaited) ⊎ (o ≡ outstanding.Stale) → port.outstanding ≡ o → awaited port ≡ Some op
-      → IsTakenBy o port reply wanted now refused after → IsAgain after
+      → IsTakenBy o port reply wanted now failed after → IsAgain after
   take_again outstanding.Nothing after (inl awaits) e asks is = absurd (let same = awaits in cc)
   take_again outstanding.Nothing after (inr stale) e asks is = absurd (let same = stale in cc)
   take_again outstanding.Forsaken after (inl awaits) e asks is = absurd (let same = awaits in cc)
   take_again outstanding.Forsaken after (inr stale) e asks is = absurd (let same = stale in cc)
   take_again outstanding.Awaited after waits e asks is =
       let (job, works, wants) = asks_job port.stage op asks in
-      let (turn, leads, gives, becomes) = subst (λ (stage : Stage). IsTurnedIn stage port reply wanted now refused after) works is in
-      let failed = failed_by turn gives in
-      let wakes = subst (TurnTells (AfterIt story port op reply wanted now at told) (IsWaking job)) failed (turn_tells story port op reply wanted now at told job turn e works wants leads) in
-      let same = never_vain job works wakes in
+      let (turn, leads, gives, becomes) = subst (λ (stage : Stage). IsTurnedIn stage port reply wanted now failed after) works is in
+      let fails = failed_by turn gives in
+      let says = subst (TurnTells (AfterIt story port op reply wanted now at told) (IsWaking job)) fails (turn_tells story port op reply wanted now at told job turn e works wants leads) in
+      let same = spared job works says again in
       subst IsAgain (sym becomes)
-      (subst (λ (turn : Turn). IsAgain (turned (noting (answered port) (asked job) reply now) turn now)) (sym failed)
-      (ap (λ (vain : Bool). vain || false) same, ap (λ (vain : Bool). stages.Working (reading (vain || false))) same))
+      (subst (λ (turn : Turn). IsAgain (turned (noting (answered port) (asked job) reply now) turn now)) (sym fails)
+      (same, ap (λ (vain : Bool). stages.Working (reading vain)) same))
   take_again outstanding.Stale after waits e asks is =
       let (job, works, wants) = asks_job port.stage op asks in
-      let (gives, becomes) = subst (λ (stage : Stage). IsRestartedIn stage port reply now refused after) works is in
-      absurd (let same : refused ≡ outcome.Dropped = gives in cc)
+      let (gives, becomes) = subst (λ (stage : Stage). IsRestartedIn stage port reply now failed after) works is in
+      absurd (let same : failed ≡ outcome.Dropped = gives in cc)
 
-pub told_again : (story : Story) (port : Port) (op : Op) (reply : Reply) (wanted : Wanted) (now moment : ℕ) → Reaches (make op reply wanted now (outcome.Failed faults.WakingRefused moment) ∷ story) port
+pub told_again : (story : Story) (port : Port) (op : Op) (reply : Reply) (wanted : Wanted) (now moment : ℕ) (fault : PortFault)
+    → Reaches (make op reply wanted now (outcome.Failed fault moment) ∷ story) port → (fault ≡ faults.WakingRefused) ⊎ (fault ≡ faults.Changed)
     → (port.vain ≡ false) × (port.stage ≡ stages.Working (reading false))
-told_again story port op reply wanted now moment (times, (between, ran, (waited, asks, answers, is))) =
-    take_again story between op reply wanted now moment (reaches_at story between (times, ran)) (runs_told times story between ran) between.outstanding port waited refl asks is
+told_again story port op reply wanted now moment fault (times, (between, ran, (waited, asks, answers, is))) again =
+    take_again story between op reply wanted now moment fault again (reaches_at story between (times, ran)) (runs_told times story between ran) between.outstanding port waited refl asks is

@@ -169,18 +169,18 @@ IsAwaited port reply = IsAwaitedBy port.outstanding port reply
 
 -- ---- the reply to an operation
 
--- a module was asked to wake up, and is not ready
-abbrev pub is_vain : PortFault → Bool
-is_vain faults.Asleep = true
-is_vain (faults.Waking why) = true
-is_vain faults.Unread = false
-is_vain (faults.Sleeping why) = false
-is_vain faults.Unseen = false
-is_vain (faults.Provisioning why) = false
-is_vain (faults.Activating why) = false
-is_vain faults.Changed = false
-is_vain faults.ApplyRefused = false
-is_vain faults.WakingRefused = false
+-- whether a module counts as woken up in vain after a failure: it was told to wake up and is not ready, unless it has changed since
+abbrev pub is_vain_after : PortFault → Bool → Bool
+is_vain_after faults.Asleep before = true
+is_vain_after (faults.Waking why) before = true
+is_vain_after faults.Changed before = false
+is_vain_after faults.Unread before = before
+is_vain_after (faults.Sleeping why) before = before
+is_vain_after faults.Unseen before = before
+is_vain_after (faults.Provisioning why) before = before
+is_vain_after (faults.Activating why) before = before
+is_vain_after faults.ApplyRefused before = before
+is_vain_after faults.WakingRefused before = before
 
 abbrev pub is_apply_refused : PortFault → Bool
 is_apply_refused faults.ApplyRefused = true
@@ -244,7 +244,7 @@ abbrev pub again : Port → ℕ → ℕ
 again port now = max port.due (later now port.back_off)
 
 abbrev pub vain_after : Port → PortFault → Bool
-vain_after port why = port.vain || is_vain why
+vain_after port why = is_vain_after why port.vain
 
 abbrev pub turned : Port → Turn → ℕ → Port
 turned port (turn.On job note) now = waiting (record port { stage = Working job }) note now

@@ -16,7 +16,7 @@ use Rattle.port_manager.specs.Flags.{acknowledged, no_flags, noted, unread}
 use Rattle.port_manager.specs.declared.request.Request.{Request}
 use Rattle.port_manager.specs.declared.request.Request.TheVariants.{Wake}
 use Rattle.port_manager.specs.declared.silence.Silence.{Silence}
-use Rattle.port_manager.specs.Ports.{forsaken, is_apply_refused, is_settled_by, is_vain, request_after}
+use Rattle.port_manager.specs.Ports.{forsaken, is_apply_refused, is_settled_by, is_vain_after, request_after}
 use Rattle.port_manager.specs.Requests.{ended}
 use Rattle.port_manager.specs.Silences as silences
 
@@ -108,7 +108,7 @@ abbrev pub vain_by : Outcome → Bool → Bool
 vain_by outcome.Dropped before = before
 vain_by (outcome.Went note) before = before
 vain_by (outcome.Paused moment) before = before
-vain_by (outcome.Failed fault moment) before = before || is_vain fault
+vain_by (outcome.Failed fault moment) before = is_vain_after fault before
 vain_by (outcome.Left reason) before = before
 
 -- so it was since it was plugged and since somebody asked

@@ -1,5 +1,6 @@
--- What the reply to the operation of a job leads to, exactly. (this project's own)
-use Rattle.std.specs.Prelude.{◌≡◌, ℕ, Bool, true, false, not, ◌&&◌, Option, Some, None}
+-- What the reply to the operation of a job leads to, exactly. (this project's own; OIF-CMIS-05.0: LowPwrAllowRequestHW and
+-- LowPwrRequestSW of the lower memory)
+use Rattle.std.specs.Prelude.{◌≡◌, ◌==◌, ℕ, Bool, true, false, not, ◌&&◌, ◌||◌, Option, Some, None}
 use Rattle.bus_model.specs.declared.operation.Reply.{Reply}
 use Rattle.conversations.specs.declared.next.Next.{Next}
 use Rattle.conversations.specs.declared.next.Next.TheVariants.{Do, Wait, End}
@@ -8,6 +9,8 @@ use Rattle.conversations.specs.declared.pausing.Patience.{Patience}
 use Rattle.conversations.specs.declared.pausing.Timed.{Timed}
 use Rattle.conversations.specs.declared.pausing.Timed.TheVariants.{InTime, Overdue as Late}
 use Rattle.conversations.specs.declared.within.Spent.{Spent}
+use Rattle.field_tables.specs.declared.field.Field.TheVariants.{CLowPwrAllowHW, CLowPwrRequestSW}
+use Rattle.field_tables.specs.Readings.{number}
 use Rattle.paged_memory.specs.Images.{Memory}
 use Rattle.control_sets.specs.declared.fault.ProvisionFault.{ProvisionFault}
 use Rattle.control_sets.specs.declared.fault.ProvisionFault.TheVariants.{GaveUp}
@@ -72,21 +75,30 @@ GoesTo (End spent) pause job Ended turn = Ended spent.end turn
 
 -- ---- a job has ended
 
--- a module that was woken up before is not woken up again
-abbrev pub woken_again : Bool → Patience → Turn
-woken_again true patience = Failed fault.Asleep
-woken_again false patience = On (waking patience) note.Identified
+-- software asks for low power, or the pin may: not what waking a module up stores
+abbrev pub is_low_power_requested : Memory → Bool
+is_low_power_requested image = number image CLowPwrAllowHW == 1 || number image CLowPwrRequestSW == 1
 
-abbrev pub decided : Bool → Patience → Decision → Turn
-decided woken patience (Leave reason) = Left reason
-decided woken patience Wake = woken_again woken patience
-decided woken patience Sleep = On (sleeping patience) note.Identified
-decided woken patience (Hold goal) = On (watching goal patience) note.CameUp
-decided woken patience (Activate goal) = On (activating goal patience) note.Identified
-decided woken patience (Provision goal) = On (provisioning goal patience) note.Identified
+-- a module that was woken up and isn't ready has changed if low power is requested anew, as after a reset
+abbrev pub unready : Bool → PortFault
+unready true = fault.Changed
+unready false = fault.Asleep
+
+-- one that was woken up before is not woken up again at once
+abbrev pub woken_again : Bool → Bool → Patience → Turn
+woken_again true requested patience = Failed (unready requested)
+woken_again false requested patience = On (waking patience) note.Identified
+
+abbrev pub decided : Bool → Bool → Patience → Decision → Turn
+decided woken requested patience (Leave reason) = Left reason
+decided woken requested patience Wake = woken_again woken requested patience
+decided woken requested patience Sleep = On (sleeping patience) note.Identified
+decided woken requested patience (Hold goal) = On (watching goal patience) note.CameUp
+decided woken requested patience (Activate goal) = On (activating goal patience) note.Identified
+decided woken requested patience (Provision goal) = On (provisioning goal patience) note.Identified
 
 abbrev pub IsRead : Wanted → Bool → Memory → Option (Timed (Unit {0})) → Turn → Type 0
-IsRead wanted woken image (Some (InTime end)) turn = (decision : Decision) × IsDecision wanted image decision × (turn ≡ decided woken (patience_for image) decision)
+IsRead wanted woken image (Some (InTime end)) turn = (decision : Decision) × IsDecision wanted image decision × (turn ≡ decided woken (is_low_power_requested image) (patience_for image) decision)
 IsRead wanted woken image (Some Late) turn = turn ≡ Failed fault.Unread
 IsRead wanted woken image None turn = turn ≡ Failed fault.Unread
 

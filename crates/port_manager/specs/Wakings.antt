@@ -11,7 +11,8 @@ use Rattle.port_manager.specs.declared.port.Outcome.{Outcome}
 use Rattle.port_manager.specs.declared.port.Outcome.TheVariants as outcome
 use Rattle.port_manager.specs.declared.port.Port.{Port}
 use Rattle.port_manager.specs.declared.port.Stage.TheVariants.{Working}
-use Rattle.port_manager.specs.declared.turn.PortFault.TheVariants.{WakingRefused}
+use Rattle.port_manager.specs.declared.turn.PortFault.{PortFault}
+use Rattle.port_manager.specs.declared.turn.PortFault.TheVariants.{Changed, WakingRefused}
 use Rattle.port_manager.specs.Jobs.{reading}
 use Rattle.port_manager.specs.Runs.{Reaches}
 use Rattle.port_manager.specs.Stories.{Story, acknowledge, ask, demand, drop, hear, hold, make, plug, pull, reconsider}
@@ -42,9 +43,9 @@ WasTold (ask op moment ∷ before) = WasTold before
 WasTold (make op reply wanted now result ∷ before) = ToldBy result (TellsToWake op reply) (WasTold before)
 WasTold (drop ∷ before) = WasTold before
 
--- a module that could not be told is read anew, and may be told again
+-- a module that could not be told, or has changed since, is read anew, and may be told again
 abbrev pub MayBeToldAgain : Type 0
 MayBeToldAgain =
-    (story : Story) (port : Port) (op : Op) (reply : Reply) (wanted : Wanted) (now moment : ℕ)
-    → Reaches (make op reply wanted now (outcome.Failed WakingRefused moment) ∷ story) port
+    (story : Story) (port : Port) (op : Op) (reply : Reply) (wanted : Wanted) (now moment : ℕ) (fault : PortFault)
+    → Reaches (make op reply wanted now (outcome.Failed fault moment) ∷ story) port → (fault ≡ WakingRefused) ⊎ (fault ≡ Changed)
     → (port.vain ≡ false) × (port.stage ≡ Working (reading false))

@@ -272,7 +272,7 @@ impl Port {
             }
             Course::Failed(fault) => {
                 let again = self.due.max(later(now, self.back_off));
-                self.vain = self.vain || is_vain(fault);
+                self.vain = is_vain_after(fault, self.vain);
                 self.begin(Beginning::Reading(self.vain));
                 self.due = again;
                 self.back_off = doubled(self.back_off, self.times.most);
@@ -331,20 +331,20 @@ fn wait_of(times: Times, note: Note) -> u32
     }
 }
 
-// The module was asked to wake up, and is not ready.
-fn is_vain(fault: PortFault) -> bool
-    ensures { result ≡ spec.is_vain fault }
+// Whether the module counts as woken up in vain after a failure: it was told to wake up and is not ready, unless it has changed since.
+fn is_vain_after(fault: PortFault, before: bool) -> bool
+    ensures { result ≡ spec.is_vain_after fault before }
 {
     match fault {
         PortFault::Asleep | PortFault::Waking(_) => true,
+        PortFault::Changed => false,
         PortFault::Unread
         | PortFault::Sleeping(_)
         | PortFault::Provisioning(_)
         | PortFault::Activating(_)
         | PortFault::Unseen
-        | PortFault::Changed
         | PortFault::ApplyRefused
-        | PortFault::WakingRefused => { false }
+        | PortFault::WakingRefused => before,
     }
 }
 

@@ -16,6 +16,7 @@ use control_sets::{
     PatientPower, PatientProcedure, PowerStage, ProvisionFault, is_apply, patience_for,
 };
 use conversations::{Conversation, Next, Patience, Timed};
+use field_tables::{Field, number};
 use paged_memory::Image;
 
 /// What a log says of a reply that leads on.
@@ -61,7 +62,8 @@ pub enum PortFault {
     Activating(ProcedureFault),
     /// It could not be looked at.
     Unseen,
-    /// It is no longer as it was wanted, or did not come up so.
+    /// It is no longer as it was wanted, or did not come up so; or it was woken up, and its global controls ask for low power again,
+    /// as after a reset.
     Changed,
     /// An apply was refused, which the module may have taken all the same: before it is stored again, the module is read.
     ApplyRefused,
@@ -151,19 +153,34 @@ fn read(image: &Image, woken: bool, wanted: &Wanted, end: Option<Timed<()>>) -> 
     ensures { (job : Job) → IsRead wanted.now woken image.now end (turn_by job result) }
 {
     match end {
-        Some(Timed::InTime(())) => decided(decide(image, wanted), woken, patience_for(image)),
+        Some(Timed::InTime(())) => {
+            let is_requested = is_low_power_requested(image);
+            decided(
+                decide(image, wanted),
+                woken,
+                is_requested,
+                patience_for(image),
+            )
+        }
         Some(Timed::Overdue) => Course::Failed(PortFault::Unread),
         None => Course::Failed(PortFault::Unread),
     }
 }
 
-// What a decision leads to. A module that was woken up before is not woken up again.
-fn decided(decision: Decision, woken: bool, patience: Patience) -> Course
-    ensures { (job : Job) → turn_by job result ≡ decided woken patience decision }
+// Software asks for low power, or the pin may.
+fn is_low_power_requested(image: &Image) -> bool
+    ensures { result ≡ spec.is_low_power_requested image.now }
+{
+    number(image, Field::CLowPwrAllowHW) == 1 || number(image, Field::CLowPwrRequestSW) == 1
+}
+
+// What a decision leads to. A module that was woken up before is not woken up again at once.
+fn decided(decision: Decision, woken: bool, is_requested: bool, patience: Patience) -> Course
+    ensures { (job : Job) → turn_by job result ≡ decided woken is_requested patience decision }
 {
     match decision {
         Decision::Leave(reason) => Course::Left(reason),
-        Decision::Wake if woken => Course::Failed(PortFault::Asleep),
+        Decision::Wake if woken => Course::Failed(unready(is_requested)),
         Decision::Wake => Course::Next(Beginning::Waking(patience), Note::Identified),
         Decision::Sleep => Course::Next(Beginning::Sleeping(patience), Note::Identified),
         Decision::Hold(goal) => Course::Next(Beginning::Watching(goal, patience), Note::CameUp),
@@ -173,6 +190,17 @@ fn decided(decision: Decision, woken: bool, patience: Patience) -> Course
         Decision::Provision(goal) => {
             Course::Next(Beginning::Provisioning(goal, patience), Note::Identified)
         }
+    }
+}
+
+// Why a module that was woken up isn't ready: it has changed if low power is requested anew, as after a reset.
+fn unready(is_requested: bool) -> PortFault
+    ensures { result ≡ spec.unready is_requested }
+{
+    if is_requested {
+        PortFault::Changed
+    } else {
+        PortFault::Asleep
     }
 }
 

@@ -44,17 +44,17 @@ later_known (Activating job goal) reply tells answers known = procedure_told job
 later_known (Confirming job) reply tells answers known = tt
 later_known (Watching job) reply tells answers known = tt
 
-decided_known : (woken : Bool) (patience : Patience) (decision : Decision) → IfOn (decided woken patience decision) IsKnownJob
-decided_known woken patience (Leave reason) = tt
-decided_known true patience Wake = tt
-decided_known false patience Wake = tt
-decided_known woken patience Sleep = tt
-decided_known woken patience (Hold goal) = tt
-decided_known woken patience (Activate goal) = begun_told (activation_of goal) patience
-decided_known woken patience (Provision goal) = begun_told (provisioning_of goal) patience
+decided_known : (woken requested : Bool) (patience : Patience) (decision : Decision) → IfOn (decided woken requested patience decision) IsKnownJob
+decided_known woken requested patience (Leave reason) = tt
+decided_known true requested patience Wake = tt
+decided_known false requested patience Wake = tt
+decided_known woken requested patience Sleep = tt
+decided_known woken requested patience (Hold goal) = tt
+decided_known woken requested patience (Activate goal) = begun_told (activation_of goal) patience
+decided_known woken requested patience (Provision goal) = begun_told (provisioning_of goal) patience
 
 follows_known : (wanted : Wanted) (job : Job) (reply : Reply) → Follows (λ turn. IfOn turn IsKnownJob) wanted job reply
-follows_known wanted (Reading job woken) reply = λ decision whole judged. decided_known woken _ decision
+follows_known wanted (Reading job woken) reply = λ decision whole judged. decided_known woken _ _ decision
 follows_known wanted (Waking job) reply = tt
 follows_known wanted (Sleeping job) reply = tt
 follows_known wanted (Provisioning job goal) reply = begun_told (activation_of goal) _
@@ -100,17 +100,17 @@ module _ (before : Stage) (reply : Reply) where
   later_reads (Confirming job) is = tt
   later_reads (Watching job) is = tt
 
-  decided_reads : (woken : Bool) (patience : Patience) (decision : Decision) → IfOn (decided woken patience decision) (ReadsOn before reply)
-  decided_reads woken patience (Leave reason) = tt
-  decided_reads true patience Wake = tt
-  decided_reads false patience Wake = tt
-  decided_reads woken patience Sleep = tt
-  decided_reads woken patience (Hold goal) = tt
-  decided_reads woken patience (Activate goal) = tt
-  decided_reads woken patience (Provision goal) = tt
+  decided_reads : (woken requested : Bool) (patience : Patience) (decision : Decision) → IfOn (decided woken requested patience decision) (ReadsOn before reply)
+  decided_reads woken requested patience (Leave reason) = tt
+  decided_reads true requested patience Wake = tt
+  decided_reads false requested patience Wake = tt
+  decided_reads woken requested patience Sleep = tt
+  decided_reads woken requested patience (Hold goal) = tt
+  decided_reads woken requested patience (Activate goal) = tt
+  decided_reads woken requested patience (Provision goal) = tt
 
   follows_reads : (wanted : Wanted) (job : Job) → Follows (λ turn. IfOn turn (ReadsOn before reply)) wanted job reply
-  follows_reads wanted (Reading job woken) = λ decision whole judged. decided_reads woken _ decision
+  follows_reads wanted (Reading job woken) = λ decision whole judged. decided_reads woken _ _ decision
   follows_reads wanted (Waking job) = inr refl
   follows_reads wanted (Sleeping job) = tt
   follows_reads wanted (Provisioning job goal) = tt

@@ -176,12 +176,16 @@ look_in goal work = record { goal = goal_in goal; stage = look_stage_in work.sta
 abbrev pub procedure_in : SavedWork → Option PatientProcedure
 procedure_in work = procedures.restored work.saved (work.doubts == 1)
 
+-- a job that brings the module to the goal by the procedure
+abbrev pub procedure_job : (PatientProcedure → Goal → Job) → SavedGoal → SavedWork → Option Job
+procedure_job kind goal work = option_map (λ (procedure : PatientProcedure). kind procedure (goal_in goal)) (procedure_in work)
+
 abbrev pub job_in : ℕ → SavedGoal → SavedWork → Memory → Option Job
 job_in number goal work image =
     if number == 2 then Some (Reading (patient_in work (on_page_in work (halves_in work image))) (work.woken == 1))
     else (if number == 3 then Some (Waking (patient_in work (change_in work)))
-    else (if number == 4 then option_map (λ (procedure : PatientProcedure). Provisioning procedure (goal_in goal)) (procedure_in work)
-    else (if number == 5 then option_map (λ (procedure : PatientProcedure). Activating procedure (goal_in goal)) (procedure_in work)
+    else (if number == 4 then procedure_job Provisioning goal work
+    else (if number == 5 then procedure_job Activating goal work
     else (if number == 6 then Some (Watching (patient_in work (on_page_in work (look_in goal work))))
     else (if number == 7 then Some (Sleeping (patient_in work (change_in work)))
     else (if number == 8 then Some (Confirming (patient_in work (on_page_in work (look_in goal work))))

@@ -5,7 +5,6 @@ ghost use Rattle.paged_memory.specs.Images.{Memory};
 ghost use Rattle.port_manager.specs.declared.job.Job.TheVariants as jobs;
 ghost use Rattle.port_manager.specs.declared.port.Stage.TheVariants as stages;
 ghost use Rattle.port_manager.specs.Ports.{IfWorking};
-ghost use Rattle.control_sets.specs.Progress.{PatientProcedure};
 ghost use Rattle.saved_port.specs.Known.{HasRead};
 ghost use Rattle.saved_port.specs.SavedPorts.{port_in};
 ghost use Rattle.saved_port.specs.SavedPorts as spec;
@@ -243,8 +242,8 @@ fn put_confirming(saved: &SavedPort, stage: &mut Stage)
 
 #[inline(never)]
 fn put_provisioning(saved: &SavedPort, stage: &mut Stage) -> bool
-    ensures found { result ≡ true → option_map stages.Working (option_map (λ (procedure : PatientProcedure). jobs.Provisioning procedure (spec.goal_in saved.now.goal)) (spec.procedure_in saved.now.work)) ≡ Some stage.new }
-    ensures none { result ≡ false → option_map stages.Working (option_map (λ (procedure : PatientProcedure). jobs.Provisioning procedure (spec.goal_in saved.now.goal)) (spec.procedure_in saved.now.work)) ≡ None }
+    ensures found { result ≡ true → option_map stages.Working (spec.procedure_job jobs.Provisioning saved.now.goal saved.now.work) ≡ Some stage.new }
+    ensures none { result ≡ false → option_map stages.Working (spec.procedure_job jobs.Provisioning saved.now.goal saved.now.work) ≡ None }
     ensures read { result ≡ true → (image : Memory) → IfWorking stage.new (HasRead image) }
 {
     match work::procedure_in(&saved.work) {
@@ -258,8 +257,8 @@ fn put_provisioning(saved: &SavedPort, stage: &mut Stage) -> bool
 
 #[inline(never)]
 fn put_activating(saved: &SavedPort, stage: &mut Stage) -> bool
-    ensures found { result ≡ true → option_map stages.Working (option_map (λ (procedure : PatientProcedure). jobs.Activating procedure (spec.goal_in saved.now.goal)) (spec.procedure_in saved.now.work)) ≡ Some stage.new }
-    ensures none { result ≡ false → option_map stages.Working (option_map (λ (procedure : PatientProcedure). jobs.Activating procedure (spec.goal_in saved.now.goal)) (spec.procedure_in saved.now.work)) ≡ None }
+    ensures found { result ≡ true → option_map stages.Working (spec.procedure_job jobs.Activating saved.now.goal saved.now.work) ≡ Some stage.new }
+    ensures none { result ≡ false → option_map stages.Working (spec.procedure_job jobs.Activating saved.now.goal saved.now.work) ≡ None }
     ensures read { result ≡ true → (image : Memory) → IfWorking stage.new (HasRead image) }
 {
     match work::procedure_in(&saved.work) {
