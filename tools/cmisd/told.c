@@ -3,12 +3,24 @@
 
 #include <stdlib.h>
 #include <string.h>
+#include <sys/stat.h>
 #include <systemd/sd-journal.h>
+#include <unistd.h>
 
-/* A line for the journal with fields of its own, if standard error leads there; else on standard error. */
+/* Whether standard error leads to the journal: systemd names what does by its device and inode, to all that a service begins. */
+static bool has_journal(void) {
+    const char *stream = getenv("JOURNAL_STREAM");
+    struct stat about;
+    char own[64];
+    if (stream == NULL || fstat(STDERR_FILENO, &about) != 0) return false;
+    snprintf(own, sizeof own, "%ju:%ju", (uintmax_t)about.st_dev, (uintmax_t)about.st_ino);
+    return strcmp(own, stream) == 0;
+}
+
+/* A line for the journal with fields of its own, or on standard error. */
 static void log_event(const char *name, const char *event, const char *words) {
     const char *colon = words[0] != 0 ? ": " : "";
-    if (getenv("JOURNAL_STREAM") == NULL)
+    if (!has_journal())
         fprintf(stderr, "%s: %s%s%s\n", name, event, colon, words);
     else
         sd_journal_send("MESSAGE=%s: %s%s%s", name, event, colon, words, "PRIORITY=6", "CMISD_PORT=%s", name,
