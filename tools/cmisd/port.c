@@ -485,10 +485,12 @@ static void list_otherwise(struct port *port) {
     wake(port);
 }
 
-/* A port whose entry and weights are the same is not touched. */
+/* A port whose entry and weights are the same is not touched. Of one that is managed from now on, and is empty, the pin is looked at as if for
+   the first time, since low power wasn't set. */
 static void change(struct port *port, const struct entry *entry) {
     bool is_wanted_otherwise = memcmp(&port->entry.wanted, &entry->wanted, sizeof entry->wanted) != 0;
     bool was_still = is_still(port), lists_otherwise = port->entry.vdm != entry->vdm;
+    if (port->entry.manage < entry->manage) port->is_seen = is_there(port);
     memcpy(&port->entry, entry, sizeof *entry);
     if (lists_otherwise) list_otherwise(port);
     if (is_wanted_otherwise) ask_again(port);
