@@ -67,6 +67,7 @@ struct port {
     int64_t read_at;                    /* when one was read last as a whole */
     int page;                           /* that was read to be selected last, or -1 */
     bool has_new_image, has_new_counts; /* than its files */
+    bool is_unwritten;                  /* its PORT.json or PORT.prom couldn't be written */
     struct dovecounter_plan plan; /* whose paths are shown, if its control bytes are those that the port works for */
 
     struct listing listing;
@@ -157,7 +158,7 @@ extern const char *folder;
 void print_image_of(FILE *out, const struct port *port, const char *end);
 void put_image(struct port *port);
 void put_status(struct port *port);
-void follow_clock(void);
+void renew_files(void);
 void remove_file(const char *port, const char *ending);
 void remove_old_files(void);
 

@@ -108,19 +108,21 @@ void put_image(struct port *port) {
 
 /* PORT.json is written although nothing has changed, so that others see when the port was looked at. */
 void put_status(struct port *port) {
-    put_file(port, "json", print_port);
+    bool is_written = put_file(port, "json", print_port);
     if (port->has_new_counts) port->has_new_counts = !put_file(port, "prom", print_metrics);
+    port->is_unwritten = !is_written || port->has_new_counts;
 }
 
-/* Writes files anew once the clock was set by a second or more, since the times in them are wrong. */
-void follow_clock(void) {
+/* Writes files anew that could not be written, since nothing more may happen at a port, and all of them once the clock was set by a second or
+   more, since the times in them are wrong. */
+void renew_files(void) {
     static int64_t was;
     int64_t is = clock_offset();
-    if (is - was < 1000 && was - is < 1000) return;
-    was = is;
+    bool is_set = is - was >= 1000 || was - is >= 1000;
+    if (is_set) was = is;
     for (struct port *each = ports; each != NULL; each = each->next) {
-        if (each->is_retired) continue;
-        each->has_new_counts = true;
+        if (each->is_retired || !(is_set || each->is_unwritten)) continue;
+        each->has_new_counts = each->has_new_counts || is_set;
         put_status(each);
     }
 }

@@ -13,6 +13,7 @@
 #include <sys/signalfd.h>
 #include <sys/stat.h>
 #include <systemd/sd-daemon.h>
+#include <time.h>
 #include <unistd.h>
 
 enum { STOPS_WITHIN = 2000, MOST_WAIT = 5000 }; /* milliseconds */
@@ -46,8 +47,11 @@ bool reload(void) {
     return is_good;
 }
 
+/* systemd takes no moment from before its signal, not even one that is rounded to that. */
 static void reload_by_signal(void) {
-    sd_notifyf(0, "RELOADING=1\nMONOTONIC_USEC=%lld", (long long)now() * 1000);
+    struct timespec time;
+    clock_gettime(CLOCK_MONOTONIC, &time);
+    sd_notifyf(0, "RELOADING=1\nMONOTONIC_USEC=%lld", time.tv_sec * 1000000LL + time.tv_nsec / 1000);
     pthread_mutex_lock(&state);
     if (!reload()) warnx("%s: what was read before stays", configuration_name);
     pthread_mutex_unlock(&state);
@@ -87,7 +91,7 @@ static void serve_until_stopped(int signals, int server, int most_wait) {
         struct pollfd files[2 + MOST_CLIENTS] = {{.fd = signals, .events = POLLIN}, {.fd = server, .events = POLLIN}};
         pthread_mutex_lock(&state);
         size_t count = 2 + list_clients(files + 2);
-        follow_clock();
+        renew_files();
         pthread_mutex_unlock(&state);
         sd_notify(0, "WATCHDOG=1");
         if (poll(files, count, most_wait) <= 0) continue;
@@ -125,6 +129,9 @@ static int run(void) {
     return EXIT_SUCCESS;
 }
 
+/* Whether it could be printed. */
+static int print_help(void) { return fputs(usage, stdout) == EOF || fflush(stdout) != 0 ? EXIT_FAILURE : EXIT_SUCCESS; }
+
 int main(int count, char **words) {
     static const struct option flags[] = {{"config", required_argument, NULL, 'c'},
                                           {"folder", required_argument, NULL, 'd'},
@@ -141,7 +148,7 @@ int main(int count, char **words) {
         else if (flag == 'k')
             checks = true;
         else
-            return fputs(usage, flag == 'h' ? stdout : stderr), flag == 'h' ? EXIT_SUCCESS : 2;
+            return flag == 'h' ? print_help() : (fputs(usage, stderr), 2);
     }
     if (checks && optind < count) return fputs(usage, stderr), 2;
     if (optind < count) return ask(count - optind, words + optind);
