@@ -4,6 +4,7 @@
 
 #include <err.h>
 #include <errno.h>
+#include <fcntl.h>
 #include <stdlib.h>
 #include <string.h>
 #include <sys/socket.h>
@@ -16,7 +17,7 @@ enum { LINE_SIZE = 128, WORDS = 3 };
 static struct client {
     int file; /* 0 if there is none */
     bool listens;
-    char borrowed[NAME_SIZE]; /* the port whose bus it has, or "" */
+    char borrowed[TEXT_SIZE]; /* the bus that it has, or "" */
     char awaited[TEXT_SIZE];  /* the bus of a port that it holds, until that is closed, or "" */
     size_t length;            /* of what has come of a line */
     char line[LINE_SIZE];
@@ -93,9 +94,9 @@ static void answer_deactivate(FILE *out, struct port *port, const char *word) {
 
 /* Flags that were raised after that moment, which `show` has named, nobody knows. */
 static void answer_acknowledge(FILE *out, struct port *port, const char *word) {
-    char *end = "";
-    uint64_t moment = word != NULL ? strtoull(word, &end, 10) : (uint64_t)now();
-    if (*end != 0 || moment > (uint64_t)now()) return answer_error(out, "that is no moment that show has named");
+    bool is_number = word == NULL || (word[0] != 0 && word[strspn(word, "0123456789")] == 0);
+    uint64_t moment = word != NULL ? strtoull(word, NULL, 10) : (uint64_t)now();
+    if (!is_number || moment > (uint64_t)now()) return answer_error(out, "that is no moment that show has named");
     dovecounter_port_acknowledge(&port->core, moment);
     port->flags = port->core.flags;
     port->has_new_counts = true;
@@ -152,10 +153,10 @@ static void answer(FILE *out, char *line) {
 
 /* ---- clients */
 
-/* Takes a port back. Meanwhile another may have got its name, which is not lent. */
+/* Takes a bus back. Meanwhile it may be that of another port, or of none, to which it is not lent. */
 static void take_back(const struct client *client) {
-    struct port *port = port_of(client->borrowed);
-    if (port != NULL && port->is_lent) lend(port, false);
+    for (struct port *each = ports; each != NULL; each = each->next)
+        if (!each->is_retired && each->is_lent && strcmp(each->entry.bus, client->borrowed) == 0) lend(each, false);
 }
 
 static void drop_client(struct client *client) {
@@ -177,7 +178,7 @@ void send_to_listeners(const char *line, size_t length) {
 void send_to_borrower(const struct port *port) {
     static const char line[] = "{\"done\": true}\n";
     for (struct client *each = clients; each < clients + MOST_CLIENTS; each++)
-        if (each->file != 0 && strcmp(each->borrowed, port->entry.name) == 0) send_line(each, line, strlen(line));
+        if (each->file != 0 && strcmp(each->borrowed, port->entry.bus) == 0) send_line(each, line, strlen(line));
 }
 
 /* To those who hold it and wait for that: its bus is closed, or it was released before. */
@@ -206,9 +207,9 @@ static void lend_to(struct client *client, const char *bus, FILE *out) {
     struct port *port = port_on(bus);
     if (port == NULL) return answer_error(out, "there is no port with that bus");
     for (struct client *each = clients; each < clients + MOST_CLIENTS; each++)
-        if (strcmp(each->borrowed, port->entry.name) == 0) return answer_error(out, "it is lent already");
+        if (strcmp(each->borrowed, port->entry.bus) == 0) return answer_error(out, "it is lent already");
     if (client->borrowed[0] != 0) return answer_error(out, "another one is lent already");
-    snprintf(client->borrowed, NAME_SIZE, "%s", port->entry.name);
+    snprintf(client->borrowed, TEXT_SIZE, "%s", port->entry.bus);
     lend(port, true);
 }
 
@@ -285,25 +286,41 @@ int open_control(void) {
     return server;
 }
 
+/* A connection to the cmisd that runs, or -1, with a number above those of the standard streams, which may be closed. */
+static int connect_to(const struct sockaddr_un *name) {
+    int made = socket(AF_UNIX, SOCK_STREAM | SOCK_CLOEXEC, 0);
+    int file = made >= 0 ? fcntl(made, F_DUPFD_CLOEXEC, STDERR_FILENO + 1) : -1;
+    if (made >= 0) close(made);
+    if (file < 0 || connect(file, (const struct sockaddr *)name, sizeof *name) == 0) return file;
+    close(file);
+    return -1;
+}
+
+/* Whether an answer is no error, and could be printed. */
+static bool print_answer(const char *answer) {
+    if (strncmp(answer, "{\"error\"", 8) == 0) return fputs(answer, stderr), false;
+    if (fputs(answer, stdout) != EOF && fflush(stdout) == 0) return true;
+    return warn("standard output"), false;
+}
+
 /* Sends words to the cmisd that runs, and prints what it answers: a line, or lines without an end after `events`. */
 int ask(int count, char **words) {
     struct sockaddr_un name = address();
-    char line[LINE_SIZE] = "", *answer = NULL;
+    char line[LINE_SIZE + 1] = "", *answer = NULL;
     size_t length = 0, room = 0;
     for (int i = 0; i < count && length < sizeof line; i++)
         length += (size_t)snprintf(line + length, sizeof line - length, "%s%c", words[i], i + 1 < count ? ' ' : '\n');
     if (length >= sizeof line) errx(EXIT_FAILURE, "these words are too long");
-    int file = socket(AF_UNIX, SOCK_STREAM | SOCK_CLOEXEC, 0);
-    if (file < 0 || connect(file, (struct sockaddr *)&name, sizeof name) != 0) err(EXIT_FAILURE, "%s", name.sun_path);
-    FILE *answers = fdopen(file, "r");
+    int file = connect_to(&name);
+    FILE *answers = file >= 0 ? fdopen(file, "r") : NULL;
     if (answers == NULL || send(file, line, length, MSG_NOSIGNAL) != (ssize_t)length)
         err(EXIT_FAILURE, "%s", name.sun_path);
     bool goes_on = true, is_good = false;
     while (goes_on && getline(&answer, &room, answers) > 0) {
-        is_good = strncmp(answer, "{\"error\"", 8) != 0 && fputs(answer, stdout) != EOF && fflush(stdout) == 0;
-        if (strncmp(answer, "{\"error\"", 8) == 0) fputs(answer, stderr);
+        is_good = print_answer(answer);
         goes_on = is_good && strcmp(words[0], "events") == 0;
     }
+    if (goes_on && !is_good) warnx("%s: no answer has come", name.sun_path);
     free(answer);
     fclose(answers);
     return is_good ? EXIT_SUCCESS : EXIT_FAILURE;
