@@ -29,8 +29,11 @@ struct adapter {
     uint32_t outputs;        /* byte 138 of page 10h (OutputDisableRx), if it isn't 0 */
     uint32_t drowsy;         /* it is in ModuleLowPwr whenever its lower half is read as a whole */
     uint32_t refuse_applies; /* so many applies are refused */
-    uint32_t unused[7];
-    /* what became of it */
+    uint32_t takes;          /* milliseconds for each transaction */
+    uint32_t hides;          /* a fetch of this byte of page 10h alone is refused, if it isn't 0 */
+    uint32_t probes;         /* what became of it: fetches of byte 0 alone */
+    uint32_t unused[4];
+    /* so did these */
     uint32_t transactions, refused, stores, needless, dropped, unread, state, deinit;
     uint32_t paths[8], active[8];
     uint32_t seen_serial, seen_resets, read_lower, read_lanes, stores_of_power, commits;
@@ -239,6 +242,12 @@ static bool transact(struct adapter *it, const struct i2c_rdwr_ioctl_data *data)
     return is_answered;
 }
 
+/* Whether this is a fetch of a byte that is hidden. */
+static bool is_hidden(const struct adapter *it, const struct i2c_rdwr_ioctl_data *data) {
+    bool is_alone = data->nmsgs == 2 && data->msgs[0].buf[0] == it->hides && data->msgs[1].len == 1;
+    return it->hides != 0 && is_alone && it->simulated.module.page == 0x10;
+}
+
 static void show(struct adapter *it) {
     const struct dovecounter_module *module = &it->simulated.module;
     it->state = module->state;
@@ -254,7 +263,9 @@ static int answer(volatile struct adapter *waits, struct adapter *it, unsigned l
     }
     const struct i2c_rdwr_ioctl_data *data = argument;
     while (waits->blocks) usleep(2000);
-    bool is_answered = transact(it, data);
+    if (waits->takes) usleep(1000 * waits->takes);
+    it->probes += data->nmsgs == 2 && data->msgs[0].buf[0] == 0 && data->msgs[1].len == 1;
+    bool is_answered = !is_hidden(it, data) && transact(it, data);
     show(it);
     it->refused += !is_answered;
     errno = EREMOTEIO;
@@ -329,11 +340,21 @@ int __wrap_sd_journal_send_with_location(const char *file, const char *line, con
 
 int __wrap_sd_journal_send_with_location(const char *file, const char *line, const char *function, const char *format,
                                          ...) {
-    char text[600];
+    char text[2000] = "";
+    size_t length = 0;
     va_list arguments;
     (void)file, (void)line, (void)function;
     va_start(arguments, format);
-    vsnprintf(text, sizeof text, format, arguments);
+    for (const char *at = format; at != NULL; at = va_arg(arguments, const char *)) {
+        for (; *at != 0; at++) { /* of what is formatted it knows texts alone */
+            bool is_text = strncmp(at, "%s", 2) == 0;
+            if (length + 1 < sizeof text)
+                length += (size_t)snprintf(text + length, sizeof text - length, is_text ? "%s" : "%.1s",
+                                           is_text ? va_arg(arguments, const char *) : at);
+            at += is_text;
+        }
+        if (length + 1 < sizeof text) length += (size_t)snprintf(text + length, sizeof text - length, ";");
+    }
     va_end(arguments);
     fprintf(stderr, "journal: %s\n", text);
     return 0;
