@@ -70,15 +70,17 @@ bool is_on(const char *line, const char *name) {
     return value != NULL && strncmp(value, "true", 4) == 0;
 }
 
-/* The bytes of a text, in which \n and \u00XX alone are escaped; none if there is no such member. */
+/* The bytes of a text, in which \n and \u00XX alone are escaped, as far as the line goes; none if there is no such member. */
 size_t take_text(const char *line, const char *name, char *text, size_t size) {
     const char *at = member(line, name);
     size_t length = 0;
     unsigned code = '\n';
+    int taken = 0; /* bytes of a number */
     for (at += at != NULL; at != NULL && *at != '"' && *at != 0 && length + 1 < size; length++) {
-        bool is_number = sscanf(at[0] == '\\' ? at : "", "\\u%4x", &code) == 1, is_escaped = at[0] == '\\';
+        bool is_escaped = at[0] == '\\' && at[1] != 0;
+        bool is_number = is_escaped && sscanf(at, "\\u%4x%n", &code, &taken) == 1;
         text[length] = is_number ? (char)code : is_escaped ? '\n' : *at;
-        at += is_number ? 6 : is_escaped ? 2 : 1;
+        at += is_number ? taken : is_escaped ? 2 : 1;
     }
     text[length] = 0;
     return length;
