@@ -23,10 +23,15 @@ void stop(struct port *port, const char *why) {
     port->ending = STOPPED;
 }
 
-/* Waits, unless a signal comes that ends the program. */
+/* Waits, unless a signal comes that ends the program. A program that was stopped and goes on waits for the rest. */
 void pause_ms(struct port *port, int64_t ms) {
-    struct timespec time = {ms / 1000, ms % 1000 * 1000000};
-    if (sigtimedwait(&port->signals, NULL, &time) <= 0) return;
+    int64_t end = now() + ms, left = ms;
+    int signal;
+    do {
+        const struct timespec time = {left / 1000, left % 1000 * 1000000};
+        signal = sigtimedwait(&port->signals, NULL, &time);
+    } while (signal < 0 && errno == EINTR && (left = end - now()) > 0);
+    if (signal <= 0) return;
     while (sigtimedwait(&port->signals, NULL, &(struct timespec){0}) > 0) continue; /* those that came with it */
     stop(port, "interrupted");
 }
