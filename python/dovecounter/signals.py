@@ -130,6 +130,8 @@ class SignalSettings:
         look_at_type("the identity", identity, Inventory)
         look_at("the port", port, 2**32 - 1)
         lanes = [look_at_type("a lane of the base", lane, LaneSignal) for lane in base]
+        if len(lanes) != LANES:
+            raise ValueError(f"the base has {len(lanes)} lanes, and not {LANES}")
         try:
             found = next(self._for(identity, lane_speed, port), None)
             return None if found is None else _lanes_with(found, lanes)

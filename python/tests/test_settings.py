@@ -360,5 +360,8 @@ def test_what_is_no_file_of_settings_is_refused(tmp_path: pathlib.Path) -> None:
     for identity, base in (("GOOD", (TARGET,) * 8), (of("GOOD", "PART1"), ({},) * 8)):
         with pytest.raises(TypeError):
             written(tmp_path, FILE).of(identity, "100G", 0, base)  # type: ignore[arg-type]
+    for count in (0, 7, 9):
+        with pytest.raises(ValueError, match=f"{count} lanes, and not 8"):
+            written(tmp_path, FILE).of(of("GOOD", "PART1"), "100G", 0, (TARGET,) * count)
     with pytest.raises(OSError):
         SignalSettings.from_file(tmp_path / "none.json")
