@@ -386,6 +386,7 @@ class Port:
             "requested": [self.requested[0].name, self.requested[1]],
             "due": self.due,
             "goal": None if goal is None else {"control": goal[0].hex(), "lanes": goal[1]},
+            "lanes": [lane.to_dict() for lane in self.lanes],
             "flags": [flag.to_dict() for flag in self.flags],
         }
 

@@ -124,6 +124,8 @@ def test_what_it_says_is_json() -> None:
     assert failed.to_dict()["failure"] == "CHANGED"
     said = machine.port.to_dict()
     assert json.loads(json.dumps(said)) == said
+    assert said["lanes"] == [lane.to_dict() for lane in machine.port.lanes]
+    assert said["lanes"][0]["state"] == "DPDeactivated" and said["stage"] == "READING"
     for flag in machine.port.flags:
         assert flag.count > 0
     machine.port.acknowledge(machine.now)
