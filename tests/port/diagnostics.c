@@ -4,9 +4,10 @@
 #include <string.h>
 
 enum { HOST, MEDIA };
-enum { GENERATORS = 144, CHECKERS = 160, LOOPBACKS = 180, FIRST = 144, LAST = 183 };          /* on page 13h */
-enum { SELECTOR = 128, LATCHED = 132, LOST_CHECKERS = 138, LAST_LATCHED = 139, SHOWN = 192 }; /* on page 14h */
-enum { BITS = 53125000 }; /* of a lane in a millisecond */
+enum { GENERATORS = 144, CHECKERS = 160, LOOPBACKS = 180, FIRST = 144, LAST = 183 }; /* on page 13h */
+enum { SELECTOR = 128, LATCHED = 132, LOST_GENERATORS = 136, LOST_CHECKERS = 138 };  /* on page 14h */
+enum { LAST_LATCHED = 139, SHOWN = 192 };                                            /* on it too */
+enum { BITS = 53125000 };                                                            /* of a lane in a millisecond */
 
 /* It can do everything but gate results, and has all patterns. */
 void begin_diagnostics(struct diagnostics *it) {
@@ -30,13 +31,16 @@ static bool is_locked(const struct diagnostics *it, unsigned side, unsigned lane
 }
 
 void pass_diagnostics(struct diagnostics *it) {
-    for (unsigned side = HOST; side <= MEDIA; side++)
-        for (unsigned lane = 0; lane < 8; lane++) {
-            if (!(control(it, CHECKERS + 8 * side) >> lane & 1)) continue;
+    for (unsigned side = HOST; side <= MEDIA; side++) {
+        it->results[LOST_GENERATORS + side - 128] |= control(it, GENERATORS + 8 * side) & it->unlocked;
+        uint8_t checked = control(it, CHECKERS + 8 * side);
+        for (unsigned lane = 0; checked >> lane != 0; lane++) {
+            if (!(checked >> lane & 1)) continue;
             if (!is_locked(it, side, lane)) it->results[LOST_CHECKERS + side - 128] |= (uint8_t)(1U << lane);
             it->bits[side][lane] += BITS;
             it->errors[side][lane] = it->bits[side][lane] / 1000 * it->rate / 1000000;
         }
+    }
 }
 
 /* The nearest mantissa below 2048 that loses nothing if it can. */

@@ -13,6 +13,7 @@ struct diagnostics {
     unsigned rate;                       /* errors of 10^9 bits */
     uint8_t held;                        /* the byte of page 13h whose bits stay on, or 0 */
     bool fixed;                          /* no control is kept */
+    uint8_t unlocked;                    /* lanes whose generators lose lock */
     unsigned stores;                     /* of controls */
 };
 

@@ -213,7 +213,7 @@ static void end_applying(struct emulator *module, int lane) {
     static const uint8_t defaults[SETTINGS_BYTES];
     module->status[lane] = SUCCESS;
     module->pages[0x11][ACTIVE + lane] = module->applied[lane];
-    put_settings(module, lane, module->applied[lane] & 1 ? module->applied_settings : defaults);
+    put_settings(module, lane, module->applied[lane] & 1 && !module->untuned ? module->applied_settings : defaults);
 }
 
 /* ApplyImmediate copies control bytes and settings of lanes that are up at once. */

@@ -41,7 +41,8 @@ struct emulator {
     uint8_t reject;    /* the status of each apply, which changes nothing; 0 for what it would be */
     unsigned unstaged; /* the lane, from 1 on, whose staged byte is not kept; 0 for none */
 
-    bool fixed; /* controls of single lanes, and settings, are not kept */
+    bool fixed;   /* controls of single lanes, and settings, are not kept */
+    bool untuned; /* lanes get the defaults of their Application, under explicit control too */
 
     /* what a test looks at */
     uint8_t left_activated;  /* lanes */

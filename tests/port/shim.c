@@ -16,6 +16,8 @@
 
 struct shim shim = {.file = -1, .error = EREMOTEIO};
 
+enum { LONGEST = 1000000 }; /* milliseconds of a pause that a module sees: nothing changes in it for longer */
+
 static const char adapter[] = "/dev/i2c-99", eeprom[] = "/sys/bus/i2c/devices/99-0050/eeprom";
 
 /* The C library's function of this name. */
@@ -66,7 +68,10 @@ static void read_rare_word(const char *word, unsigned value) {
     if (strncmp(word, "reject=", 7) == 0) shim.module.reject = (uint8_t)value;
     if (strncmp(word, "unstaged=", 9) == 0) shim.module.unstaged = value;
     if (strcmp(word, "fixed") == 0) shim.module.fixed = true;
+    if (strcmp(word, "untuned") == 0) shim.module.untuned = true;
     if (strcmp(word, "locked") == 0) shim.locked = true;
+    if (strcmp(word, "partial") == 0) shim.partial = true;
+    if (strcmp(word, "twice") == 0) shim.twice = true;
 }
 
 /* Words of pages 13h and 14h. */
@@ -78,6 +83,7 @@ static void read_link_word(const char *word, unsigned value) {
     if (strncmp(word, "loopbacks=", 10) == 0) diagnostics->controls[0] = (uint8_t)value;
     if (strncmp(word, "results=", 8) == 0) diagnostics->controls[2] = (uint8_t)value;
     if (strcmp(word, "tests-none") == 0) diagnostics->fixed = true;
+    if (strncmp(word, "unlocked=", 9) == 0) diagnostics->unlocked = (uint8_t)value;
 }
 
 /* Words of pages 20h to 2Fh. */
@@ -98,6 +104,7 @@ static void read_firmware_word(const char *word, unsigned value) {
     if (strcmp(word, "uncommitted") == 0) firmware->running = 1, load_bank(firmware, 1, (const uint8_t *)"\2\1\0\7", 4);
     if (strcmp(word, "stays-open") == 0) firmware->stays_open = true;
     if (strcmp(word, "aborts-none") == 0) firmware->aborts_none = true;
+    if (strcmp(word, "commits-none") == 0) firmware->commits_none = true;
     if (strncmp(word, "left-open=", 10) == 0) firmware->open = true, firmware->not_again = (uint8_t)value;
     if (strncmp(word, "no-block=", 9) == 0) firmware->no_block = (uint8_t)value;
     if (strcmp(word, "both-run") == 0) firmware->valid[0] = false;
@@ -247,7 +254,10 @@ static bool is_muted(void) {
     return microseconds() < shim.muted || (shim.answers != 0 && shim.made % shim.answers != 0);
 }
 
-static void interrupt(void) { kill(getpid(), shim.signal != 0 ? (int)shim.signal : SIGINT); }
+static void interrupt(void) {
+    kill(getpid(), shim.signal != 0 ? (int)shim.signal : SIGINT);
+    if (shim.twice) kill(getpid(), SIGTERM);
+}
 
 /* Whether the next transaction reaches the module; else errno says why. */
 static bool reaches(void) {
@@ -258,7 +268,9 @@ static bool reaches(void) {
     if (shim.made == shim.interrupt) interrupt();
     if (shim.made == shim.fault) enter_state(&shim.module, 5);
     if (shim.made == shim.lose) shim.module.present[0x11] = false;
-    for (int64_t until = microseconds() / 1000; shim.lived < until; shim.lived++) {
+    int64_t until = microseconds() / 1000;
+    if (until - shim.lived > LONGEST) shim.lived = until - LONGEST;
+    for (; shim.lived < until; shim.lived++) {
         pass_millisecond(&shim.module);
         if (shim.banks) pass_time(&shim.firmware, 1);
         if (shim.links) pass_diagnostics(&shim.diagnostics);
@@ -323,6 +335,7 @@ static int transfer(const struct i2c_rdwr_ioctl_data *data) {
         if (shim.longest != 0 && data->msgs[i].len > shim.longest)
             return errno = shim.too_long != 0 ? shim.too_long : EOPNOTSUPP, -1;
     bool reached = reaches() && !is_locked(&data->msgs[0]);
+    if (reached && shim.partial && data->nmsgs == 2) return 1;
     for (unsigned i = 0; i < data->nmsgs; i++) {
         struct i2c_msg *message = &data->msgs[i];
         if (message->addr != 0x50) return errno = ENXIO, -1;
@@ -375,6 +388,7 @@ ssize_t pread(int file, void *bytes, size_t count, off_t place) {
 ssize_t pwrite(int file, const void *bytes, size_t count, off_t place) {
     if (file < 0 || file != shim.file) return REAL(pwrite)(file, bytes, count, place);
     if (!reaches()) return -1;
+    if (shim.partial) count--;
     store_bytes(select_place(place), count, bytes);
     return (ssize_t)count;
 }

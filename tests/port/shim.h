@@ -18,6 +18,7 @@ struct shim {
     unsigned interrupt;    /* after so many of them the program gets SIGINT */
     unsigned print;        /* or while it prints for this time */
     unsigned signal;       /* or this signal; 0 for SIGINT */
+    bool twice;            /* and SIGTERM with it */
     unsigned fault, lose;  /* after so many of them the module is in ModuleFault, or lacks page 11h; 0 for never */
     bool smbus;            /* the adapter is for SMBus alone */
     bool real_time;        /* a pause is one; else the clock goes on by it at once */
@@ -38,6 +39,7 @@ struct shim {
     int64_t muted;    /* microseconds: until then */
     unsigned takes;   /* milliseconds until one that isn't answered is given up */
     bool locked;      /* an adapter's stores of one byte on page 10h are refused */
+    bool partial;     /* of two messages the first alone is carried; of bytes that are stored in a row the last isn't */
     char other[256];  /* the memory of the module that comes in place of the first; else that of the first */
     char hold[256];   /* a file that is made at the tenth transaction, which waits until it is gone */
     struct shim_byte {

@@ -170,6 +170,7 @@ static uint8_t run(struct two_banks *module, const uint8_t *body, uint8_t count)
 /* CMD 010Ah */
 static uint8_t commit(struct two_banks *module) {
     module->commits++;
+    if (module->commits_none) return SUCCESS;
     module->committed[module->running] = true;
     module->committed[1 - module->running] = false;
     return SUCCESS;

@@ -6,7 +6,9 @@
 #include <stddef.h>
 #include <stdint.h>
 
-enum { MOST_IMAGE = 1 << 16 };
+#ifndef MOST_IMAGE
+#define MOST_IMAGE (1 << 16)
+#endif
 
 struct two_banks {
     uint8_t images[2][MOST_IMAGE];
@@ -35,6 +37,7 @@ struct two_banks {
     uint8_t no_block;    /* the status of each block, none of which is taken; 0: they are taken */
     bool stays_open;     /* a download is open even after an abort that succeeded */
     bool aborts_none;    /* it has no command that gives up a download */
+    bool commits_none;   /* a commit that succeeded has changed nothing */
     bool background;     /* it answers while it is busy */
     bool tens;           /* its durations count tens of milliseconds */
     bool boots;          /* what is loaded can run */
