@@ -28,6 +28,7 @@ class Port:
 
     def __init__(self, name: str, said: List[str]) -> None:
         self.module, self.name, self.said = SimulatedModule(DR4), name, said
+        self.pauses: List[float] = []
 
     async def transact(self, operation: Operation) -> Reply:
         await asyncio.sleep(0)
@@ -35,7 +36,7 @@ class Port:
         return self.module.transact(operation)
 
     async def pause(self, seconds: float) -> None:
-        assert seconds > 0
+        self.pauses.append(seconds)
         await asyncio.sleep(0)
         self.module.tick()
 
@@ -56,6 +57,7 @@ def test_two_modules_are_brought_up_side_by_side() -> None:
     for port in ports:
         assert port.module.active == BEST.control
         assert {state.name for state in port.module.path_states} == {"DPActivated"}
+        assert {*port.pauses} == {0.1}
     assert said.count("one") == said.count("other") and said[:4] == ["one", "other", "one", "other"]
 
 

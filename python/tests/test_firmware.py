@@ -115,7 +115,10 @@ def test_a_commit_is_held_back_and_made_later() -> None:
     assert update.known == FirmwareKnown.RUNS and 0x10A not in module.sent
     reading = BanksReading()
     reading.run(module.transact, lambda seconds: None)
-    assert (reading.banks.running, reading.banks.committed) == ("B", "A")
+    banks = reading.banks
+    assert (banks.running, banks.committed) == ("B", "A")
+    assert (banks.a.runs, banks.a.committed) == (False, True)
+    assert (banks.b.runs, banks.b.committed) == (True, False)
     FirmwareCommit().run(module.transact, lambda seconds: None)
     assert module.committed == 1
 
@@ -224,5 +227,9 @@ def test_a_command_data_block_is_advertised() -> None:
     half[163 - 128 : 167 - 128] = [0x76, 15, 0x02, 0x80]
     block = CommandBlock.of(Image({page(0x01): bytes(half)}))
     assert block == CommandBlock(1, True, True, 12, 15, 320)
+    for bits, background, paging in ((0x60, True, False), (0x50, False, True)):
+        half[163 - 128] = bits
+        block = CommandBlock.of(Image({page(0x01): bytes(half)}))
+        assert (block.background_mode, block.auto_paging) == (background, paging)
     with pytest.raises(KeyError):
         CommandBlock.of(Image({}))

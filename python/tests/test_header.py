@@ -183,6 +183,12 @@ def test_numbers_are_those_of_the_header() -> None:
     assert f"#define DOVECOUNTER_FIRST_INSTANCE {library.FIRST_INSTANCE}\n" in HEADER
     for of_vdm in (*VdmStatistics, *VdmRelease):
         assert STATUSES[f"VDM_{of_vdm.name}"] == of_vdm.value
+    left = re.search(r"enum dovecounter_left_reason \{(.*?)\}", HEADER, re.DOTALL)
+    assert left is not None
+    reasons = re.findall(r"DOVECOUNTER_LEFT_(\w+) = (\d+)", left[1])
+    assert {int(number): name.lower().replace("_", " ") for name, number in reasons} == {
+        number: name.replace("11h", "11") for number, name in port._LEFT.items()
+    }
     assert (STATUSES["NO_RANGE"], STATUSES["NOT_TAKEN"]) == (
         simulated._NO_RANGE,
         simulated._NOT_TAKEN,

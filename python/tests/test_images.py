@@ -156,6 +156,13 @@ def test_a_page_that_the_driver_refuses_is_left_out(
     pytest.raises(OSError, Image.from_port, file)
 
 
+def test_a_device_is_part_of_a_key() -> None:
+    text = f"module-image 1\nlower A2 {'00' * 128}\nupper A2 00 02 {'01' * 128}\nend\n"
+    image = Image.from_text(text)
+    assert list(image.halves) == [Key(0xA2), page(0x02, device=0xA2)]
+    assert image.to_text() == text and Key(0xA2, True, 0, 2) == page(0x02, device=0xA2)
+
+
 def test_a_bank_is_part_of_a_key() -> None:
     text = DR4.to_text().replace("upper A0 00 11", "upper A0 01 11")
     image = Image.from_text(text)

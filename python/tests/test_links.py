@@ -3,7 +3,7 @@ the generators of their lanes if the output of that side is looped back."""
 from __future__ import annotations
 
 import copy
-from typing import Dict, List, Optional
+from typing import Dict, List, Optional, Tuple
 
 import pytest
 
@@ -11,6 +11,7 @@ from dovecounter import (
     LOWER,
     Amount,
     Image,
+    LinkChange,
     LinkFault,
     LinkOutcome,
     LinkTest,
@@ -172,6 +173,98 @@ def test_capabilities() -> None:
         image.without(page(0x01)).link_capabilities()
     none = image.changed(page(0x01), 142, b"\0").without(page(0x13)).link_capabilities()
     assert not none.diagnostics
+
+
+def test_each_capability_has_its_bit() -> None:
+    found = link_capabilities_of(0x20, bytes([6, 0, 0, 0, 1, 0, 2, 0, 4, 0, 0, 0x80]))
+    assert found.loopbacks == (Loopback.MEDIA_SIDE_INPUT, Loopback.HOST_SIDE_OUTPUT)
+    assert (found.host_generator, found.media_generator) == ((Pattern.PRBS31Q,), (Pattern.PRBS31,))
+    assert (found.host_checker, found.media_checker) == ((Pattern.PRBS23Q,), (Pattern.USER,))
+    for place, bits in (
+        (0, {0x10: "single_host_lanes", 0x20: "single_media_lanes", 0x40: "both_sides"}),
+        (1, {0x40: "gates", 0x80: "gates"}),
+        (2, {0x01: "ratios", 0x02: "counts", 0x10: "host_noise", 0x20: "media_noise"}),
+    ):
+        for bit, name in bits.items():
+            each = vars(link_capabilities_of(0x20, bytes(place) + bytes([bit]) + bytes(11 - place)))
+            assert [it for it, has in each.items() if has and it != "diagnostics"] == [name]
+
+
+class Recorded(Links):
+    """One that keeps what is stored: the page, the address and the byte."""
+
+    def __init__(self) -> None:
+        super().__init__()
+        self.stores: List[Tuple[int, int, int]] = []
+
+    def transact(self, operation: Operation) -> Reply:
+        if operation.data is not None and operation.offset >= 128:
+            self.stores.append((self.selected[1], operation.offset, operation.data[0]))
+        return super().transact(operation)
+
+
+def test_each_argument_has_its_control() -> None:
+    links = Recorded()
+    pauses: List[float] = []
+    links.pages[0x13][183 - 128] = 0x81
+    test = LinkTest(
+        Side.HOST,
+        0x30,
+        Pattern.PRBS9,
+        Pattern.PRBS7,
+        Loopback.HOST_SIDE_INPUT,
+        0x0C,
+        Shown.COUNTS_OF_HOST_5_TO_8,
+        period=2500,
+        rounds=3,
+    )
+    on: Dict[int, LinkChange] = {}
+
+    def pause(seconds: float) -> None:
+        pauses.append(seconds)
+        on.update({change.control: change for change in test.changes})
+
+    test.run(links.transact, pause)
+    assert pauses == [2.5] * 3
+    assert on[183] == LinkChange(183, 0x0C, 0x81)
+    assert (on[144].mask, on[160].mask) == (0x30, 0x30)
+    stored = {(number, address): byte for number, address, byte in reversed(links.stores)}
+    assert stored[0x13, 183] == 0x8D and stored[0x14, 128] == 3
+    assert (stored[0x13, 150], stored[0x13, 166]) == (0x99, 0xBB)
+    assert links.pages[0x13][183 - 128] == 0x81
+
+
+def test_results_are_those_of_the_last_gate_time() -> None:
+    links = Recorded()
+    links.pages[0x13][129 - 128] = 0xFF
+    run(looped(shown=Shown.GATED_ERROR_RATIOS, gate=2), links)
+    assert (0x14, 128, 17) in links.stores
+    assert [byte >> 1 & 7 for number, at, byte in links.stores if at == 177][:1] == [2]
+
+
+def test_counts_have_their_highest_byte_first_where_the_caller_says_so() -> None:
+    links = Links()
+    links.pages[0x14][64 : 64 + 16] = (3).to_bytes(8, "big") + (1 << 50).to_bytes(8, "big")
+    test = run(looped(shown=Shown.COUNTS_OF_MEDIA_1_TO_4), links)
+    lane = test.results(big_endian=True).media[0]
+    assert (lane.errors, lane.bits) == (3, 1 << 50)
+    assert test.results().media[0].errors == 3 << 56
+
+
+@pytest.mark.parametrize("tries", [0, 5])
+def test_a_control_is_stored_again(tries: int) -> None:
+    links = Recorded()
+    keeps = links.transact
+
+    def forgetful(operation: Operation) -> Reply:
+        reply = keeps(operation)
+        links.pages[0x13][144 - 128 :] = bytes(128 - 16)
+        return reply
+
+    test = looped(tries=tries)
+    with pytest.raises(LinkFault, match="^not switched"):
+        test.run(forgetful, lambda seconds: None)
+    assert len([at for number, at, byte in links.stores if byte]) == tries + 1
 
 
 @pytest.mark.parametrize(

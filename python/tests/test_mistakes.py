@@ -2,8 +2,10 @@
 from __future__ import annotations
 
 import array
+import copy
 import os
 import pathlib
+import pickle
 import shutil
 import subprocess
 import sys
@@ -18,16 +20,34 @@ from dovecounter import (
     Activation,
     DataPath,
     Delays,
+    FirmwareFailure,
+    FirmwareFault,
+    FirmwareKnown,
     Image,
     Key,
     KeptPathNotActive,
+    LaneEnd,
+    LaneFault,
+    LaneOutcome,
+    LinkChange,
+    LinkEnd,
+    LinkFault,
+    LinkOutcome,
     Operation,
     Plan,
     Provisioning,
     Patience,
     Reading,
+    SettingsEnd,
+    SettingsFault,
+    SettingsOutcome,
+    SettingsReach,
     SimulatedModule,
     Sleeping,
+    VdmEnd,
+    VdmFault,
+    VdmRelease,
+    VdmStatistics,
     Wait,
     Waking,
     certificate,
@@ -207,6 +227,23 @@ def test_a_kept_path_that_is_not_active_is_warned_of() -> None:
         with pytest.warns(KeptPathNotActive) as told:
             plan(image, WEIGHTS, [DataPath(2, 1, 3), other])
         assert [str(one.message).partition(" is to be")[0] for one in told] == [str(other)]
+
+
+@pytest.mark.parametrize(
+    "fault",
+    [
+        FirmwareFault(FirmwareFailure.REFUSED, 0x46, FirmwareKnown.BEGUN),
+        LaneFault(LaneEnd(LaneOutcome.NOT_PERMITTED, 1, 2, 3)),
+        LinkFault(LinkEnd(LinkOutcome.TESTED, 4, (LinkChange(180, 1, 0),))),
+        SettingsFault(SettingsEnd(SettingsOutcome.NOT_UP, 1, SettingsReach.NOTHING)),
+        VdmFault(VdmEnd(VdmStatistics.PENDING, VdmRelease.ACCEPTED, (0x28,))),
+    ],
+    ids=lambda it: type(it).__name__,
+)
+def test_a_fault_is_copied_and_pickled(fault: Exception) -> None:
+    for same in (copy.copy(fault), pickle.loads(pickle.dumps(fault))):
+        assert type(same) is type(fault)
+        assert (vars(same), str(same)) == (vars(fault), str(fault))
 
 
 def test_objects_show_what_they_are() -> None:

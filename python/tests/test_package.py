@@ -143,6 +143,13 @@ def test_a_path_that_is_active_weighs_more() -> None:
         plan(image, weights, stay=2**32)
 
 
+def test_a_judgement_has_its_sentence() -> None:
+    text = certificate(DR4, WEIGHTS)
+    assert check(DR4, WEIGHTS, text).sentence == ""
+    bad = check(DR4, WEIGHTS, text, paired=True)
+    assert (bad.reason, bad.sentence) == ("VR10", sentence_of("VR10"))
+
+
 def test_a_fault_has_the_program_s_values() -> None:
     images = [
         DR4.without(LOWER),
@@ -305,5 +312,7 @@ def test_a_change_is_judged_by_what_is_asked() -> None:
     down = memory(3, 1, best.control[:4] + bytes(4))
     assert judge(down, kept).hindrance == Hindrance.WOULD_COME_UP
     assert judge(down, kept).lanes == 0x03
-    assert judge(down, kept, may_bring_up=0x03).hindrance == Hindrance.UNHINDERED
+    brought_up = judge(down, kept, may_bring_up=0x03)
+    assert brought_up.hindrance == Hindrance.UNHINDERED and brought_up.goes_down == 0
+    assert (brought_up.comes_up, brought_up.stays) == (0x03, 0)
     assert judge(memory(3, 1, bytes(8)), kept).hindrance == Hindrance.OTHER_BYTES

@@ -2,20 +2,26 @@
 from __future__ import annotations
 
 import asyncio
+import copy
+import dataclasses
 import json
-from typing import Any, Callable, List, Optional, Type
+import time
+from typing import Any, Callable, Dict, List, Optional, Type
 
 import pytest
 
 from shared import example
 from dovecounter import (
+    LOWER,
     ConfigStatus,
     Idle,
+    Image,
     Key,
     ModuleState,
     Operation,
     PathState,
     Port,
+    PortFlag,
     PortLane,
     PortOutcome,
     Reply,
@@ -130,6 +136,150 @@ def test_what_it_says_is_json() -> None:
         assert flag.count > 0
     machine.port.acknowledge(machine.now)
     assert machine.port.flags == ()
+
+
+def test_what_it_says_is_how_it_is() -> None:
+    machine = Machine(SimulatedModule(DR4))
+    assert repr(machine.port) == "<Port ABSENT>" and machine.port.goal is None
+    machine.port.plug(7)
+    assert machine.port.due == machine.port.to_dict()["due"] == 27
+    assert repr(machine.port) == "<Port READING>" and machine.port.goal is None
+    machine.comes_up()
+    assert machine.port.goal == (machine.module.active, 0xFF)
+    told = {"control": machine.module.active.hex(), "lanes": 0xFF}
+    assert machine.port.to_dict()["goal"] == told
+    other = copy.copy(machine.port)
+    other.hold(True)
+    assert (other.held, other.to_dict()["held"]) == (True, True)
+    assert (machine.port.held, machine.port.to_dict()["held"]) == (False, False)
+    machine.port.request(PortRequest.DEACTIVATE, 0x0F)
+    assert machine.port.to_dict()["requested"] == ["DEACTIVATE", 0x0F]
+
+
+class Flagged(Machine):
+    """One that raises flags of the module and of a lane whenever they are read."""
+
+    def reply(self, operation: Operation) -> Reply:
+        reply = super().reply(operation)
+        if self.port.place == Key(0xA0) and isinstance(reply, bytes):
+            return reply[:9] + b"\x20" + reply[10:]
+        if self.port.place == page(0x11) and isinstance(reply, bytes):
+            return reply[: 136 - 128] + b"\x08" + reply[137 - 128 :]
+        return reply
+
+
+def test_a_flag_has_its_place_and_moment() -> None:
+    machine = Flagged(SimulatedModule(DR4))
+    machine.port.plug(0)
+    machine.drive(lambda _: machine.port.place == page(0x11))
+    now = machine.now - 1
+    lower, lane = machine.port.flags
+    assert (lower.key, lower.address, lower.bit, lower.count) == ("lower", 9, 5, 1)
+    assert lane == PortFlag("page 11h", 136, 3, 1, now)
+    assert 0 < lower.last < now
+    assert machine.port.to_dict()["flags"] == [lower.to_dict(), lane.to_dict()]
+    machine.port.acknowledge(lower.last)
+    assert machine.port.flags == (lane,)
+
+
+class Rejecting(Machine):
+    """One that rejects each configuration, or tells for ever that one is in progress."""
+
+    status = b"\x22" * 4
+
+    def reply(self, operation: Operation) -> Reply:
+        reply = super().reply(operation)
+        is_of_statuses = operation.offset == 202 and not operation.is_store
+        return self.status if is_of_statuses and reply is not False else reply
+
+
+@pytest.mark.parametrize("status, fault", [(0x22, "PV1"), (0xCC, "overdue")])
+def test_a_failure_has_its_fault_and_moment(status: int, fault: str) -> None:
+    machine = Rejecting(SimulatedModule(DR4))
+    machine.status = bytes([status] * 4)
+    machine.port.plug(0)
+    failed = machine.drive(lambda outcome: outcome.kind is Kind.FAILED)
+    assert failed is not None and failed.failure is Failure.NOT_PROVISIONED
+    assert (failed.fault, failed.note, failed.left) == (fault, None, None)
+    assert failed.moment == machine.port.due == machine.now - 1 + 50
+    assert failed.to_dict()["moment"] == failed.moment
+
+
+class Still(Machine):
+    """One whose memory never changes, but for the selection."""
+
+    def __init__(self, image: Image) -> None:
+        super().__init__(SimulatedModule(DR4))
+        self.image, self.selected = image, bytearray(2)
+
+    def reply(self, operation: Operation) -> Reply:
+        if operation.data is not None:
+            self.selected[operation.offset - 126 :] = operation.data
+            if page(self.selected[1]) not in self.image.halves:
+                self.selected[:] = bytes(2)
+            return True
+        key = page(self.selected[1]) if operation.offset >= 128 else LOWER
+        half = bytearray(self.image.halves[key])
+        if operation.offset < 128:
+            half[126:] = self.selected
+        return bytes(half[operation.offset % 128 :][: operation.count])
+
+
+@pytest.mark.parametrize(
+    "changes, most_power, why",
+    [
+        ({}, 255, "AD4"),
+        ({2: 0x80}, 255, "AD3"),
+        ({0: 0x11}, 255, "AD1"),
+        ({3: 0x02, 26: 0x10}, 47, "needs power"),
+    ],
+)
+def test_each_reason_has_its_name(changes: Dict[int, int], most_power: int, why: str) -> None:
+    image = DR4 if changes else DR4.without(page(0x11))
+    for address, byte in changes.items():
+        image = image.changed(LOWER, address, bytes([byte]))
+    machine = Still(image)
+    machine.wanted = dataclasses.replace(WANTED, most_power=most_power)
+    machine.port.plug(0)
+    left = machine.drive(lambda outcome: outcome.kind is Kind.LEAVES)
+    assert left is not None and left.left == machine.port.left == why
+
+
+def with_pairs() -> Image:
+    """A module that can't have both Applications at once if it pairs first lanes."""
+    image = DR4.changed(LOWER, 86, bytes.fromhex("111c44100d144411"))
+    image = image.changed(page(0x01), 176, b"\x01\x11").changed(page(0x00), 210, b"\0")
+    for number, first, place in ((0x00, 128, 222), (0x01, 130, 255)):
+        half = image.halves[page(number)]
+        total = sum(half[first - 128 : place - 128]) % 256
+        image = image.changed(page(number), place, bytes([total]))
+    return image
+
+
+PAIRS = with_pairs()
+
+
+@pytest.mark.parametrize(
+    "members, control",
+    [
+        ({"weights": {0x11: 405, 0x0D: 101}}, "10 10 10 10 10 10 10 10"),
+        ({"weights": {0x11: 405, 0x0D: 101}, "stay": 1}, "20 20 24 24 28 28 2c 2c"),
+        ({"paired": True}, "00 00 00 00 18 18 18 18"),
+        ({"paired": False}, "20 20 20 20 18 18 18 18"),
+        ({"counts_by_id": True}, "10 10 10 10 10 10 10 10"),
+    ],
+)
+def test_what_is_wanted_is_planned(members: Dict[str, Any], control: str) -> None:
+    image = DR4.changed(page(0x11), 206, bytes.fromhex("20 20 24 24 00 00 00 00"))
+    if "counts_by_id" in members:
+        image = image.changed(LOWER, 88, b"\0").changed(LOWER, 92, b"\0")
+    if "paired" in members:
+        image = PAIRS
+    machine = Machine(SimulatedModule(image))
+    machine.wanted = dataclasses.replace(WANTED, **members, may_take_down=0xFF)
+    machine.port.plug(0)
+    machine.comes_up()
+    assert machine.module.active.hex(" ") == control
 
 
 def test_lanes_are_known_since_they_changed() -> None:
@@ -264,6 +414,41 @@ def test_ports_are_kept_side_by_side_by_coroutines() -> None:
     assert first == second == [Note.IDENTIFIED, Note.PROVISIONED, Note.CAME_UP]
     for machine in machines:
         assert machine.port.goal is not None and machine.port.goal[0] == machine.module.active
+
+
+class Slow(Served):
+    """One whose pauses are kept."""
+
+    def __init__(self) -> None:
+        super().__init__(SimulatedModule(DR4))
+        self.port, self.pauses = Port(Times(3500, 100, 50, 400)), list[float]()
+
+    async def pause(self, seconds: float) -> None:
+        self.pauses.append(seconds)
+        await super().pause(seconds)
+
+
+def test_a_long_pause_is_made_in_parts() -> None:
+    machine = Slow()
+    machine.port.plug(0)
+    assert asyncio.run(machine.notes(Note.CAME_UP))[-1] is Note.CAME_UP
+    assert machine.pauses[:4] == [1, 1, 1, 0.5]
+
+
+def test_a_port_has_the_clock_of_the_system() -> None:
+    port, module = Port(Times(100, 100, 50, 400)), SimulatedModule(DR4)
+
+    async def transact(operation: Operation) -> Reply:
+        return module.transact(operation)
+
+    async def first() -> None:
+        async for _ in port.run_async(transact, WANTED):
+            return
+
+    begun = time.monotonic()
+    port.plug(time.monotonic_ns() // 1_000_000)
+    asyncio.run(first())
+    assert 0.09 <= time.monotonic() - begun < 10
 
 
 class Pulled(Served):

@@ -2,6 +2,7 @@
 from __future__ import annotations
 
 import copy
+import dataclasses
 import json
 import pathlib
 from typing import Dict, List, Optional
@@ -220,6 +221,32 @@ def test_provisioning_with_settings_has_faults() -> None:
         ExplicitProvisioning("no plan", 0x02, TARGET, LIMITS)  # type: ignore[arg-type]
 
 
+def test_lanes_of_kept_paths_are_left_alone() -> None:
+    module = Provisioned()
+    kept = dataclasses.replace(PLAN, outside=0xF0)
+    module.pages[0x11][206 - 128 : 210 - 128] = kept.control[:4]
+    change = ExplicitProvisioning(kept, 0, TARGET, LIMITS)
+    change.run(module.transact, lambda seconds: None)
+    assert module.applied == [0xF0]
+
+
+@pytest.mark.parametrize("tries", [1, 5])
+def test_settings_are_tried_again(tries: int) -> None:
+    module = Module()
+    module.keeps = False
+    stored: List[int] = []
+
+    def transact(operation: Operation) -> Reply:
+        if operation.is_store and operation.offset == 153:
+            stored.append(operation.offset)
+        return module.transact(operation)
+
+    change = SettingsChange(0x02, TARGET, LIMITS, permitted=0x02, tries=tries)
+    with pytest.raises(SettingsFault, match="^not staged$"):
+        change.run(transact, lambda seconds: None)
+    assert len(stored) == tries + 1
+
+
 def test_a_lane_with_other_settings_is_a_fault() -> None:
     module = Provisioned()
     kept = module.transact
@@ -319,6 +346,16 @@ def test_a_file_has_settings_by_port_speed_and_part(
 ) -> None:
     found = written(tmp_path, FILE).of(of(vendor, part), speed, port)
     assert found == tuple(wanted.get(lane, LaneSignal()) for lane in range(8))
+
+
+def test_settings_of_any_port_go_for_a_port_without_its_own(tmp_path: pathlib.Path) -> None:
+    ports = {"4": {"OTHER": {"CDREnableRx": {"lane1": 1}}}, "4,5": {"GOOD": {"CDREnableRx": EACH}}}
+    found_for_each = FILE["GLOBAL_MEDIA_SETTINGS"]
+    file = {"GLOBAL_MEDIA_SETTINGS": found_for_each, "PORT_MEDIA_SETTINGS": ports}
+    wanted = (LaneSignal(recover_rx=True),) * 8
+    assert written(tmp_path, file).of(of("GOOD", "PART1"), "100G", 4) == wanted
+    found = written(tmp_path, file).of(of("FAR", "PART1"), "100G", 4)
+    assert found is not None and found[7] == LaneSignal(amplitude=2)
 
 
 def test_what_a_file_leaves_open_stays(tmp_path: pathlib.Path) -> None:
