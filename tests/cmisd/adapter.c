@@ -319,7 +319,9 @@ int __wrap_clock_gettime(clockid_t clock, struct timespec *time) {
     snprintf(path, sizeof path, "%s/clock", getenv("ADAPTERS"));
     int file = __real_open(path, O_RDONLY | O_CLOEXEC);
     if (file < 0) return answered;
-    if (read(file, text, sizeof text - 1) > 0) time->tv_sec += strtol(text, NULL, 10);
+    int64_t ahead = read(file, text, sizeof text - 1) > 0 ? (int64_t)(strtod(text, NULL) * 1000) : 0;
+    int64_t thousandths = (int64_t)time->tv_sec * 1000 + time->tv_nsec / 1000000 + ahead;
+    *time = (struct timespec){thousandths / 1000, thousandths % 1000 * 1000000};
     close(file);
     return answered;
 }
