@@ -17,8 +17,6 @@ void print_line(const char *what, uint8_t code, uint8_t fault, uint8_t first);
 static struct dovecounter_wanted wanted = {
     .weights = {[0x0D] = 101, [0x11] = 400}, .paired = 1, .most_power = 12 * 4 /* 12 W */};
 enum { STAY = 50 }; /* what a path that is active, up or not, weighs more where the module may carry traffic */
-/* Milliseconds until a module that is left alone is judged anew: it may have reset itself while it was read. */
-enum { LEFT = 300000 };
 
 static struct dovecounter_port port; /* port.flags counts the flags that were raised */
 static bool carries_nothing;         /* a module that is plugged now */
@@ -26,7 +24,8 @@ static uint64_t rests_until;         /* nothing is to be done before, unless the
 
 /* `was_powered`: the board itself was just powered, so no module carries anything. After a restart of the firmware alone one may. */
 void begin_port(bool was_powered) {
-    static const struct dovecounter_times times = {.settle = 2000, .period = 10000, .first = 1000, .most = 300000};
+    static const struct dovecounter_times times = {
+        .settle = 2000, .period = 10000, .first = 1000, .most = 300000, .recheck = 300000};
     dovecounter_port_new(&times, &port);
     carries_nothing = was_powered;
     rests_until = 0;
@@ -61,21 +60,15 @@ static void print_outcome(const struct dovecounter_port_outcome *outcome) {
         print_line("went on", outcome->note, 0, 0);
 }
 
-static void rest(const struct dovecounter_port_next *next) {
-    uint64_t idle_until = port.stage == DOVECOUNTER_PORT_LEFT ? milliseconds() + LEFT : UINT64_MAX;
-    rests_until = next->kind == DOVECOUNTER_PORT_UNTIL ? next->moment : idle_until;
-}
-
 void poll_port(void) {
     struct dovecounter_port_next next;
     struct dovecounter_port_outcome outcome;
     uint8_t bytes[128];
     watch_pin();
     if (milliseconds() < rests_until) return;
-    if (port.stage == DOVECOUNTER_PORT_LEFT && rests_until != 0) dovecounter_port_reconsider(&port);
     dovecounter_port_next(&port, milliseconds(), &next);
     if (next.kind != DOVECOUNTER_PORT_DO) {
-        rest(&next);
+        rests_until = next.kind == DOVECOUNTER_PORT_UNTIL ? next.moment : UINT64_MAX;
         return;
     }
     uint8_t reply = transact(&next.operation, bytes);

@@ -1755,9 +1755,9 @@ static inline uint32_t dovecounter_vdm_run(
    clock of 64 bits that neither goes back nor wraps: extend a tick of 32 bits. Nobody else may read the module:
    reading a flag clears it. examples/port_loop.c is the loop, on a bus that blocks.
 
-   A module that is left alone, such as one that isn't CMIS, isn't looked at. You may read it yourself while
-   dovecounter_port_next says DOVECOUNTER_PORT_IDLE, or call dovecounter_port_reconsider each period, and pass the
-   halves that `whole` names to dovecounter_flags.
+   A module that is left alone, such as one that isn't CMIS, isn't looked at, but read and judged anew after
+   times.recheck: pass the halves that `whole` names to dovecounter_flags, or read it yourself while
+   dovecounter_port_next says DOVECOUNTER_PORT_UNTIL or _IDLE.
 
    A port fetches up to 128 bytes at once. If your bus carries less, fetch them in pieces of a multiple of 8 bytes, by
    rising address, with nothing in between. If one is refused, pass DOVECOUNTER_REFUSED and fetch no further piece: the
@@ -1765,12 +1765,14 @@ static inline uint32_t dovecounter_vdm_run(
 
    Status 31 means that no port began in this memory. */
 
-/* How long a port waits, in milliseconds. cmisd takes 2000, 10000, 1000 and 300000, unless its file has others. */
+/* How long a port waits, in milliseconds. cmisd takes 2000, 10000, 1000, 300000 and 60000, unless its file has others. */
 struct dovecounter_times {
-    uint32_t settle; /* after a plug, until the module answers: 2000 suits every module */
-    uint32_t period; /* between two looks at a module that is as wanted */
-    uint32_t first;  /* after a first failure; doubled with each failure that follows */
-    uint32_t most;   /* after a failure at most */
+    uint32_t settle;  /* after a plug, until the module answers: 2000 suits every module */
+    uint32_t period;  /* between two looks at a module that is as wanted */
+    uint32_t first;   /* after a first failure; doubled with each failure that follows */
+    uint32_t most;    /* after a failure at most */
+    uint32_t recheck; /* after a module was left alone, until it is read and judged anew: one that reset itself while it
+                         was read seems to lack pages. 0: not before somebody asks */
 };
 
 enum dovecounter_port_stage {
@@ -1842,12 +1844,13 @@ struct dovecounter_work {
     uint8_t found;
 };
 
-/* A port. You may copy it, save it, and read flags, due, stage, held, goal (from PROVISIONING to WATCHING, and in
-   CONFIRMING), left, request and request_lanes, but don't write its fields: a changed one is refused, or taken for
-   another port, perhaps one that no events lead to. */
+/* A port. You may copy it, save it, and read flags, due, recheck_at, stage, held, goal (from PROVISIONING to WATCHING,
+   and in CONFIRMING), left, request and request_lanes, but don't write its fields: a changed one is refused, or taken
+   for another port, perhaps one that no events lead to. */
 struct dovecounter_port {
     struct dovecounter_flag_counts flags;
-    uint64_t due; /* no operation is named before this moment */
+    uint64_t due;        /* no operation is named before this moment */
+    uint64_t recheck_at; /* in LEFT, if times.recheck isn't 0: the module is read anew from this moment on */
     uint64_t silent_since;
     struct dovecounter_work work;
     struct dovecounter_times times;
@@ -1867,6 +1870,7 @@ struct dovecounter_port {
     uint8_t request_lanes; /* and of which lanes */
     uint8_t identifier;
     uint8_t apply_refused; /* 1 after _APPLY_REFUSED, until the module is provisioned, up, left, plugged or pulled */
+    uint8_t spare[4];      /* has no meaning */
     struct dovecounter_half halves[DOVECOUNTER_MOST_READ];
 };
 
@@ -1886,8 +1890,7 @@ uint32_t dovecounter_port_plug(struct dovecounter_port *port, uint64_t now);
 uint32_t dovecounter_port_pull(struct dovecounter_port *port);
 
 /* The weights changed, or somebody asks: the module is read and judged anew, but not before `due`, so the settle time
-   is kept, and a module that is watched waits for its next look. Its lanes stay up meanwhile. Call it now and then for
-   one that is left alone, say every five minutes: a module that reset itself while it was read seems to lack pages. */
+   is kept, and a module that is watched waits for its next look. Its lanes stay up meanwhile. */
 uint32_t dovecounter_port_reconsider(struct dovecounter_port *port);
 
 /* Holds the port still if held is other than 0: it names no operation. With 0 it goes on, as after reconsider. */
@@ -1939,7 +1942,8 @@ struct dovecounter_port_next {
     struct dovecounter_operation operation; /* DO: a fetch of at most 128 bytes, or a store; else zeros */
 };
 
-/* Writes what is to be done now. After DO the port is busy until the reply is passed. */
+/* Writes what is to be done now. After DO the port is busy until the reply is passed. A module that has been left alone
+   for times.recheck is read and judged anew, as after dovecounter_port_reconsider. */
 uint32_t dovecounter_port_next(struct dovecounter_port *port, uint64_t now, struct dovecounter_port_next *next);
 
 /* What you want of the module. */

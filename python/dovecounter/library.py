@@ -440,7 +440,7 @@ class VdmEnd(Structure):
 
 
 class Times(Structure):
-    _fields_ = _members(c_uint32, "settle period first most")
+    _fields_ = _members(c_uint32, "settle period first most recheck")
 
 
 class Left(Structure):
@@ -476,7 +476,7 @@ class Work(Structure):
 class Port(Structure):
     _fields_ = [
         ("flags", FlagCounts),
-        *_members(c_uint64, "due silent_since"),
+        *_members(c_uint64, "due recheck_at silent_since"),
         ("work", Work),
         ("times", Times),
         *_members(c_uint32, "magic back_off refusals"),
@@ -485,6 +485,7 @@ class Port(Structure):
         ("goal", Goal),
         ("left", Left),
         *_members(c_uint8, "request request_lanes identifier apply_refused"),
+        ("spare", c_uint8 * 4),
         ("halves", Half * MOST_READ),
     ]
 

@@ -60,6 +60,9 @@ class Times:
     """after a first failure; doubled with each failure that follows"""
     most: int = 60000
     """after a failure at most"""
+    recheck: int = 0
+    """after a module was left alone, until it is read and judged anew: one that reset itself while it was
+    read seems to lack pages; 0: not before somebody asks"""
 
 
 class Stage(IntEnum):
@@ -238,8 +241,7 @@ class Port:
         _expect_done(_pull(byref(self._saved)))
 
     def reconsider(self) -> None:
-        """Other weights are wanted, or somebody asks: the module is read and judged anew. Call it now
-        and then for one that is left alone: it may have reset itself while it was read."""
+        """Other weights are wanted, or somebody asks: the module is read and judged anew."""
         _expect_done(_reconsider(byref(self._saved)))
 
     def hold(self, held: bool) -> None:
@@ -306,9 +308,10 @@ class Port:
         pause: Callable[[float], Awaitable[object]] = asyncio.sleep,
     ) -> AsyncIterator[PortOutcome]:
         """Makes all operations by `transact`, and yields what each led to, until nothing is to be
-        done: no module is there, or it is left alone or held. Meanwhile other tasks may call the
-        port. If `transact` raises or returns no reply to the operation, or its task is cancelled,
-        that counts as refused, and you may run the port again."""
+        done: no module is there, or it is held, or left alone without a time to `recheck` it.
+        Meanwhile other tasks may call the port. If `transact` raises or returns no reply to the
+        operation, or its task is cancelled, that counts as refused, and you may run the port
+        again."""
         _numbers_of(wanted)  # raises before there is an operation
         while not isinstance(step := self.next(clock()), Idle):
             if isinstance(step, Until):
@@ -330,6 +333,12 @@ class Port:
     def left(self) -> Optional[str]:
         """Why the module is left alone."""
         return _reason(self._saved.left)
+
+    @property
+    def recheck_at(self) -> Optional[int]:
+        """The moment from which on a module that is left alone is read and judged anew."""
+        is_to_be = self.stage is Stage.LEFT and self._saved.times.recheck > 0
+        return int(self._saved.recheck_at) if is_to_be else None
 
     @property
     def held(self) -> bool:
@@ -364,7 +373,12 @@ class Port:
     def goal(self) -> Optional[Tuple[bytes, int]]:
         """The control bytes and the byte of host lanes that the port works for, while it does."""
         goal = self._saved.goal
-        works = self.stage in (Stage.PROVISIONING, Stage.ACTIVATING, Stage.CONFIRMING, Stage.WATCHING)
+        works = self.stage in (
+            Stage.PROVISIONING,
+            Stage.ACTIVATING,
+            Stage.CONFIRMING,
+            Stage.WATCHING,
+        )
         return (bytes(goal.control), int(goal.lanes)) if works else None
 
     @property
@@ -385,6 +399,7 @@ class Port:
             "held": self.held,
             "requested": [self.requested[0].name, self.requested[1]],
             "due": self.due,
+            "recheck_at": self.recheck_at,
             "goal": None if goal is None else {"control": goal[0].hex(), "lanes": goal[1]},
             "lanes": [lane.to_dict() for lane in self.lanes],
             "flags": [flag.to_dict() for flag in self.flags],

@@ -451,6 +451,24 @@ def test_a_port_has_the_clock_of_the_system() -> None:
     assert 0.09 <= time.monotonic() - begun < 10
 
 
+def test_a_module_that_is_left_alone_is_read_anew() -> None:
+    machine = Machine(SimulatedModule(DR4))
+    for recheck, step in ((0, Idle.NOTHING), (1000, None)):
+        machine.port = Port(Times(20, 100, 50, 400, recheck))
+        assert machine.port.recheck_at is None
+        machine.port.plug(machine.now)
+        machine.wanted = Wanted({})
+        assert (left := machine.drive(lambda outcome: outcome.kind is Kind.LEAVES)) is not None
+        assert left.left == machine.port.left and machine.port.stage is Stage.LEFT
+        moment = machine.now - 1 + recheck  # it was taken a millisecond ago
+        assert machine.port.recheck_at == (moment if recheck else None)
+        assert machine.port.next(machine.now) == (step or Until(moment))
+        assert machine.port.to_dict()["recheck_at"] == machine.port.recheck_at
+    assert machine.port.next(moment - 1) == Until(moment)
+    assert isinstance(machine.port.next(moment), Operation) and machine.port.stage is Stage.READING
+    assert machine.port.recheck_at is None
+
+
 class Pulled(Served):
     async def disturb(self) -> None:
         if self.made == 5:

@@ -67,7 +67,7 @@ static void raise(uint32_t *highest, uint32_t ticks) {
 }
 
 static void keep(void) {
-    static const struct dovecounter_times times = {1, 1, 1, 1};
+    static const struct dovecounter_times times = {1, 1, 1, 1, 1};
     uint8_t bytes[128] = {0};
     dovecounter_port_new(&times, &port);
     dovecounter_port_plug(&port, 0);

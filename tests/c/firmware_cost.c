@@ -191,7 +191,7 @@ static uint8_t fetched[128];
 
 /* A port that reads the module, plans, and begins to provision. */
 static void *keeps(void *x) {
-    static const struct dovecounter_times times = {1, 1, 1, 1};
+    static const struct dovecounter_times times = {1, 1, 1, 1, 1};
     dovecounter_port_new(&times, &port);
     dovecounter_port_plug(&port, 0);
     for (uint64_t now = 1; now < 40; now++) {

@@ -261,6 +261,47 @@ static void try_permission(void) {
     expect_same("are the goal's", port.goal.control, active, sizeof active);
 }
 
+/* A module that is left alone is read and judged anew after a while, unless the port is to hold still, or only somebody can ask. */
+static void try_recheck(void) {
+    struct dovecounter_times with_recheck = times;
+    with_recheck.recheck = 1000;
+    begin();
+    plug_in();
+    want(0, 0);
+    expect("nothing is wanted", 1, (unsigned long)is_left(DOVECOUNTER_LEFT_NO_PLAN));
+    pass(LONG);
+    ask();
+    expect("it is left alone for good", DOVECOUNTER_PORT_IDLE, next.kind);
+    dovecounter_port_new(&with_recheck, &port);
+    plug_in();
+    unsigned before = transactions;
+    expect("another is left alone", 1, (unsigned long)is_left(DOVECOUNTER_LEFT_NO_PLAN));
+    const uint64_t recheck_at = now - 1 + 1000;
+    const unsigned reading = transactions - before;
+    expect("it is to be read anew", (unsigned long)recheck_at, (unsigned long)port.recheck_at);
+    for (int time = 0; time < 2; time++) {
+        ask();
+        expect("until then", DOVECOUNTER_PORT_UNTIL, next.kind);
+        expect("nothing is asked", (unsigned long)recheck_at, (unsigned long)next.moment);
+        expect("and it is left", DOVECOUNTER_PORT_LEFT, port.stage);
+        pass(recheck_at - 1 - now);
+    }
+    expect("it is to hold still", 0, dovecounter_port_hold(&port, 1));
+    pass(LONG);
+    ask();
+    expect("and is not read", DOVECOUNTER_PORT_IDLE, next.kind);
+    expect("until it isn't", 0, dovecounter_port_hold(&port, 0));
+    for (int time = 0; time < 3; time++) {
+        before = transactions;
+        expect("it is read, and left alone again", 1, (unsigned long)is_left(DOVECOUNTER_LEFT_NO_PLAN));
+        expect("as a whole", reading, transactions - before);
+        expect("and to be read anew", (unsigned long)(now - 1 + 1000), (unsigned long)port.recheck_at);
+    }
+    want(101, 10);
+    expect("it comes up once it is wanted", 1, (unsigned long)comes_up());
+    expect("all lanes are up", ALL_LANES, lanes_up());
+}
+
 /* ---- what somebody asks ---- */
 
 static void request(uint8_t what, uint8_t lanes) {
@@ -586,6 +627,7 @@ int main(void) {
     try_other_families();
     try_lane_codes();
     try_permission();
+    try_recheck();
     try_sleep();
     try_provision();
     try_plug();

@@ -57,7 +57,7 @@ static void insert_module(void) { expect("a module", 0, dovecounter_module_begin
 
 /* ---- its port ---- */
 
-static const struct dovecounter_times times = {.settle = 20, .period = 100, .first = 50, .most = 400};
+static const struct dovecounter_times times = {.settle = 20, .period = 100, .first = 50, .most = 400, .recheck = 3000};
 static struct dovecounter_port port;
 static struct dovecounter_wanted wanted;
 static struct dovecounter_port_next next;
@@ -190,24 +190,24 @@ static void let_happen(void) {
 static void go_on(int turns) {
     for (outcome.note = 0; turns > 0 && outcome.note != DOVECOUNTER_PORT_STILL_UP; turns--) {
         expect("what is next", 0, dovecounter_port_next(&port, now, &next));
-        expect("unless it waits", next.kind == DOVECOUNTER_PORT_UNTIL, port.stage > 1 && !port.held && now < port.due);
+        uint64_t until = port.stage == DOVECOUNTER_PORT_LEFT ? port.recheck_at : port.due;
+        expect("unless it waits", next.kind == DOVECOUNTER_PORT_UNTIL, !port.held && now < until);
         known.is_dropped = 0;
         if (next.kind == DOVECOUNTER_PORT_DO) make_operation();
-        if (next.kind == DOVECOUNTER_PORT_IDLE && events == 0) return;
+        if (port.stage <= DOVECOUNTER_PORT_LEFT && events == 0) return;
         let_happen();
         pass(next.kind == DOVECOUNTER_PORT_UNTIL && next.moment > now ? next.moment - now : 1);
         if (next.kind == DOVECOUNTER_PORT_DO) pass_reply();
     }
 }
 
-/* Once nothing goes wrong any more, and it was asked to read anew what it left alone by then. */
+/* Once nothing goes wrong any more, and it has read anew what it left alone by then. */
 static void go_on_in_peace(void) {
     refused = refused_applies = resets = events = 0;
     expect("released", 0, dovecounter_port_hold(&port, 0));
     expect("asked for nothing", 0, dovecounter_port_request(&port, DOVECOUNTER_REQUEST_WAKE, 0));
     go_on(4000);
-    pass(1000);
-    if (port.stage != DOVECOUNTER_PORT_WATCHING) expect("asked", 0, dovecounter_port_reconsider(&port));
+    pass(times.recheck);
     go_on(4000);
 }
 

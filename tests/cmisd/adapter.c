@@ -32,8 +32,10 @@ struct adapter {
     uint32_t takes;          /* milliseconds for each transaction */
     uint32_t hides;          /* a fetch of this byte of page 10h alone is refused, if it isn't 0 */
     uint32_t probes;         /* what became of it: fetches of byte 0 alone */
-    uint32_t unused[4];
-    /* so did these */
+    uint32_t unused[2];
+    uint32_t shows;         /* asked for: the state that byte 3 shows, if it isn't 0 */
+    uint32_t refuses_power; /* so is this: transactions with byte 26 are refused */
+    /* these became of it */
     uint32_t transactions, refused, stores, needless, dropped, unread, state, deinit;
     uint32_t paths[8], active[8];
     uint32_t seen_serial, seen_resets, read_lower, read_lanes, stores_of_power, commits;
@@ -203,6 +205,13 @@ static void show_low_power(const struct i2c_rdwr_ioctl_data *data) {
     if (is_half) data->msgs[1].buf[3] = LOW_POWER << 1;
 }
 
+/* Another state, in whatever has byte 3. */
+static void show_state(const struct adapter *it, const struct i2c_rdwr_ioctl_data *data) {
+    uint8_t offset = data->msgs[0].buf[0];
+    bool is_fetched = data->nmsgs == 2 && offset <= 3 && offset + data->msgs[1].len > 3;
+    if (is_fetched) data->msgs[1].buf[3 - offset] = (uint8_t)(it->shows << 1);
+}
+
 /* The simulated module keeps none. */
 static void show_outputs(const struct adapter *it, const struct i2c_rdwr_ioctl_data *data) {
     uint8_t offset = data->msgs[0].buf[0];
@@ -223,6 +232,7 @@ static bool transact(struct adapter *it, const struct i2c_rdwr_ioctl_data *data)
     if (it->random == 0) it->random = 88172645463325252U + (uint64_t)now() * 1000003;
     it->transactions++;
     if (!it->present || below(it, 100) < it->refuse) return false;
+    if (it->refuses_power && data->msgs[0].buf[0] == 26) return false;
     if (it->serial != it->seen_serial || it->resets != it->seen_resets) begin(it);
     let_time_pass(it);
     for (unsigned lane = 0; lane < 8; lane++) was_up[lane] = is_up(it, lane);
@@ -234,6 +244,7 @@ static bool transact(struct adapter *it, const struct i2c_rdwr_ioctl_data *data)
         memset(data->msgs[1].buf, 0x22, data->msgs[1].len); /* ConfigRejected */
     if (it->outputs && is_answered) show_outputs(it, data);
     if (it->drowsy && is_answered) show_low_power(data);
+    if (it->shows && is_answered) show_state(it, data);
     if (it->dark && data->nmsgs == 2 && data->msgs[0].buf[0] == 128 && it->simulated.module.page == 0x11)
         darken(&data->msgs[1]);
     if (is_answered && data->nmsgs == 2) judge_fetch(it, data->msgs[0].buf[0], data->msgs[1].buf, data->msgs[1].len);
@@ -258,7 +269,7 @@ static void show(struct adapter *it) {
 
 static int answer(volatile struct adapter *waits, struct adapter *it, unsigned long request, void *argument) {
     if (request == I2C_FUNCS) {
-        *(unsigned long *)argument = it->smbus ? I2C_FUNC_SMBUS_BYTE_DATA : I2C_FUNC_I2C;
+        *(unsigned long *)argument = it->smbus ? I2C_FUNC_SMBUS_EMUL : I2C_FUNC_I2C | I2C_FUNC_SMBUS_EMUL;
         return 0;
     }
     const struct i2c_rdwr_ioctl_data *data = argument;
@@ -331,7 +342,8 @@ char *__wrap_realpath(const char *name, char *path);
 
 char *__wrap_realpath(const char *name, char *path) {
     static const char devices[] = "/sys/bus/i2c/devices/";
-    if (strncmp(name, devices, strlen(devices)) != 0) return __real_realpath(name, path);
+    bool is_adapter = strncmp(name, devices, strlen(devices)) == 0 && strncmp(name + strlen(devices), "i2c-", 4) == 0;
+    if (!is_adapter) return __real_realpath(name, path);
     sprintf(path, "/sys/devices/pci0000:00/i2c-0/%.99s", name + strlen(devices));
     return path;
 }

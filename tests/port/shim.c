@@ -361,7 +361,7 @@ int ioctl(int file, unsigned long request, ...) {
     if (file < 0 || file != shim.file) return REAL(ioctl)(file, request, argument);
     if (shim.in_a_row) return errno = ENOTTY, -1;
     if (request == I2C_FUNCS) {
-        *(unsigned long *)argument = shim.smbus ? I2C_FUNC_SMBUS_BYTE_DATA : I2C_FUNC_I2C;
+        *(unsigned long *)argument = shim.smbus ? I2C_FUNC_SMBUS_EMUL : I2C_FUNC_I2C | I2C_FUNC_SMBUS_EMUL;
         return 0;
     }
     if (request == I2C_RDWR && !shim.smbus) return transfer(argument);

@@ -99,13 +99,10 @@ static bool consult(const char *name, char answer[LINE_SIZE]) {
     return is_known;
 }
 
-/* The newest half comes first here. */
 static void take_memory(struct port *port, char *image, size_t length) {
-    struct dovecounter_half halves[DOVECOUNTER_MOST_READ];
     FILE *file = length > 0 ? fmemopen(image, length, "r") : NULL;
     if (file == NULL) return;
-    port->half_count = (uint8_t)read_halves(file, halves, DOVECOUNTER_MOST_READ);
-    for (size_t i = 0; i < port->half_count; i++) port->halves[port->half_count - 1 - i] = halves[i];
+    port->half_count = (uint8_t)read_halves(file, port->halves, DOVECOUNTER_MOST_READ);
     fclose(file);
 }
 

@@ -9,6 +9,9 @@
 enum { NAME_SIZE = 32, TEXT_SIZE = 128, WORDS_SIZE = 512 };
 enum { LANES_PAGE = 0x11, MODULE_FLAGS = 32, LANE_FLAGS = 152, OUTPUTS = 2 };
 
+/* Of a module that is read again, and of another one that may have replaced it. */
+enum { MOST_HALVES = 2 * DOVECOUNTER_MOST_READ };
+
 /* A section of the configuration. */
 struct entry {
     char name[NAME_SIZE], weights[TEXT_SIZE];
@@ -62,10 +65,10 @@ struct port {
 
     int64_t began;              /* when the transaction under way began, or 0 */
     unsigned operations, nacks; /* all transactions; all refused */
-    struct dovecounter_half halves[DOVECOUNTER_MOST_READ];
+    struct dovecounter_half halves[MOST_HALVES];
     size_t half_count;
     int64_t read_at;                    /* when one was read last as a whole */
-    int page;                           /* that was read to be selected last, or -1 */
+    uint8_t page;                       /* that was read to be selected last */
     bool has_new_image, has_new_counts; /* than its files */
     bool is_unwritten;                  /* its PORT.json or PORT.prom couldn't be written */
     struct dovecounter_plan plan; /* whose paths are shown, if its control bytes are those that the port works for */
@@ -119,11 +122,11 @@ bool is_pausing(struct port *port, const struct dovecounter_operation *operation
 uint8_t make_aside(struct port *port, const struct dovecounter_operation *operation, uint8_t bytes[128]);
 void forget_module(struct port *port);
 void list_anew(struct port *port);
-bool begin_listing(struct port *port, const struct dovecounter_port_next *next);
+void begin_listing(struct port *port);
 void go_on_listing(struct port *port);
 
 /* outputs.c */
-bool begin_outputs(struct port *port, const struct dovecounter_port_next *next);
+bool begin_outputs(struct port *port);
 void go_on_with_outputs(struct port *port);
 void print_outputs(FILE *out, const struct port *port);
 

@@ -2,7 +2,6 @@
 #include "cmisd.h"
 
 #include <err.h>
-#include <errno.h>
 #include <ini.h>
 #include <stddef.h>
 #include <stdlib.h>
@@ -30,6 +29,7 @@ static const struct key {
     {"period", NUMBER, offsetof(struct entry, times.period)},
     {"first", NUMBER, offsetof(struct entry, times.first)},
     {"most", NUMBER, offsetof(struct entry, times.most)},
+    {"recheck", NUMBER, offsetof(struct entry, times.recheck)},
     {"vdm", NUMBER, offsetof(struct entry, vdm)},
 };
 enum { KEYS = sizeof keys / sizeof keys[0] };
@@ -53,10 +53,9 @@ static void say_wrong(struct reader *reader, unsigned line, const char *which, c
 /* ---- values */
 
 static bool take_number(const char *text, uint32_t most, uint32_t *number) {
-    char *end;
-    errno = 0;
-    unsigned long long value = strtoull(text, &end, 10);
-    if (text[0] < '0' || text[0] > '9' || *end != 0 || errno != 0 || value > most) return false;
+    size_t digits = strspn(text, "0123456789");
+    unsigned long long value = strtoull(text, NULL, 10); /* of too many digits the most that there is */
+    if (digits == 0 || text[digits] != 0 || value > most) return false;
     *number = (uint32_t)value;
     return true;
 }
@@ -196,7 +195,8 @@ bool read_configuration(const char *name, struct configuration *configuration) {
     if (source.file == NULL) return warn("%s", name), false;
     reader->common.manage = reader->common.wanted.paired = 1;
     reader->common.wanted.most_power = UINT8_MAX;
-    reader->common.times = (struct dovecounter_times){.settle = 2000, .period = 10000, .first = 1000, .most = 300000};
+    reader->common.times =
+        (struct dovecounter_times){.settle = 2000, .period = 10000, .first = 1000, .most = 300000, .recheck = 60000};
     int wrong = ini_parse_stream(give_line, &source, take_line, reader);
     end_section(reader);
     if (wrong > 0) say_wrong(reader, (unsigned)wrong, "", "this is neither [PORT] nor a line such as bus = /dev/i2c-7");

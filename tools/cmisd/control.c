@@ -153,14 +153,14 @@ static void answer(FILE *out, char *line) {
 
 /* ---- clients */
 
-/* Takes a bus back. Meanwhile it may be that of another port, or of none, to which it is not lent. */
+/* Takes a bus back, if it was lent. Meanwhile it may be that of another port, or of none, to which it is not lent. */
 static void take_back(const struct client *client) {
     for (struct port *each = ports; each != NULL; each = each->next)
-        if (!each->is_retired && each->is_lent && strcmp(each->entry.bus, client->borrowed) == 0) lend(each, false);
+        if (!each->is_retired && strcmp(each->entry.bus, client->borrowed) == 0) lend(each, false);
 }
 
 static void drop_client(struct client *client) {
-    if (client->borrowed[0] != 0) take_back(client);
+    take_back(client);
     close(client->file);
     memset(client, 0, sizeof *client);
 }
@@ -178,7 +178,7 @@ void send_to_listeners(const char *line, size_t length) {
 void send_to_borrower(const struct port *port) {
     static const char line[] = "{\"done\": true}\n";
     for (struct client *each = clients; each < clients + MOST_CLIENTS; each++)
-        if (each->file != 0 && strcmp(each->borrowed, port->entry.bus) == 0) send_line(each, line, strlen(line));
+        if (strcmp(each->borrowed, port->entry.bus) == 0) send_line(each, line, strlen(line));
 }
 
 /* To those who hold it and wait for that: its bus is closed, or it was released before. */
@@ -227,7 +227,7 @@ static void answer_client(struct client *client, char *line) {
         hold_for(client, line + 5, out);
     else
         answer(out, line);
-    if (fclose(out) == 0 && length > 0) send_line(client, text, length);
+    if (fclose(out) == 0) send_line(client, text, length);
     free(text);
 }
 

@@ -78,12 +78,16 @@ void print_image_of(FILE *out, const struct port *port, const char *end) {
 
 static void print_lines(FILE *out, const struct port *port) { print_image_of(out, port, "\n"); }
 
-/* Says once that files can't be written, and once that they can again. */
+static bool is_full;               /* it was said that files can't be written: */
+static char unwritten[WORDS_SIZE]; /* this one, or "" if it was removed since */
+
+/* Says once that files can't be written, and once that they can again: others may fit in what is left of a disk meanwhile. */
 static void note_disk(const char *name, bool is_written) {
-    static bool was_written = true;
-    if (!is_written && was_written) warn("%s", name);
-    if (is_written && !was_written) warnx("%s: files can be written again", name);
-    was_written = is_written;
+    if (unwritten[0] != 0 && strcmp(name, unwritten) != 0) return;
+    if (!is_written && !is_full) warn("%s", name);
+    if (is_written && is_full) warnx("%s: files can be written again", name);
+    is_full = !is_written;
+    snprintf(unwritten, sizeof unwritten, "%s", is_written ? "" : name);
 }
 
 /* Whether it is in its place. */
@@ -131,6 +135,7 @@ void remove_file(const char *port, const char *ending) {
     char name[WORDS_SIZE];
     snprintf(name, sizeof name, "%s/%s.%s", folder, port, ending);
     unlink(name);
+    if (strcmp(name, unwritten) == 0) unwritten[0] = 0;
 }
 
 /* Of a run before this one there may be files of ports that are no longer configured, and images of modules that are gone. */

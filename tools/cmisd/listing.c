@@ -68,28 +68,27 @@ void list_anew(struct port *port) {
     it->due = 0;
 }
 
-/* Whether a reading may begin now: the library does nothing at the module before another moment, and no conversation is under way. */
-static bool may_begin(const struct port *port, const struct dovecounter_port_next *next) {
+/* Whether a reading may begin, since no conversation of the library is under way. */
+static bool may_begin(const struct port *port) {
     uint8_t reason = port->core.left.reason;
-    bool is_watched = port->core.stage == DOVECOUNTER_PORT_WATCHING && next->kind == DOVECOUNTER_PORT_UNTIL;
-    bool is_left = port->core.stage == DOVECOUNTER_PORT_LEFT && next->kind == DOVECOUNTER_PORT_IDLE;
+    bool is_watched = port->core.stage == DOVECOUNTER_PORT_WATCHING;
+    bool is_left = port->core.stage == DOVECOUNTER_PORT_LEFT;
     bool is_awake = reason == DOVECOUNTER_LEFT_NO_PLAN || reason == DOVECOUNTER_LEFT_NEEDS_PERMISSION;
-    return port->entry.vdm > 0 && port->is_open && ((is_watched && port->is_rested) || (is_left && is_awake));
+    return port->entry.vdm > 0 && ((is_watched && port->is_rested) || (is_left && is_awake));
 }
 
 /* Begins a reading if one is due; else sees that the port is due by then. */
-bool begin_listing(struct port *port, const struct dovecounter_port_next *next) {
+void begin_listing(struct port *port) {
     struct listing *it = &port->listing;
-    if (!may_begin(port, next)) return false;
+    if (!may_begin(port)) return;
     if (it->due > now()) {
         if (it->due < port->due) port->due = it->due;
-        return false;
+        return;
     }
     dovecounter_vdm_begin(PAUSE, &it->reading);
     it->is_under_way = true;
     port->goes_on_at = 0;
     port->due = now();
-    return true;
 }
 
 /* Whether it asks for a pause that isn't over, until which nothing is due. */
@@ -101,7 +100,6 @@ bool is_pausing(struct port *port, const struct dovecounter_operation *operation
         return true;
     }
     port->goes_on_at = 0;
-    port->due = now();
     return false;
 }
 
@@ -110,7 +108,6 @@ uint8_t make_aside(struct port *port, const struct dovecounter_operation *operat
     bool answered;
     if (operation->kind == DOVECOUNTER_WAIT) return DOVECOUNTER_WAITED;
     make(port, operation, bytes, &answered);
-    port->page = -1; /* another one may be selected */
     if (!answered) return DOVECOUNTER_REFUSED;
     return operation->kind == DOVECOUNTER_STORE ? DOVECOUNTER_STORED : DOVECOUNTER_FETCHED;
 }

@@ -20,9 +20,9 @@ static void begin(struct outputs *it) {
 }
 
 /* Begins if they are to be read, and no conversation of the library is under way. */
-bool begin_outputs(struct port *port, const struct dovecounter_port_next *next) {
+bool begin_outputs(struct port *port) {
     struct outputs *it = &port->outputs;
-    bool is_left = port->core.stage == DOVECOUNTER_PORT_LEFT && next->kind == DOVECOUNTER_PORT_IDLE;
+    bool is_left = port->core.stage == DOVECOUNTER_PORT_LEFT;
     if (!it->is_due || !(port->is_rested || is_left)) return false;
     it->is_due = false;
     it->at = 0;

@@ -11,7 +11,6 @@
 #include <unistd.h>
 
 enum { SECOND = 1000, SOON = 100, LONGEST = 64 * SECOND }; /* milliseconds */
-enum { PERIODS = 6, READ_WITHIN = 300 * SECOND };          /* between two readings of what is left alone */
 
 /* What hangs on one adapter, beyond all multiplexers, has one thread. */
 struct adapter {
@@ -61,14 +60,12 @@ bool is_still(const struct port *port) { return port->is_held || port->is_lent |
 static void forget(struct port *port) {
     port->is_read_again = false;
     port->half_count = 0;
-    port->page = -1;
 }
 
-/* Others have had its bus, unless a reading is under way, and may have changed or exchanged the module. What comes of that is told if it is
-   new. */
+/* Others have had its bus, and may have changed or exchanged the module. What comes of that is told if it is new. */
 static void doubt(struct port *port) {
     forget(port);
-    if (!port->listing.is_under_way) list_anew(port);
+    list_anew(port);
     port->outputs.is_known = port->outputs.is_under_way = false;
 }
 
@@ -77,7 +74,7 @@ static void doubt(struct port *port) {
 /* Whether one that was configured before it still has its bus. */
 static bool has_former(const struct port *port) {
     for (const struct port *each = ports; each != port; each = each->next)
-        if (each->is_retired && strcmp(each->entry.bus, port->entry.bus) == 0) return true;
+        if (strcmp(each->entry.bus, port->entry.bus) == 0) return true;
     return false;
 }
 
@@ -189,7 +186,7 @@ static size_t take_half(struct port *port, const struct dovecounter_half *half) 
     size_t at = 0;
     while (at < port->half_count && memcmp(&port->halves[at], half, offsetof(struct dovecounter_half, bytes)) != 0)
         at++;
-    if (at == DOVECOUNTER_MOST_READ) return at;
+    if (at == MOST_HALVES) return at;
     if (at == port->half_count || memcmp(&port->halves[at], half, sizeof *half) != 0) port->has_new_image = true;
     if (at == port->half_count) port->half_count++;
     port->halves[at] = *half;
@@ -197,17 +194,16 @@ static size_t take_half(struct port *port, const struct dovecounter_half *half) 
 }
 
 /* Keeps what an answer shows of the memory: halves, and bytes of those that were read before. The library reads which page is selected
-   after each selection. */
+   after each selection, and fetches no bytes of a page before that, or of a bank other than 0. */
 static void remember(struct port *port, const struct dovecounter_port_next *next, uint8_t outcome,
                      const uint8_t bytes[128]) {
     const struct dovecounter_operation *made = &next->operation;
     uint8_t upper = made->offset >= 128;
     if (outcome != DOVECOUNTER_FETCHED) return;
-    if (made->offset == 126 && made->count == 2) port->page = bytes[0] == 0 ? bytes[1] : -1;
-    int page = next->whole ? next->page : upper ? port->page : 0;
-    if (!next->whole && page < 0) return;
-    const struct dovecounter_half *known = half_of(port, upper, (uint8_t)page);
-    struct dovecounter_half half = {made->device, upper, next->bank, (uint8_t)page, {0}};
+    if (made->offset == 126 && made->count == 2) port->page = bytes[1];
+    uint8_t page = next->whole ? next->page : upper ? port->page : 0;
+    const struct dovecounter_half *known = half_of(port, upper, page);
+    struct dovecounter_half half = {made->device, upper, next->bank, page, {0}};
     if (!next->whole && known == NULL) return;
     if (!next->whole) half = *known;
     memcpy(half.bytes + made->offset % 128, bytes, made->count);
@@ -217,12 +213,11 @@ static void remember(struct port *port, const struct dovecounter_port_next *next
     port->anew |= (uint16_t)(1U << at);
 }
 
-/* A module with lanes was read, perhaps as up already, or its lanes came up or did not. */
+/* A module with lanes was read, perhaps as up already. */
 static bool may_have_other_outputs(const struct port *port, const struct dovecounter_port_outcome *led_to) {
     bool is_read = led_to->kind == DOVECOUNTER_PORT_LEAVES || led_to->note == DOVECOUNTER_PORT_IDENTIFIED ||
                    led_to->note == DOVECOUNTER_PORT_CAME_UP;
-    bool is_down = led_to->kind == DOVECOUNTER_PORT_FAILED && led_to->failure == DOVECOUNTER_PORT_NOT_ACTIVATED;
-    return is_down || (is_read && half_of(port, 1, LANES_PAGE) != NULL);
+    return is_read && half_of(port, 1, LANES_PAGE) != NULL;
 }
 
 static void carry_out(struct port *port, const struct dovecounter_port_next *next) {
@@ -245,17 +240,13 @@ static void carry_out(struct port *port, const struct dovecounter_port_next *nex
     take_answer(port, answered, began);
 }
 
-/* Nobody looks at a module that is left alone, but its files are to show what it measures, and it may be as wanted one day. */
-static bool is_to_be_read_again(const struct port *port) {
-    int64_t wait = PERIODS * (int64_t)port->entry.times.period;
-    int64_t moment = port->read_at + (wait < SECOND ? SECOND : wait < READ_WITHIN ? wait : READ_WITHIN);
-    return port->core.stage == DOVECOUNTER_PORT_LEFT && moment <= now();
-}
-
-static void read_again(struct port *port) {
+/* What the library wants next; a module that it has left alone it begins to read again by itself. */
+static void find_next(struct port *port, struct dovecounter_port_next *next) {
+    bool was_left = port->core.stage == DOVECOUNTER_PORT_LEFT;
+    must(dovecounter_port_next(&port->core, (uint64_t)now(), next));
+    if (!was_left || port->core.stage == DOVECOUNTER_PORT_LEFT) return;
     port->is_read_again = true;
     port->anew = 0;
-    must(dovecounter_port_reconsider(&port->core));
 }
 
 /* Whoever has made the file of its bus anew may have exchanged the module too, which is read and judged anew. */
@@ -287,13 +278,12 @@ static void step(struct port *port) {
     if (!still && !port->is_open) return wait_for_bus(port);
     if (port->outputs.is_under_way && !looks) return go_on_with_outputs(port);
     if (looks && (has_pin || lists || port->outputs.is_under_way)) return look(port);
-    if (!still && !lists && is_to_be_read_again(port)) read_again(port);
-    must(dovecounter_port_next(&port->core, (uint64_t)now(), &next));
+    find_next(port, &next);
     if (next.kind == DOVECOUNTER_PORT_DO) return carry_out(port, &next);
     if (!still && port->looks_at <= now()) return look(port);
     port->due = has_pin || !still ? port->looks_at : INT64_MAX;
     if (next.kind == DOVECOUNTER_PORT_UNTIL && next.moment < (uint64_t)port->due) port->due = (int64_t)next.moment;
-    if (!still && !begin_outputs(port, &next)) begin_listing(port, &next);
+    if (!still && !begin_outputs(port)) begin_listing(port);
 }
 
 /* ---- threads */
@@ -408,7 +398,6 @@ void request(struct port *port, uint8_t what, uint8_t lanes, bool is_once) {
 static void hold_or_release(struct port *port) {
     doubt(port);
     must(dovecounter_port_hold(&port->core, is_still(port)));
-    port->looks_at = now();
     if (!is_still(port) && port->core.stage == DOVECOUNTER_PORT_READING) port->since = now();
     tell(port, is_still(port) ? "held" : "released", "");
     wake(port);
@@ -456,7 +445,6 @@ static void add(const struct entry *entry, struct port *former) {
     port->adapter = adapter_for(entry->bus);
     port->since = now();
     port->reopens_in = SECOND;
-    forget(port);
     dovecounter_port_new(&entry->times, &port->core);
     if (former != NULL) take_over(port, former);
     must(dovecounter_port_hold(&port->core, is_still(port)));

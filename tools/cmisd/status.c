@@ -79,11 +79,10 @@ void print_lane_list(FILE *out, const char *name, uint8_t lanes) {
 
 /* ---- what is known of a module */
 
+/* Of a module of CMIS, whose halves that are read are all of device A0 and of bank 0. */
 const struct dovecounter_half *half_of(const struct port *port, uint8_t upper, uint8_t page) {
-    for (size_t i = 0; i < port->half_count; i++) {
-        const struct dovecounter_half *half = &port->halves[i];
-        if (half->device == 0xA0 && half->upper == upper && half->bank == 0 && half->page == page) return half;
-    }
+    for (size_t i = 0; i < port->half_count; i++)
+        if (port->halves[i].upper == upper && port->halves[i].page == page) return &port->halves[i];
     return NULL;
 }
 
@@ -232,8 +231,7 @@ static const char *const stages[] = {
 
 /* Whether it is shown as left alone: also while its module is read again. */
 static bool is_left(const struct port *port) {
-    bool is_read = port->is_read_again && port->core.stage == DOVECOUNTER_PORT_READING;
-    return is_read || port->core.stage == DOVECOUNTER_PORT_LEFT;
+    return port->is_read_again || port->core.stage == DOVECOUNTER_PORT_LEFT;
 }
 
 static void print_wait(FILE *out, const struct port *port) {
@@ -250,13 +248,17 @@ static void print_wait(FILE *out, const struct port *port) {
         what = "a reply";
     else if (!is_there(port))
         what = "a module";
+    else if (is_left(port) && port->entry.times.recheck > 0)
+        what = "its next reading";
     else if (is_left(port))
         what = "another module, another configuration or a command";
     else if (port->core.stage != DOVECOUNTER_PORT_WATCHING)
         what = "its next operation";
     print_text(out, ", ", "waits_for", what);
     if (port->began != 0) print_moment(out, ", ", "waits_since", port->began);
-    if (port->core.due > (uint64_t)now()) print_moment(out, ", ", "waits_until", (int64_t)port->core.due);
+    bool rests = port->core.stage == DOVECOUNTER_PORT_LEFT && port->entry.times.recheck > 0;
+    uint64_t until = rests ? port->core.recheck_at : port->core.due;
+    if (until > (uint64_t)now()) print_moment(out, ", ", "waits_until", (int64_t)until);
 }
 
 const char *const requests[] = {"wake", "sleep", "provision", "deactivate"};

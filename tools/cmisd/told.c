@@ -116,7 +116,6 @@ static void tell_note(struct port *port, uint8_t note) {
 /* The best plan, as the module was just read: whose control bytes the port works for, unless somebody asked for something else. */
 static void find_plan(struct port *port) {
     const struct dovecounter_wanted *wanted = &port->entry.wanted;
-    port->plan.count = 0;
     dovecounter_plan(port->halves, port->half_count, wanted->paired, wanted->counts_by_id, wanted->weights,
                      wanted->stay, NULL, 0, &port->plan);
 }

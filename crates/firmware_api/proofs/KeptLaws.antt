@@ -24,7 +24,7 @@ use Rattle.port_manager.specs.declared.silence.Presence.{Presence}
 use Rattle.port_manager.specs.declared.silence.Presence.TheVariants as presences
 use Rattle.port_manager.specs.Jobs.{IsReplyTo, paged_halves, reading, reading_after, reading_wants}
 use Rattle.port_manager.specs.Patients.{Patient, after_on, wants_on}
-use Rattle.port_manager.specs.Ports.{IfWorking, asking, begun_in, heard_as, reconsidered_by}
+use Rattle.port_manager.specs.Ports.{IfWorking, asking, begun_in, heard_as, is_overdue, rechecked, reconsidered, reconsidered_by}
 use Rattle.port_manager.proofs.PatientLaws.{kept_within}
 use Rattle.saved_port.specs.SavedPorts.{port_in}
 use Rattle.saved_port.specs.Known.{HasRead, IsKnown, IsKnownJob, IsReadingAfter, ReadsOn, halves_of}
@@ -120,6 +120,20 @@ reconsidered_known outstanding.Awaited port known = known
 reconsidered_known outstanding.Stale port known = known
 reconsidered_known outstanding.Nothing port known = restarted_known port.stage
 reconsidered_known outstanding.Forsaken port known = restarted_known port.stage
+
+-- ---- what was left alone is read anew
+
+rechecked_fits : (overdue : Bool) (port : Port) (count : ℕ) (halves : List HalfBytes) → Fits port.stage count halves →
+    Fits (if overdue then reconsidered port else port).stage (count_of (if overdue then reconsidered port else port) count) halves
+rechecked_fits true port count halves fits = reconsidered_fits port.outstanding (record port { vain = false }) count halves fits
+rechecked_fits false port count halves fits = stays port.stage count halves fits
+
+rechecked_known_if : (overdue : Bool) (port : Port) → IsKnown port → IsKnown (if overdue then reconsidered port else port)
+rechecked_known_if true port known = reconsidered_known port.outstanding (record port { vain = false }) known
+rechecked_known_if false port known = known
+
+pub rechecked_known : (now : ℕ) (port : Port) → IsKnown port → IsKnown (rechecked now port)
+rechecked_known now port known = rechecked_known_if (is_overdue port now) port known
 
 -- ---- where a module is heard
 
@@ -265,8 +279,10 @@ stage_asking port (Do op) = refl
 stage_asking port (Wait time) = refl
 stage_asking port (End rest) = refl
 
-pub asking_fits : (port : Port) (next : Next Rest) (count : ℕ) (halves : List HalfBytes) → Fits port.stage count halves → Fits (asking port next).stage (count_of (asking port next) count) halves
-asking_fits port next count halves fits = subst (λ (s : Stage). Fits s (count_in s count) halves) (sym (stage_asking port next)) (stays port.stage count halves fits)
+pub asking_fits : (now : ℕ) (port : Port) (next : Next Rest) (count : ℕ) (halves : List HalfBytes) → Fits port.stage count halves →
+    Fits (asking (rechecked now port) next).stage (count_of (asking (rechecked now port) next) count) halves
+asking_fits now port next count halves fits =
+    subst (λ (s : Stage). Fits s (count_in s count) halves) (sym (stage_asking (rechecked now port) next)) (rechecked_fits (is_overdue port now) port count halves fits)
 
 pub asking_known : (port : Port) (next : Next Rest) → IsKnown port → IsKnown (asking port next)
 asking_known port next known = subst (λ (s : Stage). IfWorking s IsKnownJob) (sym (stage_asking port next)) known

@@ -13,6 +13,7 @@ use Rattle.port_manager.specs.declared.port.Rest.{Rest}
 use Rattle.port_manager.specs.declared.port.Rest.TheVariants.{Busy, Idle}
 use Rattle.port_manager.specs.declared.silence.Presence.{Presence}
 use Rattle.port_manager.specs.declared.silence.Presence.TheVariants.{Same, Plugged, Pulled}
+use Rattle.port_manager.specs.Ports.{until}
 use Rattle.saved_port.specs.Places.{place_of}
 use Rattle.firmware_api.specs.declared.operation.Operation.{Operation}
 use Rattle.firmware_api.specs.declared.port.next.NextOfPort.{NextOfPort}
@@ -59,6 +60,6 @@ with_operation operation next = record next { operation = operation }
 -- what this port wants; what it doesn't have is 0
 abbrev pub next_told : Port → Next Rest → NextOfPort
 next_told port (Do op) = with_operation (operation_of op) (with_place (place_of port) nothing)
-next_told port (Wait time) = record nothing { kind = 1; moment = port.due }
+next_told port (Wait time) = record nothing { kind = 1; moment = until port }
 next_told port (End Busy) = record nothing { kind = 2 }
 next_told port (End Idle) = record nothing { kind = 3 }

@@ -6,7 +6,7 @@ ghost use Rattle.port_manager.specs.declared.port.Outstanding.TheVariants.{Nothi
 ghost use Rattle.port_manager.specs.declared.port.Port.{Port as Held};
 ghost use Rattle.port_manager.specs.Flags.{no_flags};
 ghost use Rattle.port_manager.specs.Jobs.{IsReplyTo};
-ghost use Rattle.port_manager.specs.Ports.{IsAwaited, IsTaken, absent, acknowledged_to, asked_for, asked_in, asking, heard, holding, next_at, plugged, presence_by, pulled, reconsidered};
+ghost use Rattle.port_manager.specs.Ports.{IsAwaited, IsTaken, absent, acknowledged_to, asked_for, asked_in, asking, heard, holding, next_at, plugged, presence_by, pulled, rechecked, reconsidered};
 ghost use Rattle.saved_port.specs.Outcomes.{AreNumbersOf};
 ghost use Rattle.saved_port.specs.SavedPorts.{request_in, times_in};
 ghost use Rattle.firmware_api.specs.KeptPorts.{IsKept, IsTakeTold, kept_in, refusal_in};
@@ -39,6 +39,7 @@ pub extern "C" fn dovecounter_port_new(times: &SavedTimes, port: &mut KeptPort)
         period: times.period,
         first: times.first,
         most: times.most,
+        recheck: times.recheck,
     });
     *port = kept::kept(&empty);
 }
@@ -174,12 +175,13 @@ pub extern "C" fn dovecounter_port_acknowledge(port: &mut KeptPort, moment: u64)
     DONE
 }
 
-/// Puts into `next` what is to be done at this moment. If it is an operation, its reply is awaited then.
+/// Puts into `next` what is to be done at this moment. If it is an operation, its reply is awaited then. A module that was left alone for
+/// long enough is read and judged anew.
 #[unsafe(no_mangle)]
 pub extern "C" fn dovecounter_port_next(port: &mut KeptPort, now: u64, next: &mut NextOfPort) -> u32
     ensures status { result ≡ status_by (refusal_in (kept_in port.old)) }
-    ensures told { (held : Held) → kept_in port.old ≡ Some held → next.new ≡ next_told held (next_at held now) }
-    ensures asked { (held : Held) → IsKept port.old held → IsKept port.new (asking held (next_at held now)) }
+    ensures told { (held : Held) → kept_in port.old ≡ Some held → next.new ≡ next_told (rechecked now held) (next_at (rechecked now held) now) }
+    ensures asked { (held : Held) → IsKept port.old held → IsKept port.new (asking (rechecked now held) (next_at (rechecked now held) now)) }
     ensures refused { result ≢ done → (port.new ≡ port.old) × (next.new ≡ next.old) }
 {
     let held = &mut kept::blank();

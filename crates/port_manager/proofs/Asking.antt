@@ -140,10 +140,10 @@ runs_asks port after (event ∷ before) asks (between, ran, is) = event_asks bet
 not_early : (now due : ℕ) → due ≤ now → nat_lt now due ≡ false
 not_early now due le = grind (arith, le)
 
-in_time : (job : Job) (due now : ℕ) (op : Op) → due ≤ now → asked job ≡ Some op → next_in (stages.Working job) due now ≡ nexts.Do op
-in_time job due now op le asks = ap (λ (early : Bool). if early then nexts.Wait (left now due) else next_of (asked job)) (not_early now due le) ∙ ap next_of asks
+in_time : (job : Job) (port : Port) (now : ℕ) (op : Op) → port.due ≤ now → asked job ≡ Some op → next_in (stages.Working job) port now ≡ nexts.Do op
+in_time job port now op le asks = ap (λ (early : Bool). if early then nexts.Wait (left now port.due) else next_of (asked job)) (not_early now port.due le) ∙ ap next_of asks
 
 pub never_stops : NeverStops
 never_stops story port job now (times, ran) is nothing free due =
     let (op, asks) = subst (λ (stage : Stage). StageAsks stage) is (runs_asks (absent times outstanding.Nothing no_flags false) port story tt ran) in
-    (op, ap (λ (o : Outstanding). next_when o port now) nothing ∙ ap (λ (held : Bool). if held then nexts.End rests.Idle else next_in port.stage port.due now) free ∙ ap (λ (stage : Stage). next_in stage port.due now) is ∙ in_time job port.due now op due asks)
+    (op, ap (λ (o : Outstanding). next_when o port now) nothing ∙ ap (λ (held : Bool). if held then nexts.End rests.Idle else next_in port.stage port now) free ∙ ap (λ (stage : Stage). next_in stage port now) is ∙ in_time job port now op due asks)

@@ -197,4 +197,4 @@ leaves_what_is_up port between after job woken reply wanted now moment result mo
     let settles = reading_settles port between job woken reply wanted now result ends up (subst (λ (stage : Stage). IsTurnedIn stage port reply wanted now result between) reads turns_by) in
     let settled = runs_settled between after more settles calm ran in
     let (nothing, does) = asks_when after.outstanding after moment op asks in
-    stage_only after.stage op settled.0 (asks_in after.stage after.due moment op does)
+    stage_only after.stage op settled.0 (asks_in after.stage after moment op does)

@@ -22,6 +22,7 @@ pub mod KeptBits
 pub mod PermissionLaws
 pub mod PresenceLaws
 pub mod RestLaws
+pub mod LeftAloneLaws
 pub mod DownLaws
 pub mod GatheredLanes
 pub mod ChangeLaws

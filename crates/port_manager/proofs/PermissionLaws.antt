@@ -162,4 +162,4 @@ stage_takes story op (Working job) named asks = may_takes story op (job_takes st
 pub at_takes : (story : Story) (port : Port) (op : Op) (now : ℕ) → IsAt story port → next_at port now ≡ nexts.Do op → TakesPermitted story op
 at_takes story port op now at is =
     let (nothing, does) = asks_when port.outstanding port now op is in
-    stage_takes story op port.stage (subst (λ (o : Outstanding). UnlessStale o (IfWorking port.stage (IsNamed story))) nothing at.named) (asks_in port.stage port.due now op does)
+    stage_takes story op port.stage (subst (λ (o : Outstanding). UnlessStale o (IfWorking port.stage (IsNamed story))) nothing at.named) (asks_in port.stage port now op does)

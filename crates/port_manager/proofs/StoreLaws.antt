@@ -173,7 +173,7 @@ story_may story op (Working job) vain e tame named asks = job_may story op job v
 pub at_may : (story : Story) (port : Port) (op : Op) (now : ℕ) → IsAt story port → next_at port now ≡ nexts.Do op → MayMakeIn story op
 at_may story port op now at is =
     let (nothing, does) = asks_when port.outstanding port now op is in
-    story_may story op port.stage port.vain at.vain at.tame (subst (λ (o : Outstanding). UnlessStale o (IfWorking port.stage (IsNamed story))) nothing at.named) (asks_in port.stage port.due now op does)
+    story_may story op port.stage port.vain at.vain at.tame (subst (λ (o : Outstanding). UnlessStale o (IfWorking port.stage (IsNamed story))) nothing at.named) (asks_in port.stage port now op does)
 
 -- ---- a module that is as it is wanted
 
@@ -200,4 +200,4 @@ stage_only (Working job) op watches asks = watching_only job op watches asks
 pub settled_only : (story : Story) (port : Port) (op : Op) (now : ℕ) → IsAt story port → settled_in story ≡ true → next_at port now ≡ nexts.Do op → StoresNothing op
 settled_only story port op now at settled is =
     let (nothing, does) = asks_when port.outstanding port now op is in
-    stage_only port.stage op (subst (λ (settled : Bool). IfTrue settled (IfWorking port.stage IsWatching)) settled at.settled) (asks_in port.stage port.due now op does)
+    stage_only port.stage op (subst (λ (settled : Bool). IfTrue settled (IfWorking port.stage IsWatching)) settled at.settled) (asks_in port.stage port now op does)

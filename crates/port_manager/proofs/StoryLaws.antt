@@ -1,6 +1,6 @@
 -- What a port is after each event of a story.
 use Rattle.std.proofs.Common.{◌≡◌, ◌≤◌, ◌⊎◌, inl, inr, ℕ, Bool, true, false, [], ◌∷◌, Option, Some, None, refl, sym, ap, subst, ◌∙◌, arith}
-use Rattle.std.specs.Prelude.{◌||◌, ◌&&◌, not, max, nat_lt, if◌then◌else◌}
+use Rattle.std.specs.Prelude.{◌==◌, ◌||◌, ◌&&◌, not, max, nat_lt, if◌then◌else◌}
 use Rattle.std.proofs.lemmas.Bool.{ltb-false}
 use Rattle.bus_model.specs.declared.operation.Op.{Op}
 use Rattle.bus_model.specs.declared.operation.Reply.{Reply}
@@ -258,10 +258,14 @@ due_if : (early : Bool) (due now time : ℕ) (found : Option Op) (op : Op) → n
 due_if true due now time found op e is = absurd (let same = is in cc)
 due_if false due now time found op e is = ltb-false now due e
 
-due_in : (stage : Stage) (due now : ℕ) (op : Op) → next_in stage due now ≡ nexts.Do op → due ≤ now
-due_in stages.Absent due now op is = absurd (let same = is in cc)
-due_in (stages.Left reason) due now op is = absurd (let same = is in cc)
-due_in (stages.Working job) due now op is = due_if (nat_lt now due) due now (left now due) (asked job) op refl is
+left_asks : (never : Bool) (time : ℕ) (op : Op) → (if never then nexts.End rests.Idle else nexts.Wait time) ≡ nexts.Do op → ⊥
+left_asks true time op is = let same = is in cc
+left_asks false time op is = let same = is in cc
+
+due_in : (stage : Stage) (port : Port) (now : ℕ) (op : Op) → next_in stage port now ≡ nexts.Do op → port.due ≤ now
+due_in stages.Absent port now op is = absurd (let same = is in cc)
+due_in (stages.Left reason) port now op is = absurd (left_asks (port.times.recheck == 0) (left now port.recheck_at) op is)
+due_in (stages.Working job) port now op is = due_if (nat_lt now port.due) port.due now (left now port.due) (asked job) op refl is
 
 asked_by : (found : Option Op) (op : Op) → next_of found ≡ nexts.Do op → found ≡ Some op
 asked_by None op is = absurd (let same = is in cc)
@@ -271,17 +275,17 @@ asked_if : (early : Bool) (time : ℕ) (found : Option Op) (op : Op) → (if ear
 asked_if true time found op is = absurd (let same = is in cc)
 asked_if false time found op is = asked_by found op is
 
-pub asks_in : (stage : Stage) (due now : ℕ) (op : Op) → next_in stage due now ≡ nexts.Do op → asked_in stage ≡ Some op
-asks_in stages.Absent due now op is = absurd (let same = is in cc)
-asks_in (stages.Left reason) due now op is = absurd (let same = is in cc)
-asks_in (stages.Working job) due now op is = asked_if (nat_lt now due) (left now due) (asked job) op is
+pub asks_in : (stage : Stage) (port : Port) (now : ℕ) (op : Op) → next_in stage port now ≡ nexts.Do op → asked_in stage ≡ Some op
+asks_in stages.Absent port now op is = absurd (let same = is in cc)
+asks_in (stages.Left reason) port now op is = absurd (left_asks (port.times.recheck == 0) (left now port.recheck_at) op is)
+asks_in (stages.Working job) port now op is = asked_if (nat_lt now port.due) (left now port.due) (asked job) op is
 
 free_asks : (held : Bool) (next : Next Rest) (op : Op) → (if held then nexts.End rests.Idle else next) ≡ nexts.Do op → next ≡ nexts.Do op
 free_asks true next op e = absurd (let same = e in cc)
 free_asks false next op e = e
 
 idle_when : (o : Outstanding) (port : Port) (now : ℕ) (op : Op) → port.held ≡ true → next_when o port now ≡ nexts.Do op → ⊥
-idle_when outstanding.Nothing port now op held asks = let same : nexts.End rests.Idle ≡ nexts.Do op = sym (ap (λ (held : Bool). if held then nexts.End rests.Idle else next_in port.stage port.due now) held) ∙ asks in cc
+idle_when outstanding.Nothing port now op held asks = let same : nexts.End rests.Idle ≡ nexts.Do op = sym (ap (λ (held : Bool). if held then nexts.End rests.Idle else next_in port.stage port now) held) ∙ asks in cc
 idle_when outstanding.Awaited port now op held asks = let same = asks in cc
 idle_when outstanding.Stale port now op held asks = let same = asks in cc
 idle_when outstanding.Forsaken port now op held asks = let same = asks in cc
@@ -290,8 +294,8 @@ idle_when outstanding.Forsaken port now op held asks = let same = asks in cc
 pub holds_still : (story : Story) (port : Port) (op : Op) (now : ℕ) → IsAt story port → held_in story ≡ true → next_at port now ≡ nexts.Do op → ⊥
 holds_still story port op now at held asks = idle_when port.outstanding port now op (at.held ∙ held) asks
 
-pub asks_when : (o : Outstanding) (port : Port) (now : ℕ) (op : Op) → next_when o port now ≡ nexts.Do op → (o ≡ outstanding.Nothing) × (next_in port.stage port.due now ≡ nexts.Do op)
-asks_when outstanding.Nothing port now op is = (refl, free_asks port.held (next_in port.stage port.due now) op is)
+pub asks_when : (o : Outstanding) (port : Port) (now : ℕ) (op : Op) → next_when o port now ≡ nexts.Do op → (o ≡ outstanding.Nothing) × (next_in port.stage port now ≡ nexts.Do op)
+asks_when outstanding.Nothing port now op is = (refl, free_asks port.held (next_in port.stage port now) op is)
 asks_when outstanding.Awaited port now op is = absurd (let same = is in cc)
 asks_when outstanding.Stale port now op is = absurd (let same = is in cc)
 asks_when outstanding.Forsaken port now op is = absurd (let same = is in cc)
@@ -299,7 +303,7 @@ asks_when outstanding.Forsaken port now op is = absurd (let same = is in cc)
 pub ask_at : (story : Story) (port : Port) (op : Op) (now : ℕ) → next_at port now ≡ nexts.Do op → IsAt story port → IsAt (ask op now ∷ story) (asking port (nexts.Do op))
 ask_at story port op now is at =
     let (nothing, does) = asks_when port.outstanding port now op is in
-    let due = due_in port.stage port.due now op does in
+    let due = due_in port.stage port now op does in
     record {
       lawful = (record { one = sym at.outstanding ∙ nothing; waited = omega (arith, due, at.waits) }, at.lawful);
       outstanding = refl;

@@ -26,3 +26,4 @@ pub mod KeptFlags
 pub mod Progress
 pub mod Presences
 pub mod Requested
+pub mod LeftAlone

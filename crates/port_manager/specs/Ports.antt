@@ -1,5 +1,5 @@
 -- A port: what is to be done at a moment, and what becomes of it when a module is plugged or pulled. (this project's own)
-use Rattle.std.specs.Prelude.{◌≡◌, ◌*◌, ◌||◌, ◌&&◌, not, ℕ, max, min, nat_lt, Bool, true, false, Option, Some, None, if◌then◌else◌}
+use Rattle.std.specs.Prelude.{◌≡◌, ◌*◌, ◌==◌, ◌||◌, ◌&&◌, not, ℕ, max, min, nat_le, nat_lt, Bool, true, false, Option, Some, None, if◌then◌else◌}
 use Rattle.bus_model.specs.declared.operation.Op.{Op}
 use Rattle.bus_model.specs.declared.operation.Reply.{Reply}
 use Rattle.conversations.specs.declared.next.Next.{Next}
@@ -42,6 +42,7 @@ absent times outstanding flags held =
       times = times;
       stage = Absent;
       due = 0;
+      recheck_at = 0;
       back_off = times.first;
       outstanding = outstanding;
       vain = false;
@@ -122,21 +123,47 @@ abbrev pub next_of : Option Op → Next Rest
 next_of None = End Idle
 next_of (Some op) = Do op
 
+-- a module that is left alone is waited for, unless only somebody can ask for it
+abbrev pub next_of_left : Port → ℕ → Next Rest
+next_of_left port now = if port.times.recheck == 0 then End Idle else Wait (left now port.recheck_at)
+
 -- an operation is asked for from the moment on that is waited for
-abbrev pub next_in : Stage → ℕ → ℕ → Next Rest
-next_in Absent due now = End Idle
-next_in (Left reason) due now = End Idle
-next_in (Working job) due now = if nat_lt now due then Wait (left now due) else next_of (asked job)
+abbrev pub next_in : Stage → Port → ℕ → Next Rest
+next_in Absent port now = End Idle
+next_in (Left reason) port now = next_of_left port now
+next_in (Working job) port now = if nat_lt now port.due then Wait (left now port.due) else next_of (asked job)
 
 -- and while none is outstanding, unless the port is to hold still
 abbrev pub next_when : Outstanding → Port → ℕ → Next Rest
-next_when Nothing port now = if port.held then End Idle else next_in port.stage port.due now
+next_when Nothing port now = if port.held then End Idle else next_in port.stage port now
 next_when Awaited port now = End Busy
 next_when Stale port now = End Busy
 next_when Forsaken port now = End Busy
 
 abbrev pub next_at : Port → ℕ → Next Rest
 next_at port now = next_when port.outstanding port now
+
+-- the moment that is waited for
+abbrev pub until_in : Stage → Port → ℕ
+until_in Absent port = port.due
+until_in (Left reason) port = port.recheck_at
+until_in (Working job) port = port.due
+
+abbrev pub until : Port → ℕ
+until port = until_in port.stage port
+
+-- a module was left alone for long enough
+abbrev pub is_overdue_in : Stage → Port → ℕ → Bool
+is_overdue_in Absent port now = false
+is_overdue_in (Left reason) port now = not port.held && not (port.times.recheck == 0) && nat_le port.recheck_at now
+is_overdue_in (Working job) port now = false
+
+abbrev pub is_overdue : Port → ℕ → Bool
+is_overdue port now = is_overdue_in port.stage port now
+
+-- such a module is read and judged anew, as if somebody asked
+abbrev pub rechecked : ℕ → Port → Port
+rechecked now port = if is_overdue port now then reconsidered port else port
 
 abbrev pub asking : Port → Next Rest → Port
 asking port (Do op) = record port { outstanding = Awaited }
@@ -257,7 +284,8 @@ turned port (turn.Failed why) now =
       vain = vain_after port why;
       apply_refused = port.apply_refused || is_apply_refused why;
     }
-turned port (turn.Left reason) now = record port { stage = Left reason; request = ended port.request; apply_refused = false }
+turned port (turn.Left reason) now =
+    record port { stage = Left reason; recheck_at = later now port.times.recheck; request = ended port.request; apply_refused = false }
 
 abbrev pub outcome_of : Port → Turn → ℕ → Outcome
 outcome_of port (turn.On job note) now = outcome.Went note

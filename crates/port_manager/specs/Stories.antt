@@ -24,7 +24,7 @@ pub data Event : Type 0 where
   -- a module was plugged at this moment
   plug : ℕ → Event
   pull : Event
-  -- other weights are wanted, or somebody asks
+  -- other weights are wanted, somebody asks, or the module was left alone for long enough
   reconsider : Event
   -- the port is to hold still, or not any longer
   hold : Bool → Event

@@ -20,6 +20,7 @@ ghost use Rattle.port_manager.specs.Decisions.{IsDecision};
 ghost use Rattle.port_manager.specs.Goals.{IsGoalBy, is_deactivated, kept_of, wanted_of};
 ghost use Rattle.port_manager.specs.Idle.{LeavesWhatIsUp};
 ghost use Rattle.port_manager.specs.KeptFlags.{NoFlagIsLost};
+ghost use Rattle.port_manager.specs.LeftAlone.{IsReadAgain};
 ghost use Rattle.port_manager.specs.Ports.{next_at};
 ghost use Rattle.port_manager.specs.Presences.{IsPulledBySilence};
 ghost use Rattle.port_manager.specs.Progress.{ComesUp, ComesUpAnew, NeverStops};
@@ -99,6 +100,12 @@ pub fn a_held_port_asks_for_nothing()
 /// may.
 pub fn a_port_never_stops()
     ensures { NeverStops }
+{}
+
+/// After any story, a port that has left its module alone for long enough, and isn't to hold still, has it read and judged anew, and asks
+/// for an operation as soon as none is outstanding and it may; unless it is to wait until somebody asks.
+pub fn a_module_left_alone_is_read_again()
+    ensures { IsReadAgain }
 {}
 
 /// Of an image and weights there is one decision, and `decide` gives it.

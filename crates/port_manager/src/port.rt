@@ -77,6 +77,8 @@ pub struct Port {
     pub stage: Stage,
     /// No operation is made before this moment.
     pub due: u64,
+    /// A module that is left alone is read and judged anew from this moment on.
+    pub recheck_at: u64,
     /// How long is waited after the next failure.
     pub back_off: u32,
     pub outstanding: Outstanding,
@@ -199,17 +201,47 @@ impl Port {
         self.keeper.acknowledge(moment);
     }
 
-    /// What is to be done now: an operation, whose reply is awaited then, or nothing for a while.
+    /// What is to be done now: an operation, whose reply is awaited then, or nothing for a while. A module that was left alone for long
+    /// enough is read and judged anew, as if somebody asked.
     pub fn next(&mut self, now: u64) -> Next<Rest>
-        ensures value { result ≡ spec.next_at self.old now }
-        ensures after { self.new ≡ spec.asking self.old result }
+        ensures value { result ≡ spec.next_at (spec.rechecked now self.old) now }
+        ensures after { self.new ≡ spec.asking (spec.rechecked now self.old) result }
         ensures shape { IfDo result IsWellShaped }
     {
+        self.recheck(now);
         let next = self.wanted(now);
         if matches!(next, Next::Do(_)) {
             self.outstanding = Outstanding::Awaited;
         }
         next
+    }
+
+    fn recheck(&mut self, now: u64)
+        ensures { self.new ≡ spec.rechecked now self.old }
+    {
+        if self.is_overdue(now) {
+            self.reconsider();
+        }
+    }
+
+    // Whether a module was left alone for long enough.
+    fn is_overdue(&self, now: u64) -> bool
+        ensures { result ≡ spec.is_overdue self.now now }
+    {
+        match self.stage {
+            Stage::Left(_) => !self.held && self.times.recheck != 0 && self.recheck_at <= now,
+            Stage::Absent | Stage::Working(_) => false,
+        }
+    }
+
+    /// The moment before which nothing is to be done, if there is one.
+    pub fn until(&self) -> u64
+        ensures { result ≡ spec.until self.now }
+    {
+        match self.stage {
+            Stage::Left(_) => self.recheck_at,
+            Stage::Absent | Stage::Working(_) => self.due,
+        }
     }
 
     fn wanted(&self, now: u64) -> Next<Rest>
@@ -220,8 +252,10 @@ impl Port {
             return Next::End(Rest::Busy);
         }
         match &self.stage {
-            Stage::Absent | Stage::Left(_) => Next::End(Rest::Idle),
-            Stage::Working(_) if self.held => Next::End(Rest::Idle),
+            Stage::Absent => Next::End(Rest::Idle),
+            Stage::Left(_) | Stage::Working(_) if self.held => Next::End(Rest::Idle),
+            Stage::Left(_) if self.times.recheck == 0 => Next::End(Rest::Idle),
+            Stage::Left(_) => Next::Wait(left(now, self.recheck_at)),
             Stage::Working(_) if now < self.due => Next::Wait(left(now, self.due)),
             Stage::Working(job) => match job.op() {
                 Some(op) => Next::Do(op),
@@ -281,6 +315,7 @@ impl Port {
             }
             Course::Left(reason) => {
                 self.stage = Stage::Left(reason);
+                self.recheck_at = later(now, self.times.recheck);
                 self.request = self.request.ended();
                 self.apply_refused = false;
                 Outcome::Left(reason)
@@ -382,6 +417,7 @@ fn empty(times: Times, outstanding: Outstanding, flags: Flags, held: bool) -> Po
         times,
         stage: Stage::Absent,
         due: 0,
+        recheck_at: 0,
         back_off: times.first,
         outstanding,
         vain: false,

@@ -12,6 +12,8 @@ pub struct Times {
     pub first: u32,
     /// After a failure at most.
     pub most: u32,
+    /// After a module was left alone, until it is read and judged anew; if 0, that waits until somebody asks.
+    pub recheck: u32,
 }
 
 /// The moment so many milliseconds after this one; the last there is, if there is none.

@@ -170,6 +170,7 @@ pub record Stands (saved : SavedPort) (port : Port) : Type 0 where
   pub magic : saved.magic ≡ port_magic
   pub times : times_in saved.times ≡ port.times
   pub due : saved.due ≡ port.due
+  pub recheck_at : saved.recheck_at ≡ port.recheck_at
   pub back_off : saved.back_off ≡ port.back_off
   pub outstanding : outstanding_in saved.outstanding ≡ port.outstanding
   pub vain : saved.vain ≡ number_of port.vain
@@ -196,6 +197,7 @@ with_stage saved port stands =
       times = stands.times i;
       stage = port.stage;
       due = stands.due i;
+      recheck_at = stands.recheck_at i;
       back_off = stands.back_off i;
       outstanding = stands.outstanding i;
       vain = vain i;

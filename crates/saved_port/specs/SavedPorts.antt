@@ -55,7 +55,7 @@ abbrev pub port_magic : ℕ
 port_magic = 0x44435031
 
 abbrev pub times_in : SavedTimes → Times
-times_in saved = record { settle = saved.settle; period = saved.period; first = saved.first; most = saved.most }
+times_in saved = record { settle = saved.settle; period = saved.period; first = saved.first; most = saved.most; recheck = saved.recheck }
 
 abbrev pub codes_in : SavedCodes → LaneCodes
 codes_in saved = record { codes = saved.codes; changes = saved.changes; last = saved.last }
@@ -204,6 +204,7 @@ port_with saved stage = record {
   times = times_in saved.times;
   stage = stage;
   due = saved.due;
+  recheck_at = saved.recheck_at;
   back_off = saved.back_off;
   outstanding = outstanding_in saved.outstanding;
   vain = saved.vain == 1;

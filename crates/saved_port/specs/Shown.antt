@@ -74,6 +74,7 @@ lanes_of_request (Deactivate lanes) = byte_of lanes
 -- ---- a port
 
 pub record IsShown (port : Port) (saved : SavedPort) : Type 0 where
+  pub recheck_at : saved.recheck_at ≡ port.recheck_at
   pub held : saved.held ≡ number_of port.held
   pub left : saved.left ≡ left_in port.stage
   pub request : saved.request ≡ number_of_request port.request

@@ -10,6 +10,7 @@ pub struct SavedTimes {
     pub period: u32,
     pub first: u32,
     pub most: u32,
+    pub recheck: u32,
 }
 
 /// A code of each lane, when it changed last, and how often.
@@ -84,6 +85,7 @@ pub struct SavedWork {
 pub struct SavedPort {
     pub flags: SavedFlags,
     pub due: u64,
+    pub recheck_at: u64,
     /// When the first of the refusals began.
     pub silent_since: u64,
     pub work: SavedWork,

@@ -45,6 +45,7 @@ fn put_rest(saved: &SavedPort, port: &mut Port)
 {
     port.times = times_in(saved.times);
     port.due = saved.due;
+    port.recheck_at = saved.recheck_at;
     port.back_off = saved.back_off;
     port.outstanding = outstanding_in(saved.outstanding);
     port.vain = saved.vain == 1;
@@ -68,6 +69,7 @@ fn times_in(saved: SavedTimes) -> Times
         period: saved.period,
         first: saved.first,
         most: saved.most,
+        recheck: saved.recheck,
     }
 }
 

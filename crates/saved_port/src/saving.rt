@@ -41,6 +41,7 @@ pub fn save(port: &Port, half_count: u16) -> SavedPort
     SavedPort {
         flags,
         due: port.due,
+        recheck_at: port.recheck_at,
         silent_since: port.silence.since,
         work: stage.work,
         times,
@@ -71,6 +72,7 @@ fn numbers_of_times(times: Times) -> SavedTimes
         period: times.period,
         first: times.first,
         most: times.most,
+        recheck: times.recheck,
     }
 }
 

@@ -45,13 +45,14 @@ pub fn restore(kept: &KeptPort, port: &mut Port) -> bool
 
 /// A port to be filled: an empty one, all of whose times are 0.
 pub fn blank() -> Port
-    ensures { result ≡ absent (record { settle = 0; period = 0; first = 0; most = 0 }) Nothing no_flags false }
+    ensures { result ≡ absent (record { settle = 0; period = 0; first = 0; most = 0; recheck = 0 }) Nothing no_flags false }
 {
     Port::new(Times {
         settle: 0,
         period: 0,
         first: 0,
         most: 0,
+        recheck: 0,
     })
 }
 

@@ -38,7 +38,7 @@ impl NextOfPort {
             }
             Next::Wait(_time) => {
                 self.kind = 1;
-                self.moment = port.due;
+                self.moment = port.until();
             }
             Next::End(Rest::Busy) => self.kind = 2,
             Next::End(Rest::Idle) => self.kind = 3,

@@ -8,6 +8,7 @@ returns-clause-same c image read known =
       magic = refl;
       times = c.numbers_of_times-times.ensures;
       due = refl;
+      recheck_at = refl;
       back_off = refl;
       outstanding = c.number_of_outstanding-outstanding.ensures;
       vain = c.number_of-vain.ensures;
@@ -24,6 +25,7 @@ returns-clause-same c image read known =
 
 pub returns-clause-shown : goal.returns-clause-shown
 returns-clause-shown c = record {
+  recheck_at = refl;
   held = c.number_of-held.ensures;
   left = c.numbers_of-stage.ensures.left;
   request = c.numbers_of_request-request.ensures.number;
