@@ -1664,7 +1664,7 @@ static inline uint32_t dovecounter_explicit_run(struct dovecounter_explicit *pro
 #define DOVECOUNTER_MOST_VDM 15
 
 /* The first place of dovecounter_observables at which isn't a monitor, but what a module lists itself. */
-#define DOVECOUNTER_FIRST_INSTANCE 64
+#define DOVECOUNTER_FIRST_INSTANCE 128
 
 enum dovecounter_vdm_statistics {
     DOVECOUNTER_VDM_UNKNOWN = 0,     /* page 01h or 2Fh couldn't be read: whether there are any isn't known */

@@ -15,7 +15,7 @@ use Rattle.observables.specs.declared.observation.Subject.{Subject}
 use Rattle.observables.specs.declared.observation.Subject.TheVariants as subjects
 use Rattle.observables.specs.Names.{figure_name, lane_of, quantity_name, scope_name, unit_name}
 use Rattle.observables.specs.Numbers.{figure_number, quantity_number, side_number, unit_number}
-use Rattle.observables.specs.Observations.{IsNextObservation, observation_at}
+use Rattle.observables.specs.Observations.{IsNextObservation, all_places, observation_at}
 use Rattle.firmware_api.specs.declared.flags.LevelFlags.{LevelFlags}
 use Rattle.firmware_api.specs.declared.observable_numbers.AmountNumbers.{AmountNumbers}
 use Rattle.firmware_api.specs.declared.observable_numbers.LimitNumbers.{LimitNumbers}
@@ -105,7 +105,7 @@ pub record IsFilled (memory : Memory) (from after : ℕ) (told : ObservableNumbe
 
 -- the list has nothing from that place on
 pub record IsAtEnd (memory : Memory) (from after : ℕ) (before told : ObservableNumbers) : Type 0 where
-  pub nothing : (k : ℕ) → from ≤ k → k < 1088 → observation_at memory k ≡ None
+  pub nothing : (k : ℕ) → from ≤ k → k < all_places → observation_at memory k ≡ None
   pub kept : told ≡ before
   pub next : after ≡ 0
 

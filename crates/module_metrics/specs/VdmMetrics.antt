@@ -6,7 +6,7 @@ use Rattle.std.specs.List.{flat_map}
 use Rattle.paged_memory.specs.Images.{Memory}
 use Rattle.observables.specs.Names.{lane_of, scope_name}
 use Rattle.observables.specs.Numbers.{figure_number, quantity_number}
-use Rattle.observables.specs.Observations.{observation_at}
+use Rattle.observables.specs.Observations.{instance_places, monitor_places, observation_at}
 use Rattle.observables.specs.Quantities.{quantity_row}
 use Rattle.observables.specs.declared.amount.Amount.{Amount}
 use Rattle.observables.specs.declared.observable.Observable.{Observable}
@@ -32,14 +32,14 @@ abbrev pub listed : ℕ → Option Observation → List Seen
 listed number None = []
 listed number (Some observation) = if observation.advertised then record { number = number; observation = observation } ∷ [] else []
 
--- of the instances of four banks, of which the first is 1; in the list of what is measured they come after 64 places of monitors
+-- of the instances of four banks, of which the first is 1; in the list of what is measured they come after the monitors
 unfoldable pub seen_before : Memory → ℕ → List Seen
 seen_before memory zero = []
-seen_before memory (suc n) = seen_before memory n ++ listed (suc n) (observation_at memory (64 + n))
+seen_before memory (suc n) = seen_before memory n ++ listed (suc n) (observation_at memory (monitor_places + n))
 
 -- of a module that is read
 unfoldable pub vdm_seen : Memory → List Seen
-vdm_seen memory = unless (detail_fault memory) (seen_before memory 1024)
+vdm_seen memory = unless (detail_fault memory) (seen_before memory instance_places)
 
 -- ---- samples
 

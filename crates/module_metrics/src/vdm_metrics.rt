@@ -1,6 +1,7 @@
 // The metrics of what a CMIS module lists itself (VDM).
 ghost use Rattle.std.specs.Prelude.{◌≡◌, ◌++◌, ◌∷◌, [], IfOk, OnOk, Some, option_map};
 ghost use Rattle.std.specs.List.{flat_map};
+ghost use Rattle.observables.specs.Observations.{instance_places};
 ghost use Rattle.module_metrics.specs.Unless.{unless};
 ghost use Rattle.module_metrics.specs.Exposition.{label};
 ghost use Rattle.module_metrics.specs.Told.{labels_in, metrics_in, number_in, samples_in};
@@ -17,7 +18,7 @@ use crate::vdm_name::{Measure, VdmHelp, VdmName, measures, power_of};
 use module_decoding::detail_family_of;
 use observable_reports::shown_as;
 use observables::{
-    Amount, Observable, Observation, PLACES, figure_number, lane_of, next_observation,
+    Amount, MONITOR_PLACES, Observable, Observation, figure_number, lane_of, next_observation,
     quantity_number, quantity_row, scope_name,
 };
 use paged_memory::Image;
@@ -30,9 +31,6 @@ pub struct Seen {
     pub number: u16,
     pub observation: Observation,
 }
-
-// The places of monitors, before those of 1,024 instances of four banks.
-const MONITOR_PLACES: u16 = PLACES - 1024;
 
 // The instances that a module advertises, by rising number.
 #[tactic(auto, unfolding(crate::specs::VdmMetrics::vdm_seen, reports::specs::Families::detail_fault))]
@@ -47,7 +45,7 @@ fn vdm_seen(alloc: Global, image: &Image) -> Result<Vec<Seen>, AllocError>
 
 #[tactic(auto, using(crate::proofs::SeenInstances::one_more, crate::proofs::SeenInstances::no_more))]
 fn all_seen(alloc: Global, image: &Image) -> Result<Vec<Seen>, AllocError>
-    ensures { IfOk result (λ seen. seen.items ≡ seen_before image.now 1024) }
+    ensures { IfOk result (λ seen. seen.items ≡ seen_before image.now instance_places) }
 {
     let mut seen = Vec::new(alloc);
     let mut from = MONITOR_PLACES;

@@ -12,7 +12,7 @@ use Rattle.observables.specs.declared.observation.Observation.{Observation}
 use Rattle.observables.specs.declared.observation.Subject.{Subject}
 use Rattle.observables.specs.declared.quantity.Format.{Format}
 use Rattle.observables.specs.Names.{figure_name, lane_of, quantity_name, scope_name, unit_name}
-use Rattle.observables.specs.Observations.{observations_before}
+use Rattle.observables.specs.Observations.{all_places, observations_before}
 use Rattle.observables.specs.Pages.{absent_page}
 use Rattle.observables.specs.Quantities.{quantity_row}
 use Rattle.report_entries.specs.Lines.{line}
@@ -77,7 +77,7 @@ observation_line seen = line (quantity_name seen.observable.quantity) (observati
 
 -- all that is measured, in the order of the list
 abbrev pub observed : Memory → List Observation
-observed memory = observations_before memory 1088
+observed memory = observations_before memory all_places
 
 unfoldable pub count_line : ℕ → List ℕ
 count_line count = line (codes "observables") (decimal count)

@@ -11,7 +11,7 @@ use Rattle.observables.specs.declared.descriptor.Descriptor.{Descriptor}
 use Rattle.observables.specs.Descriptors.{descriptor_of}
 use Rattle.observables.specs.Instances.{descriptor_at, instance_at, instance_with}
 use Rattle.observables.specs.Observables.{observable_of}
-use Rattle.observables.specs.Observations.{decoded, observation_at, observed, observed_by, with_instance}
+use Rattle.observables.specs.Observations.{all_places, decoded, monitor_places, observation_at, observed, observed_by, with_instance}
 use Rattle.observables.specs.Words.{byte_in, page_of, word_in}
 use Rattle.observables.proofs.PlacesOfList.{at_instance, below, not_below}
 
@@ -53,25 +53,25 @@ unused_descriptor memory bank n bytes there unused =
 
 -- ---- a place
 
-at_place : (memory : Memory) (page k : ℕ) → page < 16 → 64 + 64 * page ≤ k → k < 128 + 64 * page
-    → observation_at memory k ≡ observed memory (page / 4) ((k - 64) % 256)
+at_place : (memory : Memory) (page k : ℕ) → page < 16 → monitor_places + 64 * page ≤ k → k < monitor_places + 64 * (page + 1)
+    → observation_at memory k ≡ observed memory (page / 4) ((k - monitor_places) % 256)
 at_place memory page k few from to =
-    at_instance memory k (page / 4) ((k - 64) % 256) (not_below k 64 (omega (arith, from))) (below k 1088 (omega (arith, few, to))) (omega (arith, from, to)) refl
+    at_instance memory k (page / 4) ((k - monitor_places) % 256) (not_below k monitor_places (omega (arith, from))) (below k all_places (omega (arith, few, to))) (omega (arith, from, to)) refl
 
 pub absent : (memory : Memory) (page : ℕ) → page < 16 → page_of memory (page / 4) (32 + page % 4) ≡ None
-    → (k : ℕ) → 64 + 64 * page ≤ k → k < 128 + 64 * page → observation_at memory k ≡ None
+    → (k : ℕ) → monitor_places + 64 * page ≤ k → k < monitor_places + 64 * (page + 1) → observation_at memory k ≡ None
 absent memory page few is k from to =
-    let group : page % 4 ≡ (k - 64) % 256 / 64 = omega (arith, from, to) in
+    let group : page % 4 ≡ (k - monitor_places) % 256 / 64 = omega (arith, from, to) in
     at_place memory page k few from to
-    ∙ not_observed memory (page / 4) ((k - 64) % 256) (absent_descriptor memory (page / 4) ((k - 64) % 256)
+    ∙ not_observed memory (page / 4) ((k - monitor_places) % 256) (absent_descriptor memory (page / 4) ((k - monitor_places) % 256)
     (ap (λ (g : ℕ). page_of memory (page / 4) (32 + g)) (omega (arith, group)) ∙ is))
 
 pub unused : (memory : Memory) (page : ℕ) (bytes : List ℕ) → page < 16 → page_of memory (page / 4) (32 + page % 4) ≡ Some bytes
-    → (k : ℕ) → 64 + 64 * page ≤ k → k < 128 + 64 * page → byte_in bytes (129 + 2 * (k % 64)) ≡ 0 → observation_at memory k ≡ None
+    → (k : ℕ) → monitor_places + 64 * page ≤ k → k < monitor_places + 64 * (page + 1) → byte_in bytes (129 + 2 * (k % 64)) ≡ 0 → observation_at memory k ≡ None
 unused memory page bytes few is k from to zero =
-    let group : page % 4 ≡ (k - 64) % 256 / 64 = omega (arith, from, to) in
-    let of_page : (k - 64) % 256 % 64 ≡ k % 64 = omega (arith, from) in
+    let group : page % 4 ≡ (k - monitor_places) % 256 / 64 = omega (arith, from, to) in
+    let of_page : (k - monitor_places) % 256 % 64 ≡ k % 64 = omega (arith, from) in
     at_place memory page k few from to
-    ∙ not_observed memory (page / 4) ((k - 64) % 256) (unused_descriptor memory (page / 4) ((k - 64) % 256) bytes
+    ∙ not_observed memory (page / 4) ((k - monitor_places) % 256) (unused_descriptor memory (page / 4) ((k - monitor_places) % 256) bytes
     (ap (λ (g : ℕ). page_of memory (page / 4) (32 + g)) (omega (arith, group)) ∙ is)
     (ap (λ (i : ℕ). byte_in bytes (129 + 2 * i)) of_page ∙ zero))

@@ -4,7 +4,7 @@ use Rattle.std.specs.Prelude.{option_to_list}
 use Rattle.std.proofs.lemmas.List.{append-nil}
 use Rattle.paged_memory.specs.Images.{Memory}
 use Rattle.observables.specs.declared.observation.Observation.{Observation}
-use Rattle.observables.specs.Observations.{IsNextObservation, observation_at, observations_before}
+use Rattle.observables.specs.Observations.{IsNextObservation, all_places, observation_at, observations_before}
 
 abbrev NoneUpTo : Memory → ℕ → ℕ → Type 0
 NoneUpTo memory from to = (k : ℕ) → from ≤ k → k < to → observation_at memory k ≡ None
@@ -33,5 +33,5 @@ one_more memory from place found next =
     ∙ ap (λ (o : Option Observation). observations_before memory place ++ option_to_list o) next.is_there
     ∙ ap (λ before. before ++ found ∷ []) (same_up_to memory from place next.not_before next.first)
 
-pub no_more : (memory : Memory) (from : ℕ) → from ≤ 1088 → NoneUpTo memory from 1088 → observations_before memory 1088 ≡ observations_before memory from
-no_more memory from within none = same_up_to memory from 1088 within none
+pub no_more : (memory : Memory) (from : ℕ) → from ≤ all_places → NoneUpTo memory from all_places → observations_before memory all_places ≡ observations_before memory from
+no_more memory from within none = same_up_to memory from all_places within none

@@ -118,11 +118,21 @@ observed memory bank n = option_and_then (observed_by memory bank n) (managed_by
 
 -- ---- the list
 
--- eight monitors of eight lanes, then four banks of 256 instances
+-- the first places are of monitors, eight lanes of each; no family has more than sixteen
+abbrev pub monitor_places : ℕ
+monitor_places = 128
+
+-- those after them are of instances: four banks of 256
+abbrev pub instance_places : ℕ
+instance_places = 1024
+
+abbrev pub all_places : ℕ
+all_places = monitor_places + instance_places
+
 unfoldable pub observation_at : Memory → ℕ → Option Observation
 observation_at memory place =
-    if nat_lt place 64 then monitored memory (place / 8) (place % 8 + 1)
-    else if nat_lt place 1088 then observed memory ((place - 64) / 256) ((place - 64) % 256)
+    if nat_lt place monitor_places then monitored memory (place / 8) (place % 8 + 1)
+    else if nat_lt place all_places then observed memory ((place - monitor_places) / 256) ((place - monitor_places) % 256)
     else None
 
 -- the observations before a place, in order
@@ -134,15 +144,15 @@ observations_before memory (suc place) = observations_before memory place ++ opt
 pub record IsNextObservation (memory : Memory) (from : ℕ) (found : ℕ × Observation) : Type 0 where
   pub is_there : observation_at memory found.0 ≡ Some found.1
   pub not_before : from ≤ found.0
-  pub within : found.0 < 1088
+  pub within : found.0 < all_places
   pub first : (k : ℕ) → from ≤ k → k < found.0 → observation_at memory k ≡ None
 
 -- each monitor of the family has a place for each lane
 abbrev pub EachMonitorHasAPlace : Type 0
 EachMonitorHasAPlace =
-    (memory : Memory) (n lane : ℕ) → n < 8 → 1 ≤ lane → lane ≤ 8 → observation_at memory (8 * n + (lane - 1)) ≡ monitored memory n lane
+    (memory : Memory) (n lane : ℕ) → 8 * n < monitor_places → 1 ≤ lane → lane ≤ 8 → observation_at memory (8 * n + (lane - 1)) ≡ monitored memory n lane
 
 -- each instance of four banks has a place
 abbrev pub EachInstanceHasAPlace : Type 0
 EachInstanceHasAPlace =
-    (memory : Memory) (bank n : ℕ) → bank < 4 → n < 256 → observation_at memory (64 + 256 * bank + n) ≡ observed memory bank n
+    (memory : Memory) (bank n : ℕ) → bank < 4 → n < 256 → observation_at memory (monitor_places + 256 * bank + n) ≡ observed memory bank n

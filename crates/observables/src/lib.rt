@@ -37,7 +37,7 @@ pub use limits::{flags_of, limits_in_set};
 pub use names::{figure_name, lane_of, quantity_name, scope_name, unit_name};
 pub use numbers::{figure_number, quantity_number, side_number, unit_number};
 pub use observable::{Figure, Observable, Side, observable_of};
-pub use observation::{Observation, PLACES, Subject, observation_at};
+pub use observation::{MONITOR_PLACES, Observation, Subject, observation_at};
 pub use observations::{all_observations, next_observation};
 pub use pages::{absent_page, advertised_pages, has_observables};
 pub use quantity::{Format, Quantity, QuantityRow, Scope, Unit, quantity_row};

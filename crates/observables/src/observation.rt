@@ -16,11 +16,11 @@ use crate::sfp_monitors::sfp_monitor;
 use field_tables::{Field, PerLimit, number, row};
 use paged_memory::{Family, Image};
 
-/// How many places the list has.
-pub const PLACES: u16 = MONITOR_PLACES + 4 * 256;
+/// How many places of the list are of monitors, sixteen of eight lanes. Those of four banks of instances follow.
+pub const MONITOR_PLACES: u16 = 128;
 
-/// How many of them are of monitors, eight of eight lanes. Those of four banks of instances follow.
-pub(crate) const MONITOR_PLACES: u16 = 64;
+// How many places the list has.
+const PLACES: u16 = MONITOR_PLACES + 4 * 256;
 
 /// Where something is measured. Lanes and data paths are counted from 1, a data path by its first lane.
 #[derive(Clone, Copy, Debug, PartialEq, Eq)]

@@ -1,7 +1,7 @@
 //! All that a module measures, in the order of the list.
 ghost use Rattle.std.specs.Prelude.{◌≡◌, ◌≤◌, ◌<◌, ◌+◌, ◌*◌, ◌/◌, ◌%◌, ℕ, max, None, Some, IfOk, IfSome, MatchOption};
 ghost use Rattle.observables.specs.Observations as spec;
-ghost use Rattle.observables.specs.Observations.{IsNextObservation, observations_before};
+ghost use Rattle.observables.specs.Observations.{IsNextObservation, all_places, monitor_places, observations_before};
 ghost use Rattle.observables.specs.Words.{page_of};
 
 use crate::observation::{MONITOR_PLACES, Observation, observation_at};
@@ -17,7 +17,7 @@ const INSTANCES_OF_PAGE: u16 = 64;
 /// All of them.
 #[tactic(auto, using(crate::proofs::MoreObservations::one_more, crate::proofs::MoreObservations::no_more))]
 pub fn all_observations(alloc: Global, image: &Image) -> Result<Vec<Observation>, AllocError>
-    ensures { IfOk result (λ all. all.items ≡ observations_before image.now 1088) }
+    ensures { IfOk result (λ all. all.items ≡ observations_before image.now all_places) }
 {
     let mut all = Vec::new(alloc);
     let mut from = 0;
@@ -31,8 +31,8 @@ pub fn all_observations(alloc: Global, image: &Image) -> Result<Vec<Observation>
 /// The first observation from a place on, with its place. The next one begins at the place after that.
 #[tactic(auto, using(crate::proofs::NextObservations::next))]
 pub fn next_observation(image: &Image, from: u16) -> Option<(u16, Observation)>
-    ensures first { MatchOption result ((k : ℕ) → from ≤ k → k < 1088 → spec.observation_at image.now k ≡ None) (IsNextObservation image.now from) }
-    ensures within { IfSome result (λ found. found.0 < 1088) }
+    ensures first { MatchOption result ((k : ℕ) → from ≤ k → k < all_places → spec.observation_at image.now k ≡ None) (IsNextObservation image.now from) }
+    ensures within { IfSome result (λ found. found.0 < all_places) }
 {
     for place in from..MONITOR_PLACES {
         if let Some(observation) = observation_at(image, place) {
@@ -44,8 +44,8 @@ pub fn next_observation(image: &Image, from: u16) -> Option<(u16, Observation)>
 
 // The first from a place of instances on.
 fn next_of_instances(image: &Image, from: u16) -> Option<(u16, Observation)>
-    requires { 64 ≤ from }
-    ensures first { MatchOption result ((k : ℕ) → from ≤ k → k < 1088 → spec.observation_at image.now k ≡ None) (IsNextObservation image.now from) }
+    requires { monitor_places ≤ from }
+    ensures first { MatchOption result ((k : ℕ) → from ≤ k → k < all_places → spec.observation_at image.now k ≡ None) (IsNextObservation image.now from) }
 {
     for page in (from - MONITOR_PLACES) / INSTANCES_OF_PAGE..DESCRIBING_PAGES {
         if let Some(found) = next_on_page(image, page, from) {
@@ -58,8 +58,8 @@ fn next_of_instances(image: &Image, from: u16) -> Option<(u16, Observation)>
 // The first from a place on of the instances that a page describes: none if it is absent.
 fn next_on_page(image: &Image, page: u16, from: u16) -> Option<(u16, Observation)>
     requires { page < 16 }
-    ensures first { MatchOption result ((k : ℕ) → max from (64 + 64 * page) ≤ k → k < 128 + 64 * page → spec.observation_at image.now k ≡ None)
-        (IsNextObservation image.now (max from (64 + 64 * page))) }
+    ensures first { MatchOption result ((k : ℕ) → max from (monitor_places + 64 * page) ≤ k → k < monitor_places + 64 * (page + 1) → spec.observation_at image.now k ≡ None)
+        (IsNextObservation image.now (max from (monitor_places + 64 * page))) }
 {
     let Some(described) = page_of(image, (page / 4) as u8, 0x20 + (page % 4) as u8) else {
         return None;
@@ -81,8 +81,8 @@ fn described_at(
     place: u16,
 ) -> Option<Observation>
     requires few { _page < 16 }
-    requires first { 64 + 64 * _page ≤ place }
-    requires last { place < 128 + 64 * _page }
+    requires first { monitor_places + 64 * _page ≤ place }
+    requires last { place < monitor_places + 64 * (_page + 1) }
     requires page { page_of image.now (_page / 4) (32 + _page % 4) ≡ Some described.now }
     ensures { result ≡ spec.observation_at image.now place }
 {

@@ -5,4 +5,4 @@ use Rattle.observables.proofs.observations.next_on_page.Given as goal
 
 -- no place so far has an observation
 abbrev pub invariant-loop-place : goal.invariant-loop-place
-invariant-loop-place l = (k : ℕ) → max l.from (64 + 64 * l.page) ≤ k → k < l.place → spec.observation_at l.image k ≡ None
+invariant-loop-place l = (k : ℕ) → max l.from (spec.monitor_places + 64 * l.page) ≤ k → k < l.place → spec.observation_at l.image k ≡ None
