@@ -1,17 +1,16 @@
 -- The places of the instances that a page describes: none has an observation if the page is absent, and none that is unused.
-use Rattle.std.proofs.Common.{◌≡◌, ◌<◌, ◌≤◌, ◌∙◌, ℕ, ◌+◌, ◌-◌, ◌*◌, ◌/◌, ◌%◌, Option, Some, None, List, option_map, ap, refl, arith}
+use Rattle.std.proofs.Common.{◌≡◌, ◌<◌, ◌≤◌, ◌∙◌, ℕ, ◌+◌, ◌-◌, ◌*◌, ◌/◌, ◌%◌, Option, Some, None, List, Bool, true, false, if◌then◌else◌, option_map, ap, refl, arith}
 use Rattle.std.specs.Prelude.{option_and_then}
 use Rattle.paged_memory.specs.Images.{Memory}
-use Rattle.paged_memory.specs.declared.family.Family.{Family}
-use Rattle.paged_memory.specs.declared.family.Family.TheVariants.{Cmis, Sff8636, Sff8472}
+use Rattle.paged_memory.specs.declared.family.Family.TheVariants.{Cmis}
 use Rattle.field_tables.specs.declared.field.Field.TheVariants.{CIdentifier}
 use Rattle.field_tables.specs.Readings.{number}
-use Rattle.paged_memory.specs.Families.{managed_by}
+use Rattle.paged_memory.specs.Families.{is_family, managed_by}
 use Rattle.observables.specs.declared.descriptor.Descriptor.{Descriptor}
 use Rattle.observables.specs.Descriptors.{descriptor_of}
 use Rattle.observables.specs.Instances.{descriptor_at, instance_at, instance_with}
 use Rattle.observables.specs.Observables.{observable_of}
-use Rattle.observables.specs.Observations.{all_places, decoded, monitor_places, observation_at, observed, observed_by, with_instance}
+use Rattle.observables.specs.Observations.{all_places, decoded, monitor_places, observation_at, observed, with_instance}
 use Rattle.observables.specs.Words.{byte_in, page_of, word_in}
 use Rattle.observables.proofs.PlacesOfList.{at_instance, below, not_below}
 
@@ -26,15 +25,11 @@ not_decoded memory bank n unused =
     ap (λ (found : Option Descriptor). option_and_then (λ instance. option_map (with_instance memory bank instance) (observable_of instance.descriptor.kind))
     (option_map (instance_with memory bank n) found)) unused
 
-of_no_family : (memory : Memory) (bank n : ℕ) (family : Option Family) → decoded memory bank n ≡ None
-    → option_and_then (observed_by memory bank n) family ≡ None
-of_no_family memory bank n None not = refl
-of_no_family memory bank n (Some Cmis) not = not
-of_no_family memory bank n (Some Sff8636) not = refl
-of_no_family memory bank n (Some Sff8472) not = refl
-
 not_observed : (memory : Memory) (bank n : ℕ) → descriptor_at memory bank n ≡ None → observed memory bank n ≡ None
-not_observed memory bank n unused = of_no_family memory bank n (managed_by (number memory CIdentifier)) (not_decoded memory bank n unused)
+not_observed memory bank n unused = by (is_family Cmis (managed_by (number memory CIdentifier))) where
+  by : (listed : Bool) → (if listed then decoded memory bank n else None) ≡ None
+  by true = not_decoded memory bank n unused
+  by false = refl
 
 absent_descriptor : (memory : Memory) (bank n : ℕ) → page_of memory bank (32 + n / 64) ≡ None → descriptor_at memory bank n ≡ None
 unfolding descriptor_at

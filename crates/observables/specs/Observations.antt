@@ -7,8 +7,8 @@ use Rattle.field_tables.specs.declared.readings.PerLimit.{PerLimit}
 use Rattle.field_tables.specs.FieldRows.{row_of}
 use Rattle.field_tables.specs.Readings.{number}
 use Rattle.paged_memory.specs.declared.family.Family.{Family}
-use Rattle.paged_memory.specs.declared.family.Family.TheVariants.{Cmis, Sff8636, Sff8472}
-use Rattle.paged_memory.specs.Families.{managed_by}
+use Rattle.paged_memory.specs.declared.family.Family.TheVariants as families
+use Rattle.paged_memory.specs.Families.{is_family, managed_by}
 use Rattle.paged_memory.specs.Images.{Memory}
 use Rattle.observables.specs.declared.amount.Amount.{Amount}
 use Rattle.observables.specs.declared.instance.Instance.{Instance}
@@ -44,9 +44,9 @@ subject_of Lane Host lane = subjects.HostLane lane
 -- ---- monitors at fixed places
 
 abbrev pub monitor_by : Memory → ℕ → Family → Option Monitor
-monitor_by memory n Cmis = cmis_monitor memory n
-monitor_by memory n Sff8636 = qsfp_monitor n
-monitor_by memory n Sff8472 = sfp_monitor n
+monitor_by memory n families.Cmis = cmis_monitor memory n
+monitor_by memory n families.Sff8636 = qsfp_monitor n
+monitor_by memory n families.Sff8472 = sfp_monitor n
 
 -- monitor n of the module's family
 abbrev pub monitor_of : Memory → ℕ → Option Monitor
@@ -108,13 +108,8 @@ decoded memory bank n =
     option_and_then (λ instance. option_map (with_instance memory bank instance) (observable_of instance.descriptor.kind)) (instance_at memory bank n)
 
 -- modules of other families have other things on these pages
-abbrev pub observed_by : Memory → ℕ → ℕ → Family → Option Observation
-observed_by memory bank n Cmis = decoded memory bank n
-observed_by memory bank n Sff8636 = None
-observed_by memory bank n Sff8472 = None
-
 abbrev pub observed : Memory → ℕ → ℕ → Option Observation
-observed memory bank n = option_and_then (observed_by memory bank n) (managed_by (number memory CIdentifier))
+observed memory bank n = if is_family families.Cmis (managed_by (number memory CIdentifier)) then decoded memory bank n else None
 
 -- ---- the list
 

@@ -112,10 +112,10 @@ fn observed(image: &Image, bank: u8, instance: u8) -> Option<Observation>
     requires { bank < 4 }
     ensures { result ≡ spec.observed image.now bank instance }
 {
-    match Family::managing(number(image, Field::CIdentifier))? {
-        Family::Cmis => decoded(image, bank, instance),
-        Family::Sff8636 | Family::Sff8472 => None,
+    if Family::managing(number(image, Field::CIdentifier)) != Some(Family::Cmis) {
+        return None;
     }
+    decoded(image, bank, instance)
 }
 
 fn decoded(image: &Image, bank: u8, number: u8) -> Option<Observation>
