@@ -181,6 +181,8 @@ def test_numbers_are_those_of_the_header() -> None:
     assert f"#define DOVECOUNTER_MOST_READ {library.MOST_READ}\n" in HEADER
     assert f"#define DOVECOUNTER_MOST_VDM {library.MOST_VDM}\n" in HEADER
     assert f"#define DOVECOUNTER_FIRST_INSTANCE {library.FIRST_INSTANCE}\n" in HEADER
+    observation = (ROOT / "crates/observables/src/observation.rt").read_text()
+    assert f"const MONITOR_PLACES: u16 = {library.FIRST_INSTANCE};\n" in observation
     for of_vdm in (*VdmStatistics, *VdmRelease):
         assert STATUSES[f"VDM_{of_vdm.name}"] == of_vdm.value
     left = re.search(r"enum dovecounter_left_reason \{(.*?)\}", HEADER, re.DOTALL)

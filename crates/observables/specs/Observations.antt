@@ -113,7 +113,7 @@ observed memory bank n = if is_family families.Cmis (managed_by (number memory C
 
 -- ---- the list
 
--- the first places are of monitors, eight lanes of each; no family has more than sixteen
+-- the first places are of monitors: sixteen of eight lanes, more than any family has
 abbrev pub monitor_places : ℕ
 monitor_places = 128
 
