@@ -38,7 +38,7 @@ transmitted_power = record {
   quantity = quantities.TransmittedPower;
   scope = Lane;
   values = fields.CTxPower;
-  bounds = Some (record { limits = fields.CTxPowerLimits; flags = bits_of_lanes (record { high_alarm = fields.CTxPowerHighAlarm; low_alarm = fields.CTxPowerLowAlarm; high_warning = fields.CTxPowerHighWarning; low_warning = fields.CTxPowerLowWarning }) });
+  bounds = Some (record { limits = fields.CTxPowerLimits; flags = bits_of_lanes fields.CTxPowerHighAlarm fields.CTxPowerLowAlarm fields.CTxPowerHighWarning fields.CTxPowerLowWarning });
   advert = Some (bits_at fields.CTxPowerMonitor 1);
   correction = Plain;
 }
@@ -48,7 +48,7 @@ laser_bias = record {
   quantity = quantities.LaserBias;
   scope = Lane;
   values = fields.CTxBias;
-  bounds = Some (record { limits = fields.CTxBiasLimits; flags = bits_of_lanes (record { high_alarm = fields.CTxBiasHighAlarm; low_alarm = fields.CTxBiasLowAlarm; high_warning = fields.CTxBiasHighWarning; low_warning = fields.CTxBiasLowWarning }) });
+  bounds = Some (record { limits = fields.CTxBiasLimits; flags = bits_of_lanes fields.CTxBiasHighAlarm fields.CTxBiasLowAlarm fields.CTxBiasHighWarning fields.CTxBiasLowWarning });
   advert = Some (bits_at fields.CTxBiasMonitor 1);
   correction = Multiplied;
 }
@@ -58,7 +58,7 @@ received_power = record {
   quantity = quantities.ReceivedPower;
   scope = Lane;
   values = fields.CRxPower;
-  bounds = Some (record { limits = fields.CRxPowerLimits; flags = bits_of_lanes (record { high_alarm = fields.CRxPowerHighAlarm; low_alarm = fields.CRxPowerLowAlarm; high_warning = fields.CRxPowerHighWarning; low_warning = fields.CRxPowerLowWarning }) });
+  bounds = Some (record { limits = fields.CRxPowerLimits; flags = bits_of_lanes fields.CRxPowerHighAlarm fields.CRxPowerLowAlarm fields.CRxPowerHighWarning fields.CRxPowerLowWarning });
   advert = Some (bits_at fields.CRxPowerMonitor 1);
   correction = Plain;
 }

@@ -6,7 +6,10 @@ use Rattle.field_tables.specs.FieldRows.{row_of}
 use Rattle.field_tables.specs.Readings.{is_of_bytes}
 use Rattle.observables.specs.declared.monitor.BitPlace.{BitPlace}
 use Rattle.observables.specs.declared.monitor.Bounds.{Bounds}
+use Rattle.observables.specs.declared.monitor.Correction.{Correction}
 use Rattle.observables.specs.declared.monitor.Monitor.{Monitor}
+use Rattle.observables.specs.declared.quantity.Quantity.{Quantity}
+use Rattle.observables.specs.declared.quantity.Scope.{Scope}
 
 -- ---- how bits stand for the four limits
 
@@ -32,13 +35,26 @@ bits_in_pairs alarms warnings first = record {
 }
 
 -- each limit has a field of its own, with a bit for each lane
-abbrev pub bits_of_lanes : PerLimit Field → PerLimit BitPlace
-bits_of_lanes fields = record {
-  high_alarm = bits_at fields.high_alarm 1;
-  low_alarm = bits_at fields.low_alarm 1;
-  high_warning = bits_at fields.high_warning 1;
-  low_warning = bits_at fields.low_warning 1;
+abbrev pub bits_of_lanes : Field → Field → Field → Field → PerLimit BitPlace
+bits_of_lanes high_alarm low_alarm high_warning low_warning = record {
+  high_alarm = bits_at high_alarm 1;
+  low_alarm = bits_at low_alarm 1;
+  high_warning = bits_at high_warning 1;
+  low_warning = bits_at low_warning 1;
 }
+
+-- ---- a row of a table of monitors
+
+abbrev pub advertised_by : Field → ℕ → Option BitPlace
+advertised_by field bit = Some (bits_at field bit)
+
+abbrev pub limited : Field → PerLimit BitPlace → Option Bounds
+limited limits flags = Some (record { limits = limits; flags = flags })
+
+-- what is measured, of the module or of each lane; its values; its limits with their flags; the bit that advertises it; what corrects it
+abbrev pub monitor : Quantity → Scope → Field → Option Bounds → Option BitPlace → Correction → Option Monitor
+monitor quantity scope values bounds advert correction =
+    Some (record { quantity = quantity; scope = scope; values = values; bounds = bounds; advert = advert; correction = correction })
 
 -- ---- what makes a row right
 

@@ -7,7 +7,7 @@ ghost use Rattle.observables.specs.declared.quantity.Quantity.TheVariants as qua
 
 use crate::monitor::{BitPlace, Bounds, Correction, Monitor, bits_in_row, bits_of_lanes};
 use crate::quantity::{Quantity, Scope};
-use field_tables::{Field, PerLimit, bit_at};
+use field_tables::{Field, bit_at};
 use paged_memory::Image;
 
 /// The monitor of CMIS with this number; what an auxiliary monitor measures depends on the image.
@@ -78,12 +78,12 @@ fn transmitted_power() -> Monitor
         values: Field::CTxPower,
         bounds: Some(Bounds {
             limits: Field::CTxPowerLimits,
-            flags: bits_of_lanes(PerLimit {
-                high_alarm: Field::CTxPowerHighAlarm,
-                low_alarm: Field::CTxPowerLowAlarm,
-                high_warning: Field::CTxPowerHighWarning,
-                low_warning: Field::CTxPowerLowWarning,
-            }),
+            flags: bits_of_lanes(
+                Field::CTxPowerHighAlarm,
+                Field::CTxPowerLowAlarm,
+                Field::CTxPowerHighWarning,
+                Field::CTxPowerLowWarning,
+            ),
         }),
         advert: Some(BitPlace {
             field: Field::CTxPowerMonitor,
@@ -103,12 +103,12 @@ fn laser_bias() -> Monitor
         values: Field::CTxBias,
         bounds: Some(Bounds {
             limits: Field::CTxBiasLimits,
-            flags: bits_of_lanes(PerLimit {
-                high_alarm: Field::CTxBiasHighAlarm,
-                low_alarm: Field::CTxBiasLowAlarm,
-                high_warning: Field::CTxBiasHighWarning,
-                low_warning: Field::CTxBiasLowWarning,
-            }),
+            flags: bits_of_lanes(
+                Field::CTxBiasHighAlarm,
+                Field::CTxBiasLowAlarm,
+                Field::CTxBiasHighWarning,
+                Field::CTxBiasLowWarning,
+            ),
         }),
         advert: Some(BitPlace {
             field: Field::CTxBiasMonitor,
@@ -128,12 +128,12 @@ fn received_power() -> Monitor
         values: Field::CRxPower,
         bounds: Some(Bounds {
             limits: Field::CRxPowerLimits,
-            flags: bits_of_lanes(PerLimit {
-                high_alarm: Field::CRxPowerHighAlarm,
-                low_alarm: Field::CRxPowerLowAlarm,
-                high_warning: Field::CRxPowerHighWarning,
-                low_warning: Field::CRxPowerLowWarning,
-            }),
+            flags: bits_of_lanes(
+                Field::CRxPowerHighAlarm,
+                Field::CRxPowerLowAlarm,
+                Field::CRxPowerHighWarning,
+                Field::CRxPowerLowWarning,
+            ),
         }),
         advert: Some(BitPlace {
             field: Field::CRxPowerMonitor,

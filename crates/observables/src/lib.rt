@@ -18,10 +18,10 @@ mod observable;
 mod observation;
 mod observations;
 mod pages;
-mod qsfp_monitors;
 mod quantity;
 mod scientific;
 mod sfp_monitors;
+mod tables;
 mod words;
 
 pub use amount::{Amount, steps};

@@ -44,25 +44,23 @@ pub struct Monitor {
     pub correction: Correction,
 }
 
+/// The bits of a field from the one with this number on.
+pub fn bits_at(field: Field, first: u8) -> BitPlace
+    ensures { result ≡ spec.bits_at field first }
+{
+    BitPlace { field, first }
+}
+
 /// Four bits of a field in a row.
 pub fn bits_in_row(field: Field, first: u8) -> PerLimit<BitPlace>
     requires { first < 252 }
     ensures { result ≡ spec.bits_in_row field first }
 {
     PerLimit {
-        high_alarm: BitPlace { field, first },
-        low_alarm: BitPlace {
-            field,
-            first: first + 1,
-        },
-        high_warning: BitPlace {
-            field,
-            first: first + 2,
-        },
-        low_warning: BitPlace {
-            field,
-            first: first + 3,
-        },
+        high_alarm: bits_at(field, first),
+        low_alarm: bits_at(field, first + 1),
+        high_warning: bits_at(field, first + 2),
+        low_warning: bits_at(field, first + 3),
     }
 }
 
@@ -72,45 +70,26 @@ pub fn bits_in_pairs(alarms: Field, warnings: Field, first: u8) -> PerLimit<BitP
     ensures { result ≡ spec.bits_in_pairs alarms warnings first }
 {
     PerLimit {
-        high_alarm: BitPlace {
-            field: alarms,
-            first,
-        },
-        low_alarm: BitPlace {
-            field: alarms,
-            first: first + 1,
-        },
-        high_warning: BitPlace {
-            field: warnings,
-            first,
-        },
-        low_warning: BitPlace {
-            field: warnings,
-            first: first + 1,
-        },
+        high_alarm: bits_at(alarms, first),
+        low_alarm: bits_at(alarms, first + 1),
+        high_warning: bits_at(warnings, first),
+        low_warning: bits_at(warnings, first + 1),
     }
 }
 
-/// The bits of lanes of four fields.
-pub fn bits_of_lanes(fields: PerLimit<Field>) -> PerLimit<BitPlace>
-    ensures { result ≡ spec.bits_of_lanes fields }
+/// The bits of lanes of four fields, one for each limit.
+pub fn bits_of_lanes(
+    high_alarm: Field,
+    low_alarm: Field,
+    high_warning: Field,
+    low_warning: Field,
+) -> PerLimit<BitPlace>
+    ensures { result ≡ spec.bits_of_lanes high_alarm low_alarm high_warning low_warning }
 {
     PerLimit {
-        high_alarm: BitPlace {
-            field: fields.high_alarm,
-            first: 1,
-        },
-        low_alarm: BitPlace {
-            field: fields.low_alarm,
-            first: 1,
-        },
-        high_warning: BitPlace {
-            field: fields.high_warning,
-            first: 1,
-        },
-        low_warning: BitPlace {
-            field: fields.low_warning,
-            first: 1,
-        },
+        high_alarm: bits_at(high_alarm, 1),
+        low_alarm: bits_at(low_alarm, 1),
+        high_warning: bits_at(high_warning, 1),
+        low_warning: bits_at(low_warning, 1),
     }
 }

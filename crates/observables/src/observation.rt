@@ -10,9 +10,9 @@ use crate::monitor::Monitor;
 use crate::monitored::{amount_at, flags_in_lane, is_advertised, is_present, limit_amounts};
 use crate::observable::{Figure, Observable, Side, observable_of};
 use crate::pages::has_observables;
-use crate::qsfp_monitors::qsfp_monitor;
 use crate::quantity::{Quantity, Scope, Unit, quantity_row};
 use crate::sfp_monitors::sfp_monitor;
+use crate::tables::qsfp_monitor;
 use field_tables::{Field, PerLimit, number, row};
 use paged_memory::{Family, Image};
 
