@@ -3,7 +3,6 @@
 #![tactic(auto)]
 
 mod amount;
-mod cmis_monitors;
 mod descriptor;
 mod fixed;
 mod instance;
@@ -20,7 +19,6 @@ mod observations;
 mod pages;
 mod quantity;
 mod scientific;
-mod sfp_monitors;
 mod tables;
 mod words;
 

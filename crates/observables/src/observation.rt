@@ -4,15 +4,13 @@ ghost use Rattle.observables.specs.Monitors.{MonitorFits};
 ghost use Rattle.observables.specs.Observations as spec;
 
 use crate::amount::Amount;
-use crate::cmis_monitors::cmis_monitor;
 use crate::instance::{Instance, instance_at};
 use crate::monitor::Monitor;
 use crate::monitored::{amount_at, flags_in_lane, is_advertised, is_present, limit_amounts};
 use crate::observable::{Figure, Observable, Side, observable_of};
 use crate::pages::has_observables;
 use crate::quantity::{Quantity, Scope, Unit, quantity_row};
-use crate::sfp_monitors::sfp_monitor;
-use crate::tables::qsfp_monitor;
+use crate::tables::{cmis_monitor, qsfp_monitor, sfp_monitor};
 use field_tables::{Field, PerLimit, number, row};
 use paged_memory::{Family, Image};
 
