@@ -1,2 +1,3 @@
 pub mod StoreLaws
 pub mod RequestLaws
+pub mod AsWindow

@@ -1,12 +1,23 @@
 //! What holds of the module, over all of its states. Each function is a theorem: its contract says it, and its body is empty.
-ghost use Rattle.std.specs.Prelude.{◌≡◌, ◌⊎◌, ◌≤◌, ◌<◌, ◌+◌, ◌-◌, ℕ, [], ◌∷◌, false, true, length, List, Some, None, slice_index};
+ghost use Rattle.std.specs.Prelude.{◌≡◌, ◌≢◌, ◌⊎◌, ◌≤◌, ◌<◌, ◌+◌, ◌-◌, ℕ, [], ◌∷◌, false, true, length, List, Some, None, reverse, slice_index};
+ghost use Rattle.std.specs.FinMap as map;
+ghost use Rattle.arrayvec.specs.ArrayVec.{ArrayVec};
 ghost use Rattle.bus_model.specs.declared.device.Dev.{Dev};
 ghost use Rattle.bus_model.specs.declared.device.Dev.TheVariants.{A0};
-ghost use Rattle.bus_model.specs.ScriptedBus.{ticked_times};
+ghost use Rattle.bus_model.specs.declared.script.Directive.{Directive};
+ghost use Rattle.bus_model.specs.Operations.{fetch_step};
+ghost use Rattle.bus_model.specs.Runs.{MayInTurn};
+ghost use Rattle.bus_model.specs.ScriptedBus.{script_rules, ticked_times};
+ghost use Rattle.paged_memory.specs.declared.page_addressing.PageAddressing.{PageAddressing};
+ghost use Rattle.paged_memory.specs.Images.{Memory};
+ghost use Rattle.paged_memory.specs.ImageText.{IsImage};
+ghost use Rattle.paged_memory.specs.Keys.{upper_key};
+ghost use Rattle.paged_memory.specs.MappedPages.{selecting_on};
+ghost use Rattle.paged_memory.specs.PageAddressing.{History, is_page_confirmed};
 ghost use Rattle.paged_memory.specs.Windows.{half_at, window_fetched, window_stored};
 ghost use Rattle.simulated_statistics.specs.declared.module.FreezingModule.{FreezingModule};
 ghost use Rattle.simulated_statistics.specs.declared.request.Request.{Request};
-ghost use Rattle.simulated_statistics.specs.FreezingModules.{conduct, fetched, shows_control, stored, window_of};
+ghost use Rattle.simulated_statistics.specs.FreezingModules.{begun, conduct, fetched, shows_control, stored, window_of};
 ghost use Rattle.simulated_statistics.specs.Requests.{done_byte};
 
 /// Stores select pages and are taken as those of a window, and no store changes what the memory holds.
@@ -42,4 +53,13 @@ pub fn a_request_is_done_in_time()
         (ticked_times conduct ticks (stored sim A0 144 (control ∷ [])).1).request ≡ Some (record { control = control; left = sim.delay - ticks }) }
     ensures shown { (sim : FreezingModule) (request : Request) (half : List ℕ) → shows_control sim A0 ≡ true → sim.request ≡ Some request →
         half_at (window_of sim) A0 145 ≡ Some half → (fetched sim A0 145 1).0 ≡ Some (done_byte request (slice_index half 17) ∷ []) }
+{}
+
+/// Whatever a bus refuses, and whatever was asked of the module: a page other than 2Fh that the steps on the bus confirm (the newest first) is
+/// read as the image has it.
+pub fn confirmed_pages_are_read_as_they_are()
+    ensures { (image : Memory) (delay : ℕ) (addressing : PageAddressing) (script : List Directive) (before : History) (page : ℕ) (bytes : ArrayVec ℕ) →
+        IsImage image → selecting_on image A0 ≡ Some addressing →
+        MayInTurn (script_rules conduct) (script, begun image delay) (reverse (fetch_step A0 128 128 (Some bytes) ∷ before)) →
+        is_page_confirmed addressing page before ≡ true → page ≢ 0x2F → map.get image (upper_key A0 0 page) ≡ Some bytes.items }
 {}
