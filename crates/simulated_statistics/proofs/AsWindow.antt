@@ -1,7 +1,10 @@
 -- What steps on a scripted bus make of the module, they make of a window of its image; and which page the window then shows is read as
 -- the image has it. Steps stand with the newest first.
-use Rattle.std.proofs.Common.{◌≡◌, ◌≢◌, ℕ, zero, suc, Bool, true, false, not, ◌&&◌, ◌||◌, ◌==◌, List, [], ◌∷◌, take, reverse, Option, Some, None, refl, sym, ap, subst, ◌∙◌, if◌then◌else◌}
-use Rattle.std.proofs.lemmas.Bool.{eqb-true}
+use Rattle.std.proofs.Common.{◌≡◌, ◌≢◌, ◌⊎◌, inl, inr, ℕ, zero, suc, ◌+◌, ◌<◌, ◌≤◌, nat_le, nat_lt, arith, length, Bool, true, false, not, ◌&&◌, ◌||◌, ◌==◌, List, [], ◌∷◌, take, reverse, Option, Some, None, refl, sym, ap, subst, ◌∙◌, if◌then◌else◌}
+use Rattle.std.proofs.lemmas.Bool.{cases_lt, eqb-true}
+use Rattle.std.proofs.lemmas.Bool.Decides.{nat_tests}
+use Rattle.std.proofs.lemmas.List.{length-take}
+use Rattle.std.specs.List.{AllByRecursion}
 use Rattle.std.specs.Prelude.{option_map}
 use Rattle.std.specs.FinMap as finmap
 use Rattle.arrayvec.specs.ArrayVec.{ArrayVec}
@@ -12,12 +15,13 @@ use Rattle.bus_model.specs.declared.operation.Reply.{Reply}
 use Rattle.bus_model.specs.declared.operation.Step.{Step}
 use Rattle.bus_model.specs.declared.script.Directive.{Directive}
 use Rattle.bus_model.specs.declared.script.Directive.TheVariants.{Pass, Nack, Cut, Tick, LowPower}
+use Rattle.bus_model.specs.Keeping.{IsKeptBy, IsKeptInTime}
 use Rattle.bus_model.specs.Operations.{fetch_reply, fetch_step}
 use Rattle.bus_model.specs.Runs.{MayInTurn}
 use Rattle.bus_model.specs.SameOperation.{same_op}
 use Rattle.bus_model.specs.Scripts.{spent}
 use Rattle.bus_model.specs.ScriptedBus.{given, obeyed, passed_on, script_rules, settled, ticked_times, transacted}
-use Rattle.bus_model.proofs.Histories.{MayEach, after, found_keeps, may_each}
+use Rattle.bus_model.proofs.Histories.{AnyPin, MayEach, after, found_keeps, may_each, steps_keep}
 use Rattle.bus_model.proofs.SameOperations.{ops_are}
 use Rattle.bus_model.proofs.ScriptRuns.{fetched_at}
 use Rattle.paged_memory.specs.declared.mapped_page.MappedPage.{MappedPage}
@@ -36,7 +40,9 @@ use Rattle.paged_memory.proofs.WindowReads.{reads_page}
 use Rattle.paged_memory.proofs.WindowRuns.{always}
 use Rattle.simulated_statistics.specs.declared.module.FreezingModule.{FreezingModule}
 use Rattle.simulated_statistics.specs.declared.request.Request.{Request}
-use Rattle.simulated_statistics.specs.FreezingModules.{begun, bytes_from, conduct, fetched, request_on, window_of}
+use Rattle.simulated_statistics.specs.FreezingModules.{begun, bytes_from, conduct, fetched, may_request, request_on, shows_control, window_of}
+use Rattle.simulated_statistics.specs.Requests.{ticked}
+use Rattle.simulated_statistics.proofs.RequestLaws.{apart_asks_nothing}
 use Rattle.simulated_statistics.proofs.StoreLaws.{same_window}
 
 -- a bus with a script and the module
@@ -196,13 +202,68 @@ not_control sim page shows other = by_tests (sim.selection.bank == 0) (sim.selec
   by_tests true false e = refl
   by_tests false b e = refl
 
-pub reads_confirmed : (image : Memory) (delay : ℕ) (addressing : PageAddressing) (script : List Directive) (before : History) (page : ℕ) (bytes : ArrayVec ℕ) → IsImage image → selecting_on image A0 ≡ Some addressing →
-    MayInTurn (script_rules conduct) (script, begun image delay) (reverse (fetch_step A0 128 128 (Some bytes) ∷ before)) → is_page_confirmed addressing page before ≡ true → page ≢ 0x2F →
+-- it is read if nothing of a request is shown
+reads_unless : (image : Memory) (delay : ℕ) (addressing : PageAddressing) (script : List Directive) (before : History) (page : ℕ) (bytes : ArrayVec ℕ) → IsImage image → selecting_on image A0 ≡ Some addressing →
+    MayInTurn (script_rules conduct) (script, begun image delay) (reverse (fetch_step A0 128 128 (Some bytes) ∷ before)) → is_page_confirmed addressing page before ≡ true →
+    ((sim : FreezingModule) → sim ≡ found_module (after (script_rules conduct) (script, begun image delay) before) → sim.selection.page ≡ page → request_on sim A0 ≡ None) →
     finmap.get image (upper_key A0 0 page) ≡ Some bytes.items
-reads_confirmed image delay addressing script before page bytes is by in_turn confirmed other =
+reads_unless image delay addressing script before page bytes is by in_turn confirmed plain =
     let start : State = (script, begun image delay) in
     let there = after (script_rules conduct) start before in
     let may = may_each (script_rules conduct) start (fetch_step A0 128 128 (Some bytes) ∷ before) in_turn in
     let shows = shows_page image delay addressing script before page by may.1 confirmed in
     let sim = found_module there in
-    read_plain image page sim bytes.items is shows (not_control sim page shows.number other) (fetched_at conduct A0 128 128 bytes there may.0).answer
+    read_plain image page sim bytes.items is shows (plain sim refl shows.number) (fetched_at conduct A0 128 128 bytes there may.0).answer
+
+pub reads_elsewhere : (image : Memory) (delay : ℕ) (addressing : PageAddressing) (script : List Directive) (before : History) (page : ℕ) (bytes : ArrayVec ℕ) → IsImage image → selecting_on image A0 ≡ Some addressing →
+    MayInTurn (script_rules conduct) (script, begun image delay) (reverse (fetch_step A0 128 128 (Some bytes) ∷ before)) → is_page_confirmed addressing page before ≡ true → page ≢ 0x2F →
+    finmap.get image (upper_key A0 0 page) ≡ Some bytes.items
+reads_elsewhere image delay addressing script before page bytes is by in_turn confirmed other =
+    reads_unless image delay addressing script before page bytes is by in_turn confirmed (λ sim found shows. not_control sim page shows other)
+
+-- ---- until something is asked of it
+
+abbrev IsUnasked : FreezingModule → Type 0
+IsUnasked sim = sim.request ≡ None
+
+in_time : IsKeptInTime conduct AnyPin IsUnasked
+in_time = record { tick = λ sim unasked. ap (option_map ticked) unasked; low_power_pin = λ sim on pin unasked. unasked }
+
+apart : (address count : ℕ) → (nat_le address 144 && nat_lt 144 (address + count)) ≡ false → (address + count ≤ 144) ⊎ (144 < address)
+apart address count e =
+    elim (cases_lt 144 (address + count)) [
+      | inr under ↦ inl under
+      | inl over ↦ elim (cases_lt 144 address) [
+        | inl past ↦ inr past
+        | inr before ↦ absurd (grind (arith, nat_tests))
+      ]
+    ]
+
+cut_apart : (kept address : ℕ) (bytes : List ℕ) → (address + length bytes ≤ 144) ⊎ (144 < address) → (address + length (take kept bytes) ≤ 144) ⊎ (144 < address)
+cut_apart kept address bytes (inl low) = inl (omega (arith, low, length-take kept bytes))
+cut_apart kept address bytes (inr high) = inr high
+
+unasked_by : (op : Op) → may_request op ≡ false → IsKeptBy conduct IsUnasked op
+unasked_by (Fetch dev address count) e = λ sim unasked. unasked
+unasked_by (Store dev address bytes) e =
+    let outside = apart address (length bytes.items) e in (
+      λ sim unasked. apart_asks_nothing sim dev address bytes.items outside ∙ unasked,
+      λ sim kept unasked. apart_asks_nothing sim dev address (take kept bytes.items) (cut_apart kept address bytes.items outside) ∙ unasked,
+    )
+
+each_unasked : (history : History) → AllByRecursion (λ step. may_request step.op ≡ false) history → AllByRecursion (λ step. IsKeptBy conduct IsUnasked step.op) history
+each_unasked [] each = tt
+each_unasked (step ∷ before) each = (unasked_by step.op each.0, each_unasked before each.1)
+
+none_shown : (b : Bool) (request : Option Request) → request ≡ None → (if b then request else None) ≡ None
+none_shown true request unasked = unasked
+none_shown false request unasked = refl
+
+pub reads_unasked : (image : Memory) (delay : ℕ) (addressing : PageAddressing) (script : List Directive) (before : History) (page : ℕ) (bytes : ArrayVec ℕ) → IsImage image → selecting_on image A0 ≡ Some addressing →
+    MayInTurn (script_rules conduct) (script, begun image delay) (reverse (fetch_step A0 128 128 (Some bytes) ∷ before)) → is_page_confirmed addressing page before ≡ true →
+    AllByRecursion (λ step. may_request step.op ≡ false) before → finmap.get image (upper_key A0 0 page) ≡ Some bytes.items
+reads_unasked image delay addressing script before page bytes is by in_turn confirmed each =
+    let start : State = (script, begun image delay) in
+    let there = after (script_rules conduct) start before in
+    let unasked = found_keeps conduct IsUnasked in_time there (steps_keep conduct IsUnasked in_time before (each_unasked before each) start refl) in
+    reads_unless image delay addressing script before page bytes is by in_turn confirmed (λ sim found shows. none_shown (shows_control sim A0) sim.request (ap (λ (s : FreezingModule). s.request) found ∙ unasked))

@@ -1,10 +1,12 @@
 -- A module of an image that freezes its statistics when it is asked to: a window of the image (docs/bus.md, "Windows") that shows its last
 -- request. (OIF-CMIS-05.0, "VDM Advertisement and Control", page 2Fh; that each store of byte 144 is a request, and takes a given time, is
 -- this project's own)
-use Rattle.std.specs.Prelude.{ℕ, ◌+◌, ◌==◌, ◌&&◌, Bool, true, false, List, [], ◌∷◌, map, Option, Some, None, is_some, option_map, if◌then◌else◌}
+use Rattle.std.specs.Prelude.{ℕ, ◌+◌, ◌==◌, ◌&&◌, nat_le, nat_lt, Bool, true, false, List, [], ◌∷◌, length, map, Option, Some, None, is_some, option_map, if◌then◌else◌}
 use Rattle.std.specs.List.{range_with_len}
 use Rattle.bus_model.specs.declared.device.Dev.{Dev}
 use Rattle.bus_model.specs.declared.device.Dev.TheVariants.{A0, A2}
+use Rattle.bus_model.specs.declared.operation.Op.{Op}
+use Rattle.bus_model.specs.declared.operation.Op.TheVariants.{Fetch, Store}
 use Rattle.bus_model.specs.Conduct.{Conduct}
 use Rattle.paged_memory.specs.declared.mapped_page.MappedPage.{MappedPage}
 use Rattle.paged_memory.specs.declared.page_addressing.PageAddressing.{PageAddressing}
@@ -71,6 +73,11 @@ stored_bytes sim dev address (byte ∷ bytes) = stored_bytes (stored_byte sim de
 abbrev pub stored : FreezingModule → Dev → ℕ → List ℕ → Bool × FreezingModule
 stored sim dev address bytes =
     if is_some (half_at (window_of sim) dev address) then (true, stored_bytes sim dev address bytes) else (false, sim)
+
+-- a store that covers byte 144: taken or cut short, it may be a request
+abbrev pub may_request : Op → Bool
+may_request (Store dev address bytes) = nat_le address 144 && nat_lt 144 (address + length bytes.items)
+may_request (Fetch dev address count) = false
 
 -- ---- time
 

@@ -1,6 +1,7 @@
 //! What holds of the module, over all of its states. Each function is a theorem: its contract says it, and its body is empty.
 ghost use Rattle.std.specs.Prelude.{◌≡◌, ◌≢◌, ◌⊎◌, ◌≤◌, ◌<◌, ◌+◌, ◌-◌, ℕ, [], ◌∷◌, false, true, length, List, Some, None, reverse, slice_index};
 ghost use Rattle.std.specs.FinMap as map;
+ghost use Rattle.std.specs.List.{AllByRecursion};
 ghost use Rattle.arrayvec.specs.ArrayVec.{ArrayVec};
 ghost use Rattle.bus_model.specs.declared.device.Dev.{Dev};
 ghost use Rattle.bus_model.specs.declared.device.Dev.TheVariants.{A0};
@@ -17,7 +18,7 @@ ghost use Rattle.paged_memory.specs.PageAddressing.{History, is_page_confirmed};
 ghost use Rattle.paged_memory.specs.Windows.{half_at, window_fetched, window_stored};
 ghost use Rattle.simulated_statistics.specs.declared.module.FreezingModule.{FreezingModule};
 ghost use Rattle.simulated_statistics.specs.declared.request.Request.{Request};
-ghost use Rattle.simulated_statistics.specs.FreezingModules.{begun, conduct, fetched, shows_control, stored, window_of};
+ghost use Rattle.simulated_statistics.specs.FreezingModules.{begun, conduct, fetched, may_request, shows_control, stored, window_of};
 ghost use Rattle.simulated_statistics.specs.Requests.{done_byte};
 
 /// Stores select pages and are taken as those of a window, and no store changes what the memory holds.
@@ -55,11 +56,16 @@ pub fn a_request_is_done_in_time()
         half_at (window_of sim) A0 145 ≡ Some half → (fetched sim A0 145 1).0 ≡ Some (done_byte request (slice_index half 17) ∷ []) }
 {}
 
-/// Whatever a bus refuses, and whatever was asked of the module: a page other than 2Fh that the steps on the bus confirm (the newest first) is
-/// read as the image has it.
+/// Whatever a bus refuses: a page that the steps on the bus confirm (the newest first) is read as the image has it, 2Fh until something is
+/// asked of the module, and each other page at any time.
 pub fn confirmed_pages_are_read_as_they_are()
-    ensures { (image : Memory) (delay : ℕ) (addressing : PageAddressing) (script : List Directive) (before : History) (page : ℕ) (bytes : ArrayVec ℕ) →
+    ensures elsewhere { (image : Memory) (delay : ℕ) (addressing : PageAddressing) (script : List Directive) (before : History) (page : ℕ) (bytes : ArrayVec ℕ) →
         IsImage image → selecting_on image A0 ≡ Some addressing →
         MayInTurn (script_rules conduct) (script, begun image delay) (reverse (fetch_step A0 128 128 (Some bytes) ∷ before)) →
         is_page_confirmed addressing page before ≡ true → page ≢ 0x2F → map.get image (upper_key A0 0 page) ≡ Some bytes.items }
+    ensures unasked { (image : Memory) (delay : ℕ) (addressing : PageAddressing) (script : List Directive) (before : History) (page : ℕ) (bytes : ArrayVec ℕ) →
+        IsImage image → selecting_on image A0 ≡ Some addressing →
+        MayInTurn (script_rules conduct) (script, begun image delay) (reverse (fetch_step A0 128 128 (Some bytes) ∷ before)) →
+        is_page_confirmed addressing page before ≡ true → AllByRecursion (λ step. may_request step.op ≡ false) before →
+        map.get image (upper_key A0 0 page) ≡ Some bytes.items }
 {}
