@@ -1,8 +1,7 @@
 -- The path that is chosen at a state keeps the state's gain, and is the lowest that does; where none is chosen, none does.
-use Rattle.std.proofs.Common.{◌≡◌, ℕ, ◌+◌, ◌⊎◌, ◌&&◌, ◌||◌, Bool, true, false, List, Some, None, nat_lt, filter, refl, ap, ◌∙◌, sym, subst, inl, inr, arith}
-use Rattle.std.specs.List.{AllByRecursion, AllPairs, find}
-use Rattle.std.proofs.lemmas.Bool.{and_parts, cases_Bool, eqb-true, eq-eqb}
-use Rattle.std.proofs.lemmas.Bool.Decides.{nat_tests}
+use Rattle.std.proofs.Common.{◌≡◌, ℕ, ◌+◌, ◌⊎◌, ◌&&◌, ◌||◌, Bool, true, false, List, Some, None, nat_lt, filter, refl, ap, ◌∙◌, sym, subst, inl, inr, arith, ◌-◌, ◌==◌, [], ◌∷◌, Option, map, find, option_map, cond}
+use Rattle.std.specs.List.{AllByRecursion, AllPairs, find, All}
+use Rattle.std.proofs.lemmas.Bool.{and_parts, cases_Bool, cond_both, eqb-true, eq-eqb, lt-ltb, ltb-true, or_cases, or_left, or_right}
 use Rattle.field_tables.specs.LaneSets.{is_disjoint}
 use Rattle.applications.specs.Advertised.{Advertised}
 use Rattle.applications.specs.AppWeights.{PathWeights}
@@ -11,7 +10,7 @@ use Rattle.plan_certificate.specs.declared.moves.Move.{Move}
 use Rattle.plan_certificate.specs.declared.state.State.{State}
 use Rattle.plan_certificate.specs.Paths.{IsLower, media_lanes, path_weight}
 use Rattle.plan_certificate.specs.KeptPaths.{is_among, is_eligible}
-use Rattle.plan_certificate.specs.Moves.{move_of, moves_at, moves_of}
+use Rattle.plan_certificate.specs.Moves.{move_of, moves_at, moves_of, LeadsOn, move_decision}
 use Rattle.plan_certificate.specs.States.{path_decision, paths_at}
 use Rattle.plan_certificate.proofs.Heaviest.{listed}
 use Rattle.plan_certificate.proofs.KeptPaths.{among_listed, eligible_allowed, listed_among}
@@ -21,7 +20,84 @@ use Rattle.plan_certificate.proofs.MoveLists.{each_begins}
 use Rattle.plan_certificate.proofs.Ranks.{first_found, ranked_from_pairs}
 use Rattle.lane_planner.specs.Tables.{chosen, gain_at, keeps_gain, move_keeps_gain}
 use Rattle.lane_planner.proofs.GainLaws.{NoneKeeps}
-use Rattle.lane_planner.proofs.KeptGains.{none_passes}
+use Rattle.std.proofs.lemmas.List.Elements.{recursion_from_All}
+
+abbrev path_of : Move → Path
+path_of move = move.path
+
+find_of_moves : (advert : Advertised) (weights : PathWeights) (kept : List Path) (table : List ℕ) (state : State) (paths : List Path) → find (keeps_gain advert weights kept table state) paths ≡ option_map path_of (find (move_keeps_gain kept table state) (moves_of advert weights kept paths))
+unfolding keeps_gain moves_of
+find_of_moves advert weights kept table state [] = refl
+find_of_moves advert weights kept table state (path ∷ paths) =
+    let rest = find_of_moves advert weights kept table state paths in
+    let unused : Bool = is_disjoint (media_lanes advert path) state.used in
+    let some : Bool = nat_lt 0 (path_weight weights path) || is_among kept path in
+    let leaves : Bool = path_weight weights path + gain_at table (path_decision advert weights state path).end == gain_at table state in
+    let later : Option Path = find (keeps_gain advert weights kept table state) paths in
+    let moves : List Move = map (move_of advert weights) (filter (is_eligible advert kept) paths) in
+    let Left : Bool → Option Path = λ b. cond (b && unused && some && leaves) (Some path) later in
+    let Right : Bool → Option Path = λ b. option_map path_of (find (move_keeps_gain kept table state) (map (move_of advert weights) (cond b (path ∷ filter (is_eligible advert kept) paths) (filter (is_eligible advert kept) paths)))) in
+    elim (cases_Bool (is_eligible advert kept path)) [
+      | inr barred ↦ ap Left barred ∙ rest ∙ ap Right (sym barred)
+      | inl can ↦
+          let One : Bool → Option Path = λ b. cond b (Some path) later in
+          let Other : Bool → Option Path = λ b. option_map path_of (cond b (Some (move_of advert weights path)) (find (move_keeps_gain kept table state) moves)) in
+          let keeps : Bool = unused && some && leaves in
+          let middle : One keeps ≡ Other keeps = elim (cases_Bool keeps) [
+            | inl is ↦ ap One is ∙ sym (ap Other is)
+            | inr not ↦ ap One not ∙ rest ∙ sym (ap Other not)
+          ] in
+          ap Left can ∙ middle ∙ ap Right (sym can)
+    ]
+
+pub chosen_of_moves : (advert : Advertised) (weights : PathWeights) (kept : List Path) (table : List ℕ) (state : State) → chosen advert weights kept table state ≡ option_map path_of (find (move_keeps_gain kept table state) (moves_at advert weights kept (state.boundary + 1)))
+unfolding chosen
+chosen_of_moves advert weights kept table state = find_of_moves advert weights kept table state (paths_at advert (state.boundary + 1))
+
+-- ---- each move is its path's
+
+abbrev IsOfPath : Advertised → PathWeights → Move → Type 0
+IsOfPath advert weights move = move ≡ move_of advert weights move.path
+
+each_of_paths : (advert : Advertised) (weights : PathWeights) (kept : List Path) (paths : List Path) → AllByRecursion (IsOfPath advert weights) (moves_of advert weights kept paths)
+unfolding moves_of
+each_of_paths advert weights kept [] = tt
+each_of_paths advert weights kept (path ∷ paths) =
+    let rest = each_of_paths advert weights kept paths in
+    let left = filter (is_eligible advert kept) paths in
+    cond_both (is_eligible advert kept path) (path ∷ left) left (λ (ps : List Path). AllByRecursion (IsOfPath advert weights) (map (move_of advert weights) ps)) (λ can. (refl, rest)) (λ barred. rest)
+
+-- the move that is found: its path is the chosen one, and leads where it leads
+pub record IsChosenMove (advert : Advertised) (weights : PathWeights) (kept : List Path) (table : List ℕ) (state : State) (move : Move) : Type 0 where
+  pub path : chosen advert weights kept table state ≡ Some move.path
+  pub end : (move_decision state move).end ≡ (path_decision advert weights state move.path).end
+
+pub chosen_move : (advert : Advertised) (weights : PathWeights) (kept : List Path) (table : List ℕ) (state : State) (moves : List Move) (move : Move) → moves ≡ moves_at advert weights kept (state.boundary + 1) → find (move_keeps_gain kept table state) moves ≡ Some move → IsChosenMove advert weights kept table state move
+chosen_move advert weights kept table state moves move same is =
+    let there = ap (find (move_keeps_gain kept table state)) (sym same) ∙ is in
+    let of_path = found (IsOfPath advert weights) (move_keeps_gain kept table state) (moves_at advert weights kept (state.boundary + 1)) move there (each_of_paths advert weights kept (paths_at advert (state.boundary + 1))) in
+    record {
+      path = chosen_of_moves advert weights kept table state ∙ ap (option_map path_of) there;
+      end = ap (λ (m : Move). (move_decision state m).end) of_path.0;
+    }
+
+pub no_chosen_move : (advert : Advertised) (weights : PathWeights) (kept : List Path) (table : List ℕ) (state : State) (moves : List Move) → moves ≡ moves_at advert weights kept (state.boundary + 1) → find (move_keeps_gain kept table state) moves ≡ None → chosen advert weights kept table state ≡ None
+no_chosen_move advert weights kept table state moves same none =
+    chosen_of_moves advert weights kept table state ∙ ap (option_map path_of) (ap (find (move_keeps_gain kept table state)) (sym same) ∙ none)
+
+pub chosen_leads_on : (boundary : ℕ) (test : Move → Bool) (moves : List Move) (move : Move) → find test moves ≡ Some move → All (LeadsOn (boundary + 1 - 1)) moves → LeadsOn boundary move
+chosen_leads_on boundary test moves move is all =
+    let same : boundary + 1 - 1 ≡ boundary = omega arith in
+    subst (λ (n : ℕ). LeadsOn n move) same (found (LeadsOn (boundary + 1 - 1)) test moves move is (recursion_from_All (LeadsOn (boundary + 1 - 1)) moves all)).0
+
+-- where none is found, each fails the test
+pub none_passes : {X : Type 0} (test : X → Bool) (xs : List X) → find test xs ≡ None → AllByRecursion (λ x. test x ≡ false) xs
+none_passes test [] is = tt
+none_passes {X} test (y ∷ xs) is =
+    elim (cases_Bool (test y)) [
+      | inl passes ↦ absurd (let one = rw passes at is in cc)
+      | inr fails ↦ (fails, none_passes test xs (rw fails at is))
+    ]
 
 pub record Keeps (advert : Advertised) (weights : PathWeights) (kept : List Path) (table : List ℕ) (state : State) (path : Path) : Type 0 where
   pub begins : path.host ≡ state.boundary + 1
@@ -34,21 +110,14 @@ pub record Keeps (advert : Advertised) (weights : PathWeights) (kept : List Path
 
 use_of_test : (advert : Advertised) (weights : PathWeights) (kept : List Path) (path : Path) → (nat_lt 0 (path_weight weights path) || is_among kept path) ≡ true → IsOfUse weights kept path
 use_of_test advert weights kept path test =
-    elim (cases_Bool (nat_lt 0 (path_weight weights path))) [
-      | inl some ↦ inl (grind (arith, nat_tests, some))
-      | inr nothing ↦ inr (listed_among kept path (ap (λ (b : Bool). b || is_among kept path) (sym nothing) ∙ test))
+    elim (or_cases _ _ test) [
+      | inl some ↦ inl (ltb-true 0 (path_weight weights path) some)
+      | inr among ↦ inr (listed_among kept path among)
     ]
 
-or_true : (b : Bool) → (b || true) ≡ true
-or_true true = refl
-or_true false = refl
-
 test_of_use : (advert : Advertised) (weights : PathWeights) (kept : List Path) (path : Path) → IsOfUse weights kept path → (nat_lt 0 (path_weight weights path) || is_among kept path) ≡ true
-test_of_use advert weights kept path (inl some) =
-    let is : nat_lt 0 (path_weight weights path) ≡ true = grind (arith, nat_tests, some) in
-    ap (λ (b : Bool). b || is_among kept path) is
-test_of_use advert weights kept path (inr held) =
-    ap (λ (b : Bool). nat_lt 0 (path_weight weights path) || b) (among_listed kept path held) ∙ or_true (nat_lt 0 (path_weight weights path))
+test_of_use advert weights kept path (inl some) = or_left _ _ (lt-ltb 0 (path_weight weights path) some)
+test_of_use advert weights kept path (inr held) = or_right _ _ (among_listed kept path held)
 
 -- ---- what keeps the gain
 

@@ -1,5 +1,6 @@
 -- Sets of lanes that share none, and their bytes.
 use Rattle.std.proofs.Common.{◌≡◌, ℕ, ◌+◌, ◌-◌, ◌^◌, ◌≤◌, ◌<◌, ◌||◌, Bool, true, false, if◌then◌else◌, refl, sym, ap, ◌∙◌, arith}
+use Rattle.std.proofs.lemmas.Bool.{or_left, or_right}
 use Rattle.std.proofs.lemmas.Bool.Decides.{nat_tests}
 use Rattle.std.specs.Cmp.{nat_cmp_total}
 use Rattle.std.specs.FinSet as set
@@ -15,13 +16,6 @@ runs_disjoint first count later others past =
     let before = sym (contains-run_of first count q) ∙ in_first in
     let after = sym (contains-run_of later others q) ∙ in_later in
     grind (arith, nat_tests, before, after))
-
-or_left : (b c : Bool) → b ≡ true → (b || c) ≡ true
-or_left b c is = ap (λ (x : Bool). x || c) is
-
-or_right : (b c : Bool) → c ≡ true → (b || c) ≡ true
-or_right true c is = refl
-or_right false c is = is
 
 -- lanes apart from a union are apart from both sets
 pub disjoint_first : (s t u : Lanes) → is_disjoint s (set.union t u) ≡ true → is_disjoint s t ≡ true

@@ -14,10 +14,7 @@ use Rattle.lane_planner.specs.FirstBest.{ComesBefore, HaveSamePaths, IsFirstBest
 -- ---- the order
 
 never_both : (path other : Path) → IsLower path other → IsLower other path → ⊥
-never_both path other (inl h) (inl k) = absurd (omega (arith, h, k))
-never_both path other (inl h) (inr k) = absurd (omega (arith, h, k.0))
-never_both path other (inr h) (inl k) = absurd (omega (arith, h.0, k))
-never_both path other (inr h) (inr k) = absurd (omega (arith, h.1, k.1))
+never_both path other low high = omega arith
 
 -- nothing is lower than itself, so a path that leads is not in the other plan
 not_in_other : (paths others : List Path) (ahead : ComesBefore paths others) → Contains others ahead.path → ⊥

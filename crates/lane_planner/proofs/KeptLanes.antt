@@ -1,10 +1,11 @@
 -- Lanes of kept paths: none of these stays free, and no other path takes them.
 use Rattle.std.proofs.Common.{◌≡◌, ℕ, ◌+◌, ◌<◌, ◌≤◌, ◌⊎◌, ◌&&◌, ◌||◌, Bool, true, false, not, List, [], ◌∷◌, refl, sym, ap, ◌∙◌, inl, inr, arith}
-use Rattle.std.specs.List.{AllByRecursion, Contains, list_all}
+use Rattle.std.specs.List.{Contains, list_all}
 use Rattle.std.specs.FinSet as set
-use Rattle.std.proofs.lemmas.Bool.{and_parts, cases_Bool}
+use Rattle.std.proofs.lemmas.Bool.{and_parts, cases_Bool, or_cases}
 use Rattle.std.proofs.lemmas.Bool.Decides.{nat_tests}
-use Rattle.std.proofs.lemmas.List.Elements.{All-contains, All-from_recursion, Contains-append_right}
+use Rattle.std.proofs.lemmas.List.Elements.{All-contains, Contains-append_right}
+use Rattle.std.proofs.lemmas.List.Sums.{AllPass-from_list_all}
 use Rattle.field_tables.specs.LaneBytes.{contains-run_of}
 use Rattle.applications.specs.Advertised.{Advertised}
 use Rattle.plan_certificate.specs.declared.path.Path.{Path}
@@ -15,12 +16,8 @@ use Rattle.plan_certificate.proofs.KeptPaths.{listed_among, same_or_apart}
 use Rattle.plan_certificate.proofs.LaneRuns.{apart_at}
 use Rattle.plan_certificate.proofs.PathTakenOut.{IsApart, apart_back}
 
-each_passes : {X : Type 0} (test : X → Bool) (xs : List X) → list_all test xs ≡ true → AllByRecursion (λ x. test x ≡ true) xs
-each_passes test [] all = tt
-each_passes test (x ∷ xs) all = let parts = and_parts _ _ all in (parts.0, each_passes test xs parts.1)
-
 passes : {X : Type 0} (test : X → Bool) (xs : List X) (x : X) → list_all test xs ≡ true → Contains xs x → test x ≡ true
-passes test xs x all held = All-contains (λ y. test y ≡ true) xs x (All-from_recursion (λ y. test y ≡ true) xs (each_passes test xs all)) held
+passes test xs x all held = All-contains (λ y. test y ≡ true) xs x (AllPass-from_list_all test xs all) held
 
 -- ---- the lanes of a path
 
@@ -76,9 +73,9 @@ apart_if_not_kept advert kept path can not_kept =
 -- an eligible path is a kept one, or apart from each
 pub kept_or_apart : (advert : Advertised) (kept : List Path) (path other : Path) → is_eligible advert kept path ≡ true → Contains kept other → Contains kept path ⊎ IsApart advert other path
 kept_or_apart advert kept path other can held =
-    elim (cases_Bool (is_among kept path)) [
+    elim (or_cases _ _ (and_parts _ _ can).0) [
       | inl among ↦ inl (listed_among kept path among)
-      | inr not_kept ↦ inr (passes (λ (p : Path). are_apart advert p path) kept other (apart_if_not_kept advert kept path can not_kept) held)
+      | inr apart ↦ inr (passes (λ (p : Path). are_apart advert p path) kept other apart held)
     ]
 
 -- one that takes a kept path's lane is kept

@@ -1,10 +1,9 @@
 -- Marking states from the start on: what is marked is what decisions from the start reach.
-use Rattle.std.proofs.Common.{◌≡◌, ℕ, ◌+◌, ◌<◌, ◌≤◌, Bool, true, false, List, [], ◌∷◌, ◌++◌, length, get_or, refl, sym, subst, ap, ◌∙◌, inl, inr, arith}
+use Rattle.std.proofs.Common.{◌≡◌, ℕ, ◌+◌, ◌<◌, ◌≤◌, Bool, true, false, List, [], ◌∷◌, ◌++◌, length, get_or, refl, sym, subst, ap, ◌∙◌, inl, inr, arith, get_or-set_same, get_or-set_other, zero, suc, replicate, set}
 use Rattle.std.specs.List.{Contains}
-use Rattle.std.proofs.Common.{get_or-set_same, get_or-set_other}
-use Rattle.std.proofs.Math.ListN.{set, length-set}
-use Rattle.std.proofs.lemmas.Bool.{cases_eq, cases_lt}
-use Rattle.std.proofs.lemmas.List.Elements.{Contains-append_left, Contains-push, Contains-push_cases}
+use Rattle.std.proofs.Math.ListN.{length-set, length-replicate}
+use Rattle.std.proofs.lemmas.Bool.{both_ways, cases_eq, cases_lt}
+use Rattle.std.proofs.lemmas.List.Elements.{Contains-append_left, Contains-push, Contains-push_cases, All-contains, All-from_recursion}
 use Rattle.plan_certificate.specs.declared.path.Path.{Path}
 use Rattle.applications.specs.Advertised.{Advertised}
 use Rattle.applications.specs.AppWeights.{PathWeights}
@@ -13,10 +12,15 @@ use Rattle.plan_certificate.specs.declared.state.Decision.{Decision}
 use Rattle.plan_certificate.specs.States.{start, state_at, state_place, decisions_from}
 use Rattle.plan_certificate.specs.ReachedStates.{IsReached, Leads}
 use Rattle.plan_certificate.proofs.ByteLanes.{IsByte, start_is_byte}
-use Rattle.lane_planner.specs.Marks.{AreMarks, IsMarked, MarksEnds}
-use Rattle.lane_planner.proofs.DecisionEnds.{at_is_byte, ends_later, place_past}
-use Rattle.lane_planner.proofs.Places.{place_below, start_place, state_of_place}
+use Rattle.lane_planner.specs.Marks.{AreMarks, IsMarked, MarksEnds, MarksReached}
+use Rattle.lane_planner.proofs.DecisionKinds.{at_is_byte, ends_later, place_past, decision_is}
+use Rattle.lane_planner.proofs.MadeLists.{get_of_same}
+use Rattle.lane_planner.proofs.Places.{place_below, start_place, state_of_place, place_of_state_at}
 use Rattle.lane_planner.proofs.ReachedStates.{reached_on}
+use Rattle.plan_certificate.specs.declared.moves.Move.{Move}
+use Rattle.plan_certificate.specs.Moves.{AreHeaviest, decisions_by}
+use Rattle.plan_certificate.proofs.HeaviestMoves.{each_among, each_outweighed}
+use Rattle.plan_certificate.proofs.Lists.{each_contained, map_each}
 
 -- ---- the ends of one state's decisions
 
@@ -52,12 +56,9 @@ none_marked marks = record {
   only = λ other marked. inl marked;
 }
 
-pub unmarked : (marks : List Bool) (place : ℕ) → get_or marks place false ≡ false → IsMarked marks place → ⊥
-unmarked marks place none marked = let wrong : true ≡ false = sym marked ∙ none in cc
-
 -- further on, up to where no state is marked
-pub marks_past : (advert : Advertised) (weights : PathWeights) (kept : List Path) (place end : ℕ) (marks : List Bool) → AreMarks advert weights kept place marks → ((other : ℕ) → place ≤ other → other < end → IsMarked marks other → ⊥) → AreMarks advert weights kept end marks
-marks_past advert weights kept place end marks are not = record {
+pub marks_past : {advert : Advertised} {weights : PathWeights} {kept : List Path} {marks : List Bool} (place end : ℕ) → AreMarks advert weights kept place marks → ((other : ℕ) → place ≤ other → other < end → IsMarked marks other → ⊥) → AreMarks advert weights kept end marks
+marks_past place end are not = record {
   all = are.all;
   begun = are.begun;
   sound = are.sound;
@@ -69,8 +70,8 @@ marks_past advert weights kept place end marks are not = record {
 }
 
 -- and where it is, and the ends of its decisions have been marked
-pub marks_more : (advert : Advertised) (weights : PathWeights) (kept : List Path) (place : ℕ) (marks more : List Bool) → AreMarks advert weights kept place marks → place < 2304 → IsMarked marks place → MarksEnds (decisions_from advert weights kept (state_at place)) marks more → AreMarks advert weights kept (place + 1) more
-marks_more advert weights kept place marks more are below marked new =
+pub marks_more : {advert : Advertised} {weights : PathWeights} {kept : List Path} {marks more : List Bool} (place : ℕ) → AreMarks advert weights kept place marks → place < 2304 → IsMarked marks place → MarksEnds (decisions_from advert weights kept (state_at place)) marks more → AreMarks advert weights kept (place + 1) more
+marks_more {advert} {weights} {kept} {marks} {more} place are below marked new =
     let late : (decision : Decision) → Contains (decisions_from advert weights kept (state_at place)) decision → place + 1 ≤ state_place decision.end = (λ decision contains.
     place_past place decision.end (ends_later advert weights kept (state_at place) decision (at_is_byte place) contains).past) in
     record {
@@ -104,3 +105,55 @@ reached_from advert weights kept marks are (decision ∷ decisions) from state i
 pub all_marked : (advert : Advertised) (weights : PathWeights) (kept : List Path) (marks : List Bool) (state : State) → AreMarks advert weights kept 2304 marks → IsReached advert weights kept state → IsMarked marks (state_place state)
 all_marked advert weights kept marks state are is =
     reached_from advert weights kept marks are is.0 start state start_is_byte (omega arith) (subst (IsMarked marks) (sym start_place) are.begun) is.1
+
+start_reached : (advert : Advertised) (weights : PathWeights) (kept : List Path) → IsReached advert weights kept (state_at 0)
+start_reached advert weights kept = ([], sym (ap state_at (sym start_place) ∙ state_of_place start start_is_byte))
+
+pub marks_begun : {advert : Advertised} {weights : PathWeights} {kept : List Path} (n : ℕ) → n ≡ 2304 → AreMarks advert weights kept 0 (set (replicate n false) 0 true)
+marks_begun {advert} {weights} {kept} n is = record {
+  all = length-set (replicate n false) 0 true ∙ length-replicate n false ∙ is;
+  begun = get_or-set_same (replicate n false) 0 true false (omega (arith, length-replicate n false, is));
+  sound = λ place within marked. elim (cases_eq place 0) [
+    | inl same ↦ subst (λ (k : ℕ). IsReached advert weights kept (state_at k)) (sym same) (start_reached advert weights kept)
+    | inr other ↦ absurd (both_ways (get_or (set (replicate n false) 0 true) place false) (get_or-set_other (replicate n false) 0 place true false other ∙ get_of_same n place false) marked)
+  ];
+  closed = λ place low. absurd (omega (arith, low));
+}
+
+marks_closed : (advert : Advertised) (weights : PathWeights) (kept : List Path) (marks : List Bool) → AreMarks advert weights kept 2048 marks → AreMarks advert weights kept 2304 marks
+marks_closed advert weights kept marks are = record {
+  all = are.all;
+  begun = are.begun;
+  sound = are.sound;
+  closed = λ place low marked decision contains. elim (cases_lt place 2048) [
+    | inl before ↦ are.closed place before marked decision contains
+    | inr past ↦ absurd (omega (arith, past, (decision_is advert weights kept (state_at place) decision contains).below))
+  ];
+}
+
+-- so exactly the reached states are marked
+pub marks_ended : {advert : Advertised} {weights : PathWeights} {kept : List Path} {marks : List Bool} → AreMarks advert weights kept 2048 marks → MarksReached advert weights kept marks
+marks_ended {advert} {weights} {kept} {marks} are = record {
+  all = are.all;
+  reached = λ place below. (
+    (λ marked. are.sound place below marked),
+    (λ is. subst (IsMarked marks) (place_of_state_at place) (all_marked advert weights kept marks (state_at place) (marks_closed advert weights kept marks are) is)),
+  );
+}
+
+-- where the decisions of the heaviest moves are marked, those of all are
+pub ends_of_heaviest : {all heaviest : List Move} {marks more : List Bool} (free : Bool) (state : State) → AreHeaviest all heaviest → MarksEnds (decisions_by free state heaviest) marks more → MarksEnds (decisions_by free state all) marks more
+ends_of_heaviest {all} {heaviest} {marks} {more} free state are new =
+    let End : Decision → Type 0 = λ decision. IsMarked more (state_place decision.end) in
+    let of_heaviest = map_each (Contains (decisions_by free state heaviest)) End (decisions_by free state heaviest) (λ decision listed. new.ends decision listed) (each_contained (decisions_by free state heaviest)) in
+    let of_all = All-from_recursion End (decisions_by free state all) (each_outweighed free state End all heaviest (λ decision weight light marked. marked) are of_heaviest) in
+    let among = All-from_recursion (Contains (decisions_by free state all)) (decisions_by free state heaviest) (each_among free state (Contains (decisions_by free state all)) all heaviest are (each_contained (decisions_by free state all))) in
+    record {
+      all = new.all;
+      ends = λ decision listed. All-contains End (decisions_by free state all) decision of_all listed;
+      kept = new.kept;
+      only = λ place marked. elim (new.only place marked) [
+        | inl before ↦ inl before
+        | inr ends ↦ inr (ends.0, All-contains (Contains (decisions_by free state all)) (decisions_by free state heaviest) ends.0 among ends.1, ends.2)
+      ];
+    }

@@ -1,5 +1,5 @@
 -- Pieces that are put into a buffer, one after another.
-use Rattle.std.proofs.Common.{◌≡◌, ℕ, ◌+◌, ◌-◌, ◌<◌, ◌≤◌, Bool, cond, List, [], ◌++◌, length, take, drop, refl, sym, ap, ◌∙◌, append_assoc, arith, le-ltb, lt-ltb}
+use Rattle.std.proofs.Common.{◌≡◌, ℕ, ◌+◌, ◌-◌, ◌<◌, ◌≤◌, Bool, cond, List, [], ◌++◌, length, take, drop, refl, sym, ap, ◌∙◌, append_assoc, arith, le-ltb}
 use Rattle.std.proofs.lemmas.List.{length-append, length-take-le, take-append-drop}
 use Rattle.std.proofs.lemmas.Slice.{drop-append-drop}
 use Rattle.std.proofs.Math.Seq.{take-append-add, take-append_seam}
@@ -43,15 +43,6 @@ both_put piece other before middle after n m k first second =
     }
 
 -- ---- a text in a buffer
-
-pub fits_in : (text before after : List ℕ) (upto : ℕ) → Puts text before 0 after upto → length text ≤ length before → after ≡ buffer_with before text
-fits_in text before after upto puts fits =
-    let counted : 0 + length text ≡ length text = omega arith in
-    let same : after ≡ text ++ drop (length text) before = puts.put (omega (arith, fits)) ∙ ap (λ (n : ℕ). text ++ drop n before) counted in
-    same ∙ ap (λ (b : Bool). cond b before (text ++ drop (length text) before)) (sym (le-ltb (length before) (length text) fits))
-
-pub stays : (text before : List ℕ) → length before < length text → before ≡ buffer_with before text
-stays text before short = ap (λ (b : Bool). cond b before (text ++ drop (length text) before)) (sym (lt-ltb (length before) (length text) short))
 
 -- what is left of a buffer, and of what lies after it, that is cut off after the text
 pub cut_off : (text before after rest : List ℕ) (len room : ℕ) → after ≡ buffer_with before text → len ≡ length text → len ≤ length before → len ≤ room → take len (take room (after ++ rest)) ≡ text

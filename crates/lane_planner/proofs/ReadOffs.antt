@@ -16,7 +16,7 @@ use Rattle.plan_certificate.proofs.Heaviest.{allowed, each_decision}
 use Rattle.lane_planner.specs.Tables.{HasGains, IsPlanOf, IsReadOff, IsTable, chosen, gain_at}
 use Rattle.lane_planner.proofs.ChosenPaths.{IsLowest, chosen_keeps, none_keeps}
 use Rattle.lane_planner.proofs.FirstPlans.{AgreesOrLater, IsBefore, KnowsGains, agrees_at_end, agrees_at_start, agrees_free, agrees_path, still_before}
-use Rattle.lane_planner.proofs.DecisionEnds.{ends_later}
+use Rattle.lane_planner.proofs.DecisionKinds.{ends_later}
 use Rattle.lane_planner.proofs.GainLaws.{GainsAfter, free_keeps}
 use Rattle.lane_planner.proofs.ReachedStates.{reached_on, start_reached}
 use Rattle.lane_planner.proofs.TableGains.{gain_in, small_in}

@@ -6,15 +6,12 @@ use Rattle.plan_certificate.specs.declared.state.Decision.{Decision}
 use Rattle.plan_certificate.specs.Paths.{IsLower}
 use Rattle.plan_certificate.specs.States.{start}
 use Rattle.lane_planner.specs.Tables.{move_keeps_gain}
-use Rattle.lane_planner.proofs.ChosenPaths.{chosen_is_lowest}
-use Rattle.lane_planner.proofs.KeptGains.{chosen_leads_on, chosen_move, no_chosen_move}
+use Rattle.lane_planner.proofs.ChosenPaths.{chosen_is_lowest, chosen_leads_on, chosen_move, no_chosen_move}
 use Rattle.lane_planner.proofs.ReadOffs.{IsSoFar, begun, free_more, path_more, read_off}
 use Rattle.lane_planner.proofs.choices.read_off.Goals as goal
 
 pub loop-state-init : goal.loop-state-init
-loop-state-init c =
-    let So : State → List Path → Type 0 = IsSoFar c.args.advert.now c.args.weights.now c.args.kept.now c.args.table.now in
-    subst (λ (state : State). So state c.new-paths.result.items) (sym c.start-state.ensures) (subst (So start) (sym c.new-paths.ensures) (begun c.args.advert.now c.args.weights.now c.args.kept.now c.args.table.now c.requires.kept))
+loop-state-init c = rw (c.start-state.ensures, c.new-paths.ensures) (begun c.args.advert.now c.args.weights.now c.args.kept.now c.args.table.now c.requires.kept)
 
 pub decision-state-requires : goal.decision-state-requires
 decision-state-requires c =
@@ -38,28 +35,19 @@ loop-state-preserved-in-Some c =
     let kept = c.args.kept.now in
     let table = c.args.table.now in
     let state : State = c.loop-state.state in
-    let So : State → List Path → Type 0 = IsSoFar advert weights kept table in
-    let paths : List Path = c.loop-state.paths.items ++ c.in-Some.one.path ∷ [] in
     let listed = c.as_slice.ensures.value ∙ c.put_moves.ensures.moves in
     let found = sym c.chosen.ensures ∙ c.in-Some.is in
     let chosen = chosen_move advert weights kept table state c.as_slice.result.now c.in-Some.one listed found in
-    let rising : AllPairs (λ one later. IsLower one.path later.path) c.as_slice.result.now = subst (AllPairs (λ one later. IsLower one.path later.path)) (sym c.as_slice.ensures.value) c.put_moves.ensures.rising in
-    let lowest = chosen_is_lowest advert weights kept table state c.as_slice.result.now c.in-Some.one listed rising found in
+    let lowest = chosen_is_lowest advert weights kept table state c.as_slice.result.now c.in-Some.one listed (rw c.as_slice.ensures.value c.put_moves.ensures.rising) found in
     let more = path_more advert weights kept table state c.loop-state.paths.items c.in-Some.one.path c.requires.kept c.requires.gains c.loop-state.invariant c.loop-state-test.true chosen.path lowest in
-    let end : c.decision-state.result.end ≡ _ = ap (λ (s : Decision). s.end) c.decision-state.ensures ∙ chosen.end in
-    subst (So c.decision-state.result.end) (sym c.push.ensures.items) (subst (λ (s : State). So s paths) (sym end) more)
+    rw (c.push.ensures.items, ap (λ (s : Decision). s.end) c.decision-state.ensures ∙ chosen.end) more
 
 pub loop-state-preserved : goal.loop-state-preserved
 loop-state-preserved c =
-    let advert = c.args.advert.now in
-    let weights = c.args.weights.now in
-    let kept = c.args.kept.now in
-    let table = c.args.table.now in
     let state : State = c.loop-state.state in
-    let listed = c.as_slice.ensures.value ∙ c.put_moves.ensures.moves in
-    let none = no_chosen_move advert weights kept table state c.as_slice.result.now listed (sym c.chosen.ensures ∙ c.in-None.is) in
-    let more = free_more advert weights kept table state c.loop-state.paths.items c.requires.gains c.loop-state.invariant c.loop-state-test.true none in
-    subst (λ (s : State). IsSoFar advert weights kept table s c.loop-state.paths.items) (ap (λ (s : Decision). s.end) (sym c.free_decision-state.ensures)) more
+    let none = no_chosen_move c.args.advert.now c.args.weights.now c.args.kept.now c.args.table.now state c.as_slice.result.now (c.as_slice.ensures.value ∙ c.put_moves.ensures.moves) (sym c.chosen.ensures ∙ c.in-None.is) in
+    let more = free_more c.args.advert.now c.args.weights.now c.args.kept.now c.args.table.now state c.loop-state.paths.items c.requires.gains c.loop-state.invariant c.loop-state-test.true none in
+    rw (ap (λ (s : Decision). s.end) c.free_decision-state.ensures) more
 
 pub returns : goal.returns
 returns c = read_off c.args.advert.now c.args.weights.now c.args.kept.now c.args.table.now c.loop-state.state c.loop-state.paths.items c.requires.gains c.loop-state.invariant c.loop-state-test.false

@@ -8,14 +8,13 @@ use Rattle.plan_certificate.specs.Moves.{LeadsOn, moves_at, decisions_by}
 use Rattle.plan_certificate.proofs.HeaviestMoves.{heaviest_lead_on}
 use Rattle.plan_certificate.proofs.MoveDecisions.{listed_are_decisions}
 use Rattle.lane_planner.specs.Marks.{AreMarks, MarksEnds}
-use Rattle.lane_planner.proofs.Marking.{marks_more, marks_past}
-use Rattle.lane_planner.proofs.MarkingEnds.{ends_of_heaviest, marks_ended, marks_of_blank}
+use Rattle.lane_planner.proofs.Marking.{ends_of_heaviest, marks_begun, marks_ended, marks_more, marks_past}
 use Rattle.lane_planner.proofs.reached.reached.Goals as goal
 
 pub loop-boundary-init : goal.loop-boundary-init
 loop-boundary-init c =
     let Marks : List Bool → Type 0 = AreMarks c.args.advert.now c.args.weights.now c.args.kept.now 0 in
-    subst Marks (sym c.mark.ensures) (subst (λ (blank : List Bool). Marks (set blank 0 true)) (sym c.requires.blank) (marks_of_blank c.args.advert.now c.args.weights.now c.args.kept.now 2304 refl))
+    subst Marks (sym c.mark.ensures) (subst (λ (blank : List Bool). Marks (set blank 0 true)) (sym c.requires.blank) (marks_begun 2304 refl))
 
 pub mark_ends-requires-clause-lead_on : goal.mark_ends-requires-clause-lead_on
 mark_ends-requires-clause-lead_on c =
@@ -27,48 +26,37 @@ mark_ends-requires-clause-lead_on c =
 
 pub loop-place-init : goal.loop-place-init
 loop-place-init c =
-    let advert = c.args.advert.now in
-    let weights = c.args.weights.now in
-    let kept = c.args.kept.now in
-    let boundary : ℕ = c.loop-boundary.boundary in
     let found = c.first-place.ensures in
-    let read : 256 * c.from-from.result ≡ 256 * boundary = omega (arith, c.from-from.ensures) in
     record {
-      so_far = marks_past advert weights kept (256 * boundary) c.first-place.result c.loop-boundary.marks c.loop-boundary.invariant (λ other past low. found.none other (omega (arith, past, read)) low);
-      from = omega (arith, found.after, read);
-      within = omega (arith, found.within, read);
-      marked = λ low. found.marked (omega (arith, low, read));
+      so_far = marks_past (256 * c.loop-boundary.boundary) c.first-place.result c.loop-boundary.invariant (λ other past low. found.none other (omega (arith, past, c.from-from.ensures)) low);
+      from = omega (arith, found.after, c.from-from.ensures);
+      within = omega (arith, found.within, c.from-from.ensures);
+      marked = λ low. found.marked (omega (arith, low, c.from-from.ensures));
     }
 
 pub loop-place-preserved : goal.loop-place-preserved
 loop-place-preserved c =
-    let advert = c.args.advert.now in
-    let weights = c.args.weights.now in
-    let kept = c.args.kept.now in
     let boundary : ℕ = c.loop-boundary.boundary in
     let place : ℕ = c.loop-place.place in
     let so_far = c.loop-place.invariant in
-    let read : 256 * c.from-from.result ≡ 256 * boundary = omega (arith, c.from-from.ensures) in
     let before = c.loop-place.marks in
     let after = c.mark_ends.new.marks in
     let state : State = state_at place in
-    let all = (moves_at advert weights kept (boundary + 1)) in
     let are = c.list.ensures in
-    let low : state.boundary ≡ boundary = omega (arith, c.loop-place-test.true, so_far.from, read) in
+    let low : state.boundary ≡ boundary = omega (arith, c.loop-place-test.true, so_far.from, c.from-from.ensures) in
     let free : Bool = c.list.new.self.may_stay_free in
-    let decisions = listed_are_decisions advert weights kept state boundary free all c.list.new.self.moves.items low c.loop-boundary-test.true are in
+    let decisions = listed_are_decisions c.args.advert.now c.args.weights.now c.args.kept.now state boundary free (moves_at c.args.advert.now c.args.weights.now c.args.kept.now (boundary + 1)) c.list.new.self.moves.items low c.loop-boundary-test.true are in
     let at_state = subst (λ (s : State). MarksEnds (decisions_by free s c.as_slice.result.now) before after) c.at-state.ensures c.mark_ends.ensures in
     let of_heaviest = subst (λ (moves : List Move). MarksEnds (decisions_by free state moves) before after) c.as_slice.ensures.value at_state in
-    let new = subst (λ (ss : List Decision). MarksEnds ss before after) decisions (ends_of_heaviest free state all c.list.new.self.moves.items before after are.heavy of_heaviest) in
-    let below : place < 2304 = omega (arith, c.loop-boundary-test.true, c.loop-place-test.true, read) in
-    let marked = so_far.marked (omega (arith, c.loop-place-test.true, read)) in
-    let more = marks_more advert weights kept place before after so_far.so_far below marked new in
+    let new = subst (λ (ss : List Decision). MarksEnds ss before after) decisions (ends_of_heaviest free state are.heavy of_heaviest) in
+    let below : place < 2304 = omega (arith, c.loop-boundary-test.true, c.loop-place-test.true, c.from-from.ensures) in
+    let more = marks_more place so_far.so_far below (so_far.marked (omega (arith, c.loop-place-test.true, c.from-from.ensures))) new in
     let found = c.first-place-in-loop-place.ensures in
     record {
-      so_far = marks_past advert weights kept (place + 1) c.first-place-in-loop-place.result after more found.none;
+      so_far = marks_past (place + 1) c.first-place-in-loop-place.result more found.none;
       from = omega (arith, found.after, so_far.from);
-      within = omega (arith, found.within, read);
-      marked = λ inside. found.marked (omega (arith, inside, read));
+      within = omega (arith, found.within, c.from-from.ensures);
+      marked = λ inside. found.marked (omega (arith, inside, c.from-from.ensures));
     }
 
 pub loop-place-smaller : goal.loop-place-smaller
@@ -77,9 +65,9 @@ loop-place-smaller c = omega (arith, c.first-place-in-loop-place.ensures.after, 
 pub loop-boundary-preserved : goal.loop-boundary-preserved
 loop-boundary-preserved c =
     let ended : c.loop-place.place ≡ 256 * (c.loop-boundary.boundary + 1) = omega (arith, c.loop-place.invariant.within, c.loop-place-test.false, c.from-from.ensures) in
-    subst (λ (n : ℕ). AreMarks c.args.advert.now c.args.weights.now c.args.kept.now n c.loop-place.marks) ended c.loop-place.invariant.so_far
+    rw ended at c.loop-place.invariant.so_far
 
 pub returns : goal.returns
 returns c =
     let ended : 256 * c.loop-boundary.boundary ≡ 2048 = omega (arith, c.loop-boundary-test.false, c.loop-boundary.auto.boundary-end) in
-    marks_ended c.args.advert.now c.args.weights.now c.args.kept.now c.loop-boundary.marks (subst (λ (n : ℕ). AreMarks c.args.advert.now c.args.weights.now c.args.kept.now n c.loop-boundary.marks) ended c.loop-boundary.invariant)
+    marks_ended (rw ended at c.loop-boundary.invariant)

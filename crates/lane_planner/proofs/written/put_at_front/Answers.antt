@@ -7,7 +7,7 @@ use Rattle.plan_certificate.proofs.WrittenCertificates.{is_readable, whole_text,
 use Rattle.lane_planner.specs.Buffers.{Puts}
 use Rattle.lane_planner.specs.CertifiedPlans.{claim_of}
 use Rattle.lane_planner.specs.Tables.{AreEntries, marked_entries}
-use Rattle.lane_planner.proofs.MarkedEntries.{are_marked}
+use Rattle.lane_planner.proofs.ReachedEntries.{are_marked}
 use Rattle.lane_planner.proofs.PutPieces.{both_put}
 use Rattle.lane_planner.proofs.written.put_at_front.Goals as goal
 

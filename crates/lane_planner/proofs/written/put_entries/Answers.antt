@@ -1,4 +1,4 @@
-use Rattle.std.proofs.Common.{◌≡◌, ◌+◌, ◌++◌, ◌∷◌, [], ℕ, List, map, refl, sym, subst, ap, ◌∙◌, arith}
+use Rattle.std.proofs.Common.{◌≡◌, ◌+◌, ◌++◌, ◌∷◌, [], ℕ, List, map, refl, sym, subst, ap, ◌∙◌, arith, true}
 use Rattle.std.specs.List.{AllByRecursion}
 use Rattle.text_lines.specs.Lines.{text_of}
 use Rattle.plan_certificate.specs.declared.certificate.Entry.{Entry}
@@ -8,7 +8,7 @@ use Rattle.plan_certificate.proofs.Lists.{all_of_append}
 use Rattle.plan_certificate.proofs.WrittenCertificates.{entry_text}
 use Rattle.lane_planner.specs.Buffers.{Puts}
 use Rattle.lane_planner.specs.Tables.{marked_entries}
-use Rattle.lane_planner.proofs.MarkedEntries.{none_between, none_marked, one_marked}
+use Rattle.lane_planner.proofs.ReachedEntries.{entries_more, none_between, none_marked}
 use Rattle.lane_planner.proofs.PutPieces.{both_put, nothing_put}
 use Rattle.lane_planner.proofs.written.put_entries.Goals as goal
 
@@ -17,16 +17,11 @@ lines_of_entries entries = text_of (map line_text (map StateLine entries))
 
 pub loop-place-init : goal.loop-place-init
 loop-place-init c =
-    let marks = c.args.marks.now in
-    let table = c.args.table.now in
-    let place : ℕ = c.first-place.result in
     let found = c.first-place.ensures in
-    let none : marked_entries marks table place ≡ [] = none_between marks table 0 place found.after found.none ∙ none_marked marks table in
-    let before = c.args.buffer.now in
-    let from : ℕ = c.args.len.now in
+    let none : marked_entries c.args.marks.now c.args.table.now c.first-place.result ≡ [] = none_between _ _ 0 c.first-place.result found.after found.none ∙ none_marked _ _ in
     record {
-      put = subst (λ (entries : List Entry). Puts (lines_of_entries entries) before from before from) (sym none) (nothing_put before from);
-      each = subst (AllByRecursion IsEntryInRange) (sym none) tt;
+      put = rw none (nothing_put c.args.buffer.now c.args.len.now);
+      each = rw none tt;
       small = omega arith;
       within = found.within;
       marked = found.marked;
@@ -34,27 +29,18 @@ loop-place-init c =
 
 pub loop-place-preserved : goal.loop-place-preserved
 loop-place-preserved c =
-    let marks = c.args.marks.now in
-    let table = c.args.table.now in
     let place : ℕ = c.loop-place.place in
-    let next : ℕ = c.first-place-in-loop-place.result in
     let found = c.first-place-in-loop-place.ensures in
-    let before = c.args.buffer.now in
-    let from : ℕ = c.args.len.now in
-    let so_far = marked_entries marks table place in
-    let written : List ℕ = lines_of_entries so_far in
-    let all = marked_entries marks table next in
-    let entry : Entry = c.entry_at.result in
-    let piece = c.as_slice.result.now in
-    let marked = one_marked marks table place (c.loop-place.invariant.marked c.loop-place-test.true) in
-    let more : so_far ++ entry ∷ [] ≡ all = ap (λ (e : Entry). so_far ++ e ∷ []) c.entry_at.ensures.entry ∙ sym (none_between marks table (place + 1) next found.after found.none ∙ marked) in
+    let so_far = marked_entries c.args.marks.now c.args.table.now place in
+    let marked = entries_more c.args.marks.now c.args.table.now place true (c.loop-place.invariant.marked c.loop-place-test.true) in
+    let more = ap (λ (e : Entry). so_far ++ e ∷ []) c.entry_at.ensures.entry ∙ sym (none_between c.args.marks.now c.args.table.now (place + 1) c.first-place-in-loop-place.result found.after found.none ∙ marked) in
     let line = c.as_slice.ensures.value ∙ c.entry_line-line.ensures.written in
-    let text : written ++ piece ≡ lines_of_entries all =
-    entry_text [] written (written ++ piece) so_far entry refl (ap (λ (l : List ℕ). written ++ l) line) ∙ ap lines_of_entries more in
-    let both = both_put written piece before c.loop-place.buffer c.put.new.buffer from c.loop-place.len c.put.new.len c.loop-place.invariant.put c.put.ensures in
+    let written : List ℕ = lines_of_entries so_far in
+    let text = entry_text [] written (written ++ c.as_slice.result.now) so_far c.entry_at.result refl (ap (λ (l : List ℕ). written ++ l) line) ∙ ap lines_of_entries more in
+    let both = both_put written c.as_slice.result.now c.args.buffer.now c.loop-place.buffer c.put.new.buffer c.args.len.now c.loop-place.len c.put.new.len c.loop-place.invariant.put c.put.ensures in
     record {
-      put = subst (λ (t : List ℕ). Puts t before from c.put.new.buffer c.put.new.len) text both;
-      each = subst (AllByRecursion IsEntryInRange) more (all_of_append IsEntryInRange so_far (entry ∷ []) c.loop-place.invariant.each (c.entry_line-line.ensures.fits, tt));
+      put = subst (λ (t : List ℕ). Puts t c.args.buffer.now c.args.len.now c.put.new.buffer c.put.new.len) text both;
+      each = subst (AllByRecursion IsEntryInRange) more (all_of_append IsEntryInRange so_far (c.entry_at.result ∷ []) c.loop-place.invariant.each (c.entry_line-line.ensures.fits, tt));
       small = omega (arith, c.put.ensures.counted, c.as_slice.ensures.fits, c.loop-place.invariant.small, found.after);
       within = found.within;
       marked = found.marked;
@@ -64,14 +50,10 @@ pub loop-place-smaller : goal.loop-place-smaller
 loop-place-smaller c = omega (arith, c.first-place-in-loop-place.ensures.after, c.loop-place-test.true)
 
 pub returns-clause-put : goal.returns-clause-put
-returns-clause-put c =
-    let ended : c.loop-place.place ≡ 2304 = omega (arith, c.loop-place.invariant.within, c.loop-place-test.false) in
-    subst (λ (n : ℕ). Puts (lines_of_entries (marked_entries c.args.marks.now c.args.table.now n)) c.args.buffer.now c.args.len.now c.loop-place.buffer c.loop-place.len) ended c.loop-place.invariant.put
+returns-clause-put c = let ended : c.loop-place.place ≡ 2304 = omega (arith, c.loop-place.invariant.within, c.loop-place-test.false) in rw ended at c.loop-place.invariant.put
 
 pub returns-clause-each : goal.returns-clause-each
-returns-clause-each c =
-    let ended : c.loop-place.place ≡ 2304 = omega (arith, c.loop-place.invariant.within, c.loop-place-test.false) in
-    subst (λ (n : ℕ). AllByRecursion IsEntryInRange (marked_entries c.args.marks.now c.args.table.now n)) ended c.loop-place.invariant.each
+returns-clause-each c = let ended : c.loop-place.place ≡ 2304 = omega (arith, c.loop-place.invariant.within, c.loop-place-test.false) in rw ended at c.loop-place.invariant.each
 
 pub returns-clause-small : goal.returns-clause-small
 returns-clause-small c = omega (arith, c.loop-place.invariant.small, c.loop-place.invariant.within)

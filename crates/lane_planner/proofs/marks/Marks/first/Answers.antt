@@ -1,7 +1,6 @@
 use Rattle.std.proofs.Common.{ℕ, sym, subst, ◌∙◌, inl, inr, arith}
-use Rattle.std.proofs.lemmas.Bool.{cases_eq, cases_lt}
+use Rattle.std.proofs.lemmas.Bool.{both_ways, cases_eq, cases_lt}
 use Rattle.lane_planner.specs.Marks.{IsMarked}
-use Rattle.lane_planner.proofs.Marking.{unmarked}
 use Rattle.lane_planner.proofs.marks.Marks.first.Goals as goal
 
 pub loop-place-init : goal.loop-place-init
@@ -22,7 +21,7 @@ loop-place-preserved c =
       none = λ other past low marked. elim (cases_lt other place) [
         | inl early ↦ before.none other past early marked
         | inr late ↦ elim (cases_eq other place) [
-          | inl same ↦ unmarked marks place (sym c.has.ensures ∙ c.if-has.false) (subst (IsMarked marks) same marked)
+          | inl same ↦ both_ways _ (sym c.has.ensures ∙ c.if-has.false) (subst (IsMarked marks) same marked)
           | inr differs ↦ c.next.ensures.none other (omega (arith, late, differs)) (omega (arith, low)) marked
         ]
       ];

@@ -1,7 +1,6 @@
 use Rattle.std.proofs.Common.{ℕ, ◌-◌, sym, subst, ◌∙◌, inl, inr, arith}
-use Rattle.std.proofs.lemmas.Bool.{cases_eq, cases_lt}
+use Rattle.std.proofs.lemmas.Bool.{both_ways, cases_eq, cases_lt}
 use Rattle.lane_planner.specs.Marks.{IsMarked}
-use Rattle.lane_planner.proofs.Marking.{unmarked}
 use Rattle.lane_planner.proofs.marks.Marks.past_last.Goals as goal
 
 pub loop-past-init : goal.loop-past-init
@@ -22,7 +21,7 @@ loop-past-preserved c =
       none = λ other past low marked. elim (cases_lt other last) [
         | inl early ↦ c.before-in-loop-past.ensures.none other (omega (arith, past)) early marked
         | inr late ↦ elim (cases_eq other last) [
-          | inl same ↦ unmarked marks last (sym c.has.ensures ∙ c.if-has.false) (subst (IsMarked marks) same marked)
+          | inl same ↦ both_ways _ (sym c.has.ensures ∙ c.if-has.false) (subst (IsMarked marks) same marked)
           | inr differs ↦ before.none other (omega (arith, late, differs)) low marked
         ]
       ];
