@@ -1,6 +1,6 @@
 -- What is read of an image over a scripted bus with a window of it behind: the halves agree with the image's.
-use Rattle.std.proofs.Common.{◌≡◌, inl, inr, ℕ, ◌<◌, ◌&&◌, Bool, true, false, List, [], ◌∷◌, take, Option, Some, None, Ok, reverse, refl, sym, ap, subst, ◌∙◌, arith}
-use Rattle.std.proofs.lemmas.Bool.{cases_Bool}
+use Rattle.std.proofs.Common.{◌≡◌, inl, inr, ℕ, ◌<◌, ◌&&◌, Bool, true, false, List, [], ◌∷◌, map, take, Option, Some, None, Ok, reverse, refl, sym, ap, subst, ◌∙◌, arith}
+use Rattle.std.proofs.lemmas.Bool.{cases_Bool, some_since}
 use Rattle.std.specs.Prelude.{IsTrue, MatchOption, is_some, not, option_map, pos, slice_index, unsigned_abs, unwrap_or}
 use Rattle.std.specs.FinMap as map
 use Rattle.std.specs.List.{AllByRecursion}
@@ -44,6 +44,8 @@ use Rattle.module_reading.specs.Regions.{everything, has_diagnostics, key_of, op
 use Rattle.module_reading.specs.declared.region.Region.{Region}
 use Rattle.module_reading.specs.declared.region.Region.TheVariants.{Lower, FirstPage, Page}
 use Rattle.module_reading.proofs.RegionLaws.{begins_lower}
+use Rattle.reports.proofs.SameFamilies.{AllAgree}
+use Rattle.reports.proofs.SameRows.{KeysAgree}
 
 -- ---- what a fetch of a half was answered by
 
@@ -200,15 +202,6 @@ selecting_is memory half has = ap (λ (bytes : Option (List ℕ)). unwrap_or (op
 
 -- ---- all of them
 
--- the halves that are asked for agree, and the lower half is there
-pub record HalvesAgree (copy memory : Memory) : Type 0 where
-  pub agree : AllByRecursion (λ region. Agree copy memory (key_of region)) (regions_of everything copy)
-  pub present : is_absent copy (lower_key A0) ≡ false
-
-present_by : (half : Option (List ℕ)) (L : Type 0) (R : List ℕ → Type 0) → MatchOption half L R → (L → ⊥) → is_some half ≡ true
-present_by None L R settled out = absurd (out settled)
-present_by (Some bytes) L R settled out = refl
-
 half_of : (half : Option (List ℕ)) → not (is_some half) ≡ false → (bytes : List ℕ) × (half ≡ Some bytes)
 half_of None e = absurd cc
 half_of (Some bytes) e = (bytes, refl)
@@ -224,11 +217,11 @@ module _ (memory copy : Memory) (state : State) (history : History) (image : IsI
   agrees_settled region by settled =
       agrees_by memory copy (addressing_of copy) state image start region history (map.get copy (key_of region)) by may refl settled
 
-  agree_all : (regions : List Region) → ((region : Region) → SelectsBy memory (addressing_of copy) region) → AllByRecursion (IsSettled false history copy) regions → AllByRecursion (λ region. Agree copy memory (key_of region)) regions
+  agree_all : (regions : List Region) → ((region : Region) → SelectsBy memory (addressing_of copy) region) → AllByRecursion (IsSettled false history copy) regions → KeysAgree copy memory (map key_of regions)
   agree_all [] by settled = tt
   agree_all (region ∷ regions) by settled = (agrees_settled region (by region) settled.0, agree_all regions by settled.1)
 
-  agree_lowers : (diagnosed : Bool) → AllByRecursion (IsSettled false history copy) (sfp_regions everything diagnosed) → AllByRecursion (λ region. Agree copy memory (key_of region)) (sfp_regions everything diagnosed)
+  agree_lowers : (diagnosed : Bool) → AllByRecursion (IsSettled false history copy) (sfp_regions everything diagnosed) → KeysAgree copy memory (map key_of (sfp_regions everything diagnosed))
   agree_lowers true settled = (agrees_settled (Lower A0) tt settled.0, (agrees_settled (Lower A2) tt settled.1.0, tt))
   agree_lowers false settled = (agrees_settled (Lower A0) tt settled.0, tt)
 
@@ -243,25 +236,23 @@ module _ (memory copy : Memory) (state : State) (history : History) (image : IsI
       let id : identifier copy ≡ slice_index half 0 = same_number copy memory CIdentifier low refl refl ∙ identifier_is memory half image has in
       selecting_is memory half has ∙ ap selecting_by (sym id) ∙ selecting_right (managed_by (identifier copy)) paged
 
-  halves_agree : IsImageOf false everything history copy → HalvesAgree copy memory
+  halves_agree : IsImageOf false everything history copy → AllAgree copy memory
   halves_agree is =
       let each = is.each in
       let first : IsSettled false history copy (Lower A0) = (subst (AllByRecursion (IsSettled false history copy)) (begins_lower everything copy) each).0 in
       let low : Agree copy memory (lower_key A0) = agrees_settled (Lower A0) tt first in
-      let present : is_absent copy (lower_key A0) ≡ false = ap not (present_by (map.get copy (lower_key A0)) ⊥ (λ bytes. IsRead false (addressing_of copy) (Lower A0) bytes history) first (λ none. none)) in
+      let present : is_absent copy (lower_key A0) ≡ false = ap not (some_since (map.get copy (lower_key A0)) ⊥ (λ bytes. IsRead false (addressing_of copy) (Lower A0) bytes history) first (λ none. none)) in
       let there : is_absent memory (lower_key A0) ≡ false = sym (same_absent copy memory (lower_key A0) low) ∙ present in
-      let all : AllByRecursion (λ region. Agree copy memory (key_of region)) (regions_of everything copy) =
       elim (cases_Bool (asks_pages (managed_by (identifier copy)))) [
         | inl paged ↦ agree_all (regions_of everything copy) (selects_all (same_selecting low there paged)) each
         | inr other ↦
             let regions = lowers_alone (managed_by (identifier copy)) copy other in
             let diagnosed = is_family Sff8472 (managed_by (identifier copy)) && has_diagnostics copy in
-            subst (AllByRecursion (λ region. Agree copy memory (key_of region))) (sym regions) (agree_lowers diagnosed (subst (AllByRecursion (IsSettled false history copy)) regions each))
-      ] in
-      record { agree = all; present = present }
+            subst (λ (rs : List Region). KeysAgree copy memory (map key_of rs)) (sym regions) (agree_lowers diagnosed (subst (AllByRecursion (IsSettled false history copy)) regions each))
+      ]
 
 -- what is read over a scripted bus
 pub fetched_agree : (old new : Seen (List Directive × Windowed)) (history : History) (memory copy : Memory) → IsImage memory → old.state.1 ≡ started memory → Ran (script_rules window_conduct) old new (reverse history) →
-    IsFetching (IsFull new) history (Ok copy) → HalvesAgree copy memory
+    IsFetching (IsFull new) history (Ok copy) → AllAgree copy memory
 fetched_agree old new history memory copy image start ran fetching =
     halves_agree memory copy old.state history image start (may_each (script_rules window_conduct) old.state history ran.allowed) fetching.answered

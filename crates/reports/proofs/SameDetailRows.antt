@@ -1,8 +1,8 @@
 -- Memories that agree in halves have the same of each row of details that reads of these halves alone, which a test of rows tells.
-use Rattle.std.proofs.Common.{◌≡◌, ℕ, zero, suc, ◌≤◌, ◌∙◌, ◌+◌, ◌-◌, ◌*◌, ◌^◌, ◌==◌, ◌&&◌, ◌||◌, Bool, true, false, List, [], ◌∷◌, ◌++◌, Option, Some, None, refl, ap, if◌then◌else◌, nat_le, arith}
-use Rattle.std.proofs.lemmas.Bool.{and_parts, not-true, leb-true}
-use Rattle.std.specs.Prelude.{ℤ, pos, not, nat_lt, unsigned_abs, is_none, is_some}
-use Rattle.std.specs.List.{AllByRecursion, flat_map, list_all, list_any, range_with_len}
+use Rattle.std.proofs.Common.{◌≡◌, ℕ, ◌+◌, ◌-◌, ◌*◌, ◌^◌, ◌==◌, ◌&&◌, ◌||◌, Bool, true, false, List, [], ◌∷◌, Option, Some, None, refl, ap, if◌then◌else◌, nat_le}
+use Rattle.std.proofs.lemmas.Bool.{and_parts}
+use Rattle.std.specs.Prelude.{pos, not, nat_lt, unsigned_abs, is_none, is_some}
+use Rattle.std.specs.List.{list_all, list_any, range_with_len}
 use Rattle.paged_memory.specs.declared.key.Key.{Key}
 use Rattle.paged_memory.specs.Images.{Memory}
 use Rattle.code_names.specs.declared.table.Table.{Table}
@@ -14,12 +14,8 @@ use Rattle.external_calibration.specs.declared.monitor.Monitor.{Monitor}
 use Rattle.field_tables.specs.declared.field.Field.{Field}
 use Rattle.field_tables.specs.declared.field.Field.TheVariants.{CIdentifier, QMaxPower, QPowerClass, QPowerClass8, QPowerClassHigh, SExternal, SOffsets, SRxPowerCoefficients, SSlopes}
 use Rattle.field_tables.specs.FieldRows.{row_of}
-use Rattle.field_tables.specs.FieldValues.{field_key}
-use Rattle.field_tables.specs.Readings as readings
-use Rattle.field_tables.specs.Texts.{text_key}
-use Rattle.field_tables.specs.Units.{millis_of}
-use Rattle.field_tables.proofs.SameValues.{Agree, is_selection, same_at, same_numbers, same_reading_at, same_text}
-use Rattle.module_decoding.specs.Amounts.{amount_at, doubled, length_in, times, unit_of}
+use Rattle.field_tables.specs.Readings.{number_at, reading_at}
+use Rattle.module_decoding.specs.Amounts.{unit_of}
 use Rattle.module_details.specs.declared.item.Case.{Case}
 use Rattle.module_details.specs.declared.item.Case.TheVariants.{Within, Outside, Neither, LacksSince}
 use Rattle.module_details.specs.declared.item.Values.{Values}
@@ -35,294 +31,198 @@ use Rattle.report_entries.specs.Facts.{Fact}
 use Rattle.report_entries.specs.PrintedUnits.{printed_in}
 use Rattle.report_entries.specs.declared.fact.Place.TheVariants.{Module, Lane}
 use Rattle.report_entries.specs.declared.printed_unit.PrintedUnit.TheVariants as units
-use Rattle.reports.proofs.SameRows.{agree_among, each_same, is_among}
+use Rattle.reports.proofs.SameRows as reads
+use Rattle.reports.proofs.SameRows.{AreReadSame, KeysAgree, Read, TextOf, Value, amount_same, counts, each_same, numbered_each, numbered_same, power_reads, read_in, read_same, reads_in, reads_same}
 
--- ---- the test
-
--- a field in these halves, and such a value of one
-abbrev field_in : List Key → Field → Bool
-field_in keys field = is_among keys (field_key field) && not (is_selection field)
-
-abbrev value_in : List Key → Field → ℕ → Bool
-value_in keys field i = field_in keys field && (nat_le 1 i && nat_le i (row_of field).count)
-
-abbrev power_in : List Key → Option Field → Bool
-power_in keys None = true
-power_in keys (Some field) = value_in keys field 1
+-- ---- what rows read
 
 -- by which the host calibrates, if it has to
-abbrev calibration_in : List Key → Bool
-calibration_in keys = value_in keys SExternal 1 && (field_in keys SRxPowerCoefficients && (field_in keys SSlopes && field_in keys SOffsets))
+abbrev calibration_reads : List Read
+calibration_reads = Value SExternal 1 ∷ reads.Values SRxPowerCoefficients 10 ∷ reads.Values SSlopes 4 ∷ reads.Values SOffsets 4 ∷ []
 
-abbrev item_in : List Key → Item → ℕ → Bool
-item_in keys (Word w) i = true
-item_in keys (Either field one other) i = value_in keys field i
-item_in keys (Yes field) i = value_in keys field i
-item_in keys (Named table field) i = value_in keys field i
-item_in keys (Names table field first) i = field_in keys field
-item_in keys (Number field more) i = value_in keys field i
-item_in keys (Revision field) i = value_in keys field i
-item_in keys (Version field) i = value_in keys field i && value_in keys field (i + 1)
-item_in keys (Text field) i = is_among keys (text_key field)
-item_in keys (Oui field) i = field_in keys field
-item_in keys (Amount field power) i = value_in keys field i && power_in keys power
-item_in keys (Steps field step unit) i = value_in keys field i
-item_in keys (StepsIfAny field step unit) i = value_in keys field i
-item_in keys (PairIfAny field step unit) i = value_in keys field i && value_in keys field (i + 1)
-item_in keys (TenthsIfAny base power unit) i = value_in keys base 1 && value_in keys power 1
-item_in keys (Celsius field) i = value_in keys field i
-item_in keys (Percent field) i = value_in keys field i
-item_in keys (Temperature field) i = value_in keys field i
-item_in keys (Level field) i = value_in keys field i
-item_in keys (Milliwatts field) i = value_in keys field i
-item_in keys (Measured monitor field) i = value_in keys field i && calibration_in keys
-item_in keys (MeasuredLevel monitor field) i = value_in keys field i && calibration_in keys
-item_in keys (MeasuredMilliwatts monitor field) i = value_in keys field i && calibration_in keys
-item_in keys (Calibrates monitor) i = calibration_in keys
-item_in keys (ModuleState field) i = value_in keys field i
-item_in keys (PathState field) i = value_in keys field i
-item_in keys (ConfigStatus field) i = value_in keys field i
-item_in keys (FirstLane apps paths) i = value_in keys apps i && value_in keys paths i
-item_in keys (BitRate rate more) i = value_in keys rate 1 && value_in keys more 1
-item_in keys PowerClass i = value_in keys QPowerClass8 1 && (value_in keys QPowerClassHigh 1 && value_in keys QPowerClass 1)
-item_in keys ClassPower i = value_in keys QMaxPower 1 && (value_in keys QPowerClass8 1 && (value_in keys QPowerClassHigh 1 && value_in keys QPowerClass 1))
+abbrev class_reads : List Read
+class_reads = Value QPowerClass8 1 ∷ Value QPowerClassHigh 1 ∷ Value QPowerClass 1 ∷ []
 
+abbrev item_reads : Item → ℕ → List Read
+item_reads (Word w) i = []
+item_reads (Either field one other) i = Value field i ∷ []
+item_reads (Yes field) i = Value field i ∷ []
+item_reads (Named table field) i = Value field i ∷ []
+item_reads (Names table field first) i = reads.Values field (row_of field).count ∷ []
+item_reads (Number field more) i = Value field i ∷ []
+item_reads (Revision field) i = Value field i ∷ []
+item_reads (Version field) i = Value field i ∷ Value field (i + 1) ∷ []
+item_reads (Text field) i = TextOf field ∷ []
+item_reads (Oui field) i = reads.Values field (row_of field).count ∷ []
+item_reads (Amount field power) i = Value field i ∷ power_reads power
+item_reads (Steps field step unit) i = Value field i ∷ []
+item_reads (StepsIfAny field step unit) i = Value field i ∷ []
+item_reads (PairIfAny field step unit) i = Value field i ∷ Value field (i + 1) ∷ []
+item_reads (TenthsIfAny base power unit) i = Value base 1 ∷ Value power 1 ∷ []
+item_reads (Celsius field) i = Value field i ∷ []
+item_reads (Percent field) i = Value field i ∷ []
+item_reads (Temperature field) i = Value field i ∷ []
+item_reads (Level field) i = Value field i ∷ []
+item_reads (Milliwatts field) i = Value field i ∷ []
+item_reads (Measured monitor field) i = Value field i ∷ calibration_reads
+item_reads (MeasuredLevel monitor field) i = Value field i ∷ calibration_reads
+item_reads (MeasuredMilliwatts monitor field) i = Value field i ∷ calibration_reads
+item_reads (Calibrates monitor) i = calibration_reads
+item_reads (ModuleState field) i = Value field i ∷ []
+item_reads (PathState field) i = Value field i ∷ []
+item_reads (ConfigStatus field) i = Value field i ∷ []
+item_reads (FirstLane apps paths) i = Value apps i ∷ Value paths i ∷ []
+item_reads (BitRate rate more) i = Value rate 1 ∷ Value more 1 ∷ []
+item_reads PowerClass i = class_reads
+item_reads ClassPower i = Value QMaxPower 1 ∷ class_reads
+
+abbrev case_reads : Case → List Read
+case_reads (Within field i low high) = Value field i ∷ []
+case_reads (Outside field i low high) = Value field i ∷ []
+case_reads (Neither field i j) = Value field i ∷ Value field j ∷ []
+case_reads (LacksSince field i since first) = Value field i ∷ Value since 1 ∷ []
+
+-- which lanes a module has, its identifier tells
 abbrev values_in : List Key → Item → Values → Bool
-values_in keys item (One i) = item_in keys item i
-values_in keys item (Lanes n) = list_all (item_in keys item) (range_with_len 1 n) && value_in keys CIdentifier 1
+values_in keys item (One i) = reads_in keys (item_reads item i)
+values_in keys item (Lanes n) = read_in keys (Value CIdentifier 1) && list_all (λ lane. reads_in keys (item_reads item lane)) (range_with_len 1 n)
 
-abbrev case_in : List Key → Case → Bool
-case_in keys (Within field i low high) = value_in keys field i
-case_in keys (Outside field i low high) = value_in keys field i
-case_in keys (Neither field i j) = value_in keys field i && value_in keys field j
-case_in keys (LacksSince field i since first) = value_in keys field i && value_in keys since 1
+abbrev row_reads_in : List Key → Row → Bool
+row_reads_in keys row = list_all (λ case. reads_in keys (case_reads case)) row.cases && values_in keys row.item row.values
 
 -- the row says nothing of a module that is flat or not, or reads of these halves alone
 abbrev pub detail_in : Bool → List Key → Row → Bool
-detail_in flat keys row = (row.paged && flat) || (list_all (case_in keys) row.cases && values_in keys row.item row.values)
+detail_in flat keys row = (row.paged && flat) || row_reads_in keys row
 
--- ---- what it says
+-- ---- what they say
 
-module _ (a b : Memory) (keys : List Key) (all : AllByRecursion (λ key. Agree a b key) keys) where
-  field_agrees : (field : Field) → field_in keys field ≡ true → Agree a b (field_key field)
-  field_agrees field e = agree_among a b keys all (field_key field) (and_parts (is_among keys (field_key field)) (not (is_selection field)) e).0
-
-  field_other : (field : Field) → field_in keys field ≡ true → is_selection field ≡ false
-  field_other field e = not-true (is_selection field) (and_parts (is_among keys (field_key field)) (not (is_selection field)) e).1
-
-  reading_same : (field : Field) (i : ℕ) → value_in keys field i ≡ true → readings.reading_at a field i ≡ readings.reading_at b field i
-  reading_same field i e =
-      let parts = and_parts (field_in keys field) (nat_le 1 i && nat_le i (row_of field).count) e in
-      let bounds = and_parts (nat_le 1 i) (nat_le i (row_of field).count) parts.1 in
-      same_reading_at a b field i (field_agrees field parts.0) (field_other field parts.0) (leb-true 1 i bounds.0) (leb-true i (row_of field).count bounds.1)
-
-  number_same : (field : Field) (i : ℕ) → value_in keys field i ≡ true → readings.number_at a field i ≡ readings.number_at b field i
-  number_same field i e = ap unsigned_abs (reading_same field i e)
-
-  bit_same : (field : Field) (i : ℕ) → value_in keys field i ≡ true → readings.bit_at a field i ≡ readings.bit_at b field i
-  bit_same field i e = ap (λ (n : ℕ). n == 1) (number_same field i e)
-
-  times_same : (steps : ℤ) (power : Option Field) → power_in keys power ≡ true → times a steps power ≡ times b steps power
-  times_same steps None e = refl
-  times_same steps (Some power) e = ap (doubled steps) (number_same power 1 e)
-
-  amount_same : (field : Field) (power : Option Field) (i : ℕ) → value_in keys field i ≡ true → power_in keys power ≡ true → amount_at a field power i ≡ amount_at b field power i
-  unfolding amount_at
-  amount_same field power i e counts =
-      let steps = reading_same field i e in
-      (λ j. millis_of (times a (steps j) power) (unit_of field))
-      ∙ ap (λ (steps : ℤ). millis_of steps (unit_of field)) (times_same (readings.reading_at b field i) power counts)
-
-  -- what is made of two values
-  numbers_same : {A : Type 0} (f : ℕ → ℕ → A) (field other : Field) (i j : ℕ) → (value_in keys field i && value_in keys other j) ≡ true
-      → f (readings.number_at a field i) (readings.number_at a other j) ≡ f (readings.number_at b field i) (readings.number_at b other j)
-  numbers_same f field other i j e =
-      let parts = and_parts (value_in keys field i) (value_in keys other j) e in
-      let one = number_same field i parts.0 in
-      let two = number_same other j parts.1 in
-      λ k. f (one k) (two k)
-
-  -- the names of the first values
-  names_from : (table : Table) (field : Field) (code : ℕ) → field_in keys field ≡ true → (first count : ℕ) → 1 ≤ first → first + count ≤ (row_of field).count + 1 →
-      flat_map (name_if_set a table field code) (range_with_len first count) ≡ flat_map (name_if_set b table field code) (range_with_len first count)
-  names_from table field code e first zero from to = refl
-  names_from table field code e first (suc count) from to =
-      let here = ap unsigned_abs (same_reading_at a b field first (field_agrees field e) (field_other field e) from (omega (arith, to))) in
-      let later = names_from table field code e (first + 1) count (omega (arith, from)) (omega (arith, to)) in
-      λ i. (if (here i == 1) then name_of table (code + (first - 1)) ∷ [] else []) ++ later i
-
-  names_same : (table : Table) (field : Field) (first : ℕ) → field_in keys field ≡ true → names_of a table field first ≡ names_of b table field first
+module _ (a b : Memory) where
+  names_same : (table : Table) (field : Field) (first : ℕ) → AreReadSame a b (item_reads (Names table field first) 1) → names_of a table field first ≡ names_of b table field first
   unfolding names_of
-  names_same table field first e = names_from table field first e 1 (row_of field).count (omega arith) (omega arith)
+  names_same table field first same =
+      numbered_each (name_if_set a table field first) (name_if_set b table field first) (row_of field).count
+      (λ i e j. if (unsigned_abs (same.0 i e j) == 1) then name_of table (first + (i - 1)) ∷ [] else [])
 
-  class_same : item_in keys PowerClass 1 ≡ true → power_class a ≡ power_class b
+  class_same : AreReadSame a b class_reads → power_class a ≡ power_class b
   unfolding power_class
-  class_same e =
-      let parts = and_parts (value_in keys QPowerClass8 1) (value_in keys QPowerClassHigh 1 && value_in keys QPowerClass 1) e in
-      let others = and_parts (value_in keys QPowerClassHigh 1) (value_in keys QPowerClass 1) parts.1 in
-      let eighth = bit_same QPowerClass8 1 parts.0 in
-      let high = number_same QPowerClassHigh 1 others.0 in
-      let low = number_same QPowerClass 1 others.1 in
-      λ i. if eighth i then 8 else if nat_lt 0 (high i) then high i + 4 else low i + 1
+  class_same (eighth, (high, (low, none))) = λ j. if unsigned_abs (eighth j) == 1 then 8 else if nat_lt 0 (unsigned_abs (high j)) then unsigned_abs (high j) + 4 else unsigned_abs (low j) + 1
 
-  power_same : item_in keys ClassPower 1 ≡ true → class_power a ≡ class_power b
+  power_same : AreReadSame a b (item_reads ClassPower 1) → class_power a ≡ class_power b
   unfolding class_power
-  power_same e =
-      let parts = and_parts (value_in keys QMaxPower 1) (item_in keys PowerClass 1) e in
-      let eighth = bit_same QPowerClass8 1 (and_parts (value_in keys QPowerClass8 1) (value_in keys QPowerClassHigh 1 && value_in keys QPowerClass 1) parts.1).0 in
-      let most = number_same QMaxPower 1 parts.0 in
-      let class = class_same parts.1 in
-      λ i. if eighth i then most i * 100 else power_of (class i)
+  power_same (most, class) = λ j. if unsigned_abs (class.0 j) == 1 then unsigned_abs (most j) * 100 else power_of (class_same class j)
 
-  -- value i, of a field that has so many by a test
-  counted_same : (field : Field) (i : ℕ) → field_in keys field ≡ true → (nat_le 1 i && nat_le i (row_of field).count) ≡ true → readings.reading_at a field i ≡ readings.reading_at b field i
-  counted_same field i e counted = same_at a b field i (field_agrees field e) (field_other field e) counted
+  module _ (same : AreReadSame a b calibration_reads) where
+    coefficient_same : (i : ℕ) → counts 10 i ≡ true → counts 10 (i + 1) ≡ true → coefficient a i ≡ coefficient b i
+    coefficient_same i first second = λ j. unsigned_abs (same.1.0 i first j) * 2 ^ 16 + unsigned_abs (same.1.0 (i + 1) second j)
 
-  coefficient_same : (i : ℕ) → field_in keys SRxPowerCoefficients ≡ true → (nat_le 1 i && nat_le i 10) ≡ true → (nat_le 1 (i + 1) && nat_le (i + 1) 10) ≡ true → coefficient a i ≡ coefficient b i
-  coefficient_same i e first second =
-      let high = counted_same SRxPowerCoefficients i e first in
-      let low = counted_same SRxPowerCoefficients (i + 1) e second in
-      λ j. unsigned_abs (high j) * 2 ^ 16 + unsigned_abs (low j)
+    line_same : (i : ℕ) → counts 4 i ≡ true → line_of a i ≡ line_of b i
+    line_same i e = λ j. record { slope = unsigned_abs (same.1.1.0 i e j); offset = same.1.1.1.0 i e j }
 
-  line_same : (i : ℕ) → field_in keys SSlopes ≡ true → field_in keys SOffsets ≡ true → (nat_le 1 i && nat_le i 4) ≡ true → line_of a i ≡ line_of b i
-  line_same i slopes offsets counted =
-      let slope = counted_same SSlopes i slopes counted in
-      let offset = counted_same SOffsets i offsets counted in
-      λ j. record { slope = unsigned_abs (slope j); offset = offset j }
+    constants_same : constants_of a ≡ constants_of b
+    unfolding constants_of
+    constants_same = λ j. record {
+      rx_power = record {
+        fourth = coefficient_same 1 refl refl j;
+        third = coefficient_same 3 refl refl j;
+        second = coefficient_same 5 refl refl j;
+        first = coefficient_same 7 refl refl j;
+        zeroth = coefficient_same 9 refl refl j;
+      };
+      tx_bias = line_same 1 refl j;
+      tx_power = line_same 2 refl j;
+      temperature = line_same 3 refl j;
+      vcc = line_same 4 refl j;
+    }
 
-  constants_same : calibration_in keys ≡ true → constants_of a ≡ constants_of b
-  unfolding constants_of
-  constants_same e =
-      let constants = and_parts (value_in keys SExternal 1) (field_in keys SRxPowerCoefficients && (field_in keys SSlopes && field_in keys SOffsets)) e in
-      let parts = and_parts (field_in keys SRxPowerCoefficients) (field_in keys SSlopes && field_in keys SOffsets) constants.1 in
-      let lines = and_parts (field_in keys SSlopes) (field_in keys SOffsets) parts.1 in
-      let fourth = coefficient_same 1 parts.0 refl refl in
-      let third = coefficient_same 3 parts.0 refl refl in
-      let second = coefficient_same 5 parts.0 refl refl in
-      let first = coefficient_same 7 parts.0 refl refl in
-      let zeroth = coefficient_same 9 parts.0 refl refl in
-      let bias = line_same 1 lines.0 lines.1 refl in
-      let power = line_same 2 lines.0 lines.1 refl in
-      let temperature = line_same 3 lines.0 lines.1 refl in
-      let vcc = line_same 4 lines.0 lines.1 refl in
-      λ j. record {
-        rx_power = record { fourth = fourth j; third = third j; second = second j; first = first j; zeroth = zeroth j };
-        tx_bias = bias j;
-        tx_power = power j;
-        temperature = temperature j;
-        vcc = vcc j;
-      }
+    calibrates_same : (monitor : Monitor) → calibrates a monitor ≡ calibrates b monitor
+    unfolding calibrates
+    calibrates_same monitor = ap (λ (c : Constants). is_none (refusal_by c monitor)) constants_same
 
-  external_same : calibration_in keys ≡ true → readings.bit a SExternal ≡ readings.bit b SExternal
-  external_same e = bit_same SExternal 1 (and_parts (value_in keys SExternal 1) (field_in keys SRxPowerCoefficients && (field_in keys SSlopes && field_in keys SOffsets)) e).0
+    module _ (monitor : Monitor) (field : Field) (i : ℕ) (steps : reading_at a field i ≡ reading_at b field i) where
+      calibrated_same : calibrated a monitor field i ≡ calibrated b monitor field i
+      unfolding calibrated
+      calibrated_same = λ j. if is_some (refusal_by (constants_same j) monitor) then None else Some (amount_of (constants_same j) monitor (steps j))
 
-  calibrates_same : (monitor : Monitor) → calibration_in keys ≡ true → calibrates a monitor ≡ calibrates b monitor
-  unfolding calibrates
-  calibrates_same monitor e = ap (λ (c : Constants). is_none (refusal_by c monitor)) (constants_same e)
+      measured_same : measured_fact a monitor field i ≡ measured_fact b monitor field i
+      unfolding measured_fact
+      measured_same = λ j. if unsigned_abs (same.0 j) == 1 then measured.amount_fact (calibrated_same j) monitor else Some (facts.amount (amount_same a b field None i steps tt j) (printed_in (unit_of field)))
 
-  calibrated_same : (monitor : Monitor) (field : Field) (i : ℕ) → value_in keys field i ≡ true → calibration_in keys ≡ true → calibrated a monitor field i ≡ calibrated b monitor field i
-  unfolding calibrated
-  calibrated_same monitor field i e f =
-      let steps = reading_same field i e in
-      let constants = constants_same f in
-      λ j. if is_some (refusal_by (constants j) monitor) then None else Some (amount_of (constants j) monitor (steps j))
+      measured_power_same : measured_power a monitor field i ≡ measured_power b monitor field i
+      unfolding measured_power
+      measured_power_same = λ j. if unsigned_abs (same.0 j) == 1 then measured.power_in (calibrated_same j) else Some (unsigned_abs (steps j))
 
-  measured_same : (monitor : Monitor) (field : Field) (i : ℕ) → item_in keys (Measured monitor field) i ≡ true → measured_fact a monitor field i ≡ measured_fact b monitor field i
-  unfolding measured_fact
-  measured_same monitor field i e =
-      let parts = and_parts (value_in keys field i) (calibration_in keys) e in
-      let external = external_same parts.1 in
-      let by_host = calibrated_same monitor field i parts.0 parts.1 in
-      let by_module = amount_same field None i parts.0 refl in
-      λ j. if external j then measured.amount_fact (by_host j) monitor else Some (facts.amount (by_module j) (printed_in (unit_of field)))
-
-  measured_power_same : (monitor : Monitor) (field : Field) (i : ℕ) → item_in keys (Measured monitor field) i ≡ true → measured_power a monitor field i ≡ measured_power b monitor field i
-  unfolding measured_power
-  measured_power_same monitor field i e =
-      let parts = and_parts (value_in keys field i) (calibration_in keys) e in
-      let external = external_same parts.1 in
-      let by_host = calibrated_same monitor field i parts.0 parts.1 in
-      let by_module = reading_same field i parts.0 in
-      λ j. if external j then measured.power_in (by_host j) else Some (unsigned_abs (by_module j))
-
-  fact_same : (item : Item) (i : ℕ) → item_in keys item i ≡ true → fact_at a item i ≡ fact_at b item i
+  fact_same : (item : Item) (i : ℕ) → AreReadSame a b (item_reads item i) → fact_at a item i ≡ fact_at b item i
   unfolding fact_at
-  fact_same (Word w) i e = refl
-  fact_same (Either field one other) i e = ap (λ (set : Bool). Some (facts.word (if set then one else other))) (bit_same field i e)
-  fact_same (Yes field) i e = ap (λ (set : Bool). Some (facts.yes set)) (bit_same field i e)
-  fact_same (Named table field) i e = ap (λ (n : ℕ). Some (named_fact table n)) (number_same field i e)
-  fact_same (Names table field first) i e = ap names_fact (names_same table field first e)
-  fact_same (Number field more) i e = ap (λ (n : ℕ). Some (facts.number (n + more))) (number_same field i e)
-  fact_same (Revision field) i e = ap (λ (n : ℕ). Some (facts.revision n)) (number_same field i e)
-  fact_same (Version field) i e = numbers_same (λ major minor. Some (facts.version major minor)) field field i (i + 1) e
-  fact_same (Text field) i e = ap text_fact (same_text a b field (agree_among a b keys all (text_key field) e))
-  fact_same (Oui field) i e = ap (λ (bytes : List ℕ). Some (facts.oui bytes)) (same_numbers a b field (field_agrees field e) (field_other field e))
-  fact_same (Amount field power) i e =
-      let parts = and_parts (value_in keys field i) (power_in keys power) e in
-      ap (λ (z : ℤ). Some (facts.amount z (printed_in (unit_of field)))) (amount_same field power i parts.0 parts.1)
-  fact_same (Steps field step unit) i e = ap (λ (z : ℤ). Some (steps_fact z step unit)) (reading_same field i e)
-  fact_same (StepsIfAny field step unit) i e = ap (λ (z : ℤ). if_any (is_positive z) (steps_fact z step unit)) (reading_same field i e)
-  fact_same (PairIfAny field step unit) i e = numbers_same (λ high low. pair_fact (pair high low) step unit) field field i (i + 1) e
-  fact_same (TenthsIfAny base power unit) i e = numbers_same (λ size tens. amount_fact (pos (size * 100 * 10 ^ tens)) unit) base power 1 1 e
-  fact_same (Celsius field) i e = ap (λ (n : ℕ). Some (celsius_fact n)) (number_same field i e)
-  fact_same (Percent field) i e = ap (λ (z : ℤ). Some (percent_fact z)) (reading_same field i e)
-  fact_same (Temperature field) i e = ap (λ (z : ℤ). Some (temperature_fact z)) (reading_same field i e)
-  fact_same (Level field) i e = ap (λ (z : ℤ). Some (facts.level (unsigned_abs z))) (reading_same field i e)
-  fact_same (Milliwatts field) i e = ap (λ (z : ℤ). Some (facts.milliwatts (unsigned_abs z))) (reading_same field i e)
-  fact_same (Measured monitor field) i e = measured_same monitor field i e
-  fact_same (MeasuredLevel monitor field) i e = ap level_fact (measured_power_same monitor field i e)
-  fact_same (MeasuredMilliwatts monitor field) i e = ap milliwatts_fact (measured_power_same monitor field i e)
-  fact_same (Calibrates monitor) i e = ap (λ (set : Bool). Some (facts.yes set)) (calibrates_same monitor e)
-  fact_same (ModuleState field) i e = ap (λ (n : ℕ). Some (facts.module_state n)) (number_same field i e)
-  fact_same (PathState field) i e = ap (λ (n : ℕ). Some (facts.path_state n)) (number_same field i e)
-  fact_same (ConfigStatus field) i e = ap (λ (n : ℕ). Some (facts.config_status n)) (number_same field i e)
-  fact_same (FirstLane apps paths) i e = numbers_same first_lane_fact apps paths i i e
-  fact_same (BitRate rate more) i e = numbers_same (λ slow fast. bit_rate_fact (bit_rate slow fast)) rate more 1 1 e
-  fact_same PowerClass i e = ap (λ (n : ℕ). Some (facts.number n)) (class_same e)
-  fact_same ClassPower i e = ap (λ (n : ℕ). Some (facts.amount (pos n) units.Watt)) (power_same e)
+  fact_same (Word w) i same = refl
+  fact_same (Either field one other) i same = λ j. Some (facts.word (if unsigned_abs (same.0 j) == 1 then one else other))
+  fact_same (Yes field) i same = λ j. Some (facts.yes (unsigned_abs (same.0 j) == 1))
+  fact_same (Named table field) i same = λ j. Some (named_fact table (unsigned_abs (same.0 j)))
+  fact_same (Names table field first) i same = ap names_fact (names_same table field first same)
+  fact_same (Number field more) i same = λ j. Some (facts.number (unsigned_abs (same.0 j) + more))
+  fact_same (Revision field) i same = λ j. Some (facts.revision (unsigned_abs (same.0 j)))
+  fact_same (Version field) i same = λ j. Some (facts.version (unsigned_abs (same.0 j)) (unsigned_abs (same.1.0 j)))
+  fact_same (Text field) i same = ap text_fact same.0
+  fact_same (Oui field) i same =
+      ap (λ (bytes : List ℕ). Some (facts.oui bytes)) (numbered_same (number_at a field) (number_at b field) (row_of field).count (λ n e j. unsigned_abs (same.0 n e j)))
+  fact_same (Amount field power) i same = λ j. Some (facts.amount (amount_same a b field power i same.0 same.1 j) (printed_in (unit_of field)))
+  fact_same (Steps field step unit) i same = λ j. Some (steps_fact (same.0 j) step unit)
+  fact_same (StepsIfAny field step unit) i same = λ j. if_any (is_positive (same.0 j)) (steps_fact (same.0 j) step unit)
+  fact_same (PairIfAny field step unit) i same = λ j. pair_fact (pair (unsigned_abs (same.0 j)) (unsigned_abs (same.1.0 j))) step unit
+  fact_same (TenthsIfAny base power unit) i same = λ j. amount_fact (pos (unsigned_abs (same.0 j) * 100 * 10 ^ unsigned_abs (same.1.0 j))) unit
+  fact_same (Celsius field) i same = λ j. Some (celsius_fact (unsigned_abs (same.0 j)))
+  fact_same (Percent field) i same = λ j. Some (percent_fact (same.0 j))
+  fact_same (Temperature field) i same = λ j. Some (temperature_fact (same.0 j))
+  fact_same (Level field) i same = λ j. Some (facts.level (unsigned_abs (same.0 j)))
+  fact_same (Milliwatts field) i same = λ j. Some (facts.milliwatts (unsigned_abs (same.0 j)))
+  fact_same (Measured monitor field) i same = measured_same same.1 monitor field i same.0
+  fact_same (MeasuredLevel monitor field) i same = ap level_fact (measured_power_same same.1 monitor field i same.0)
+  fact_same (MeasuredMilliwatts monitor field) i same = ap milliwatts_fact (measured_power_same same.1 monitor field i same.0)
+  fact_same (Calibrates monitor) i same = λ j. Some (facts.yes (calibrates_same same monitor j))
+  fact_same (ModuleState field) i same = λ j. Some (facts.module_state (unsigned_abs (same.0 j)))
+  fact_same (PathState field) i same = λ j. Some (facts.path_state (unsigned_abs (same.0 j)))
+  fact_same (ConfigStatus field) i same = λ j. Some (facts.config_status (unsigned_abs (same.0 j)))
+  fact_same (FirstLane apps paths) i same = λ j. first_lane_fact (unsigned_abs (same.0 j)) (unsigned_abs (same.1.0 j))
+  fact_same (BitRate rate more) i same = λ j. bit_rate_fact (bit_rate (unsigned_abs (same.0 j)) (unsigned_abs (same.1.0 j)))
+  fact_same PowerClass i same = λ j. Some (facts.number (class_same same j))
+  fact_same ClassPower i same = λ j. Some (facts.amount (pos (power_same same j)) units.Watt)
 
-  lane_same : (name : List ℕ) (item : Item) (lane : ℕ) → item_in keys item lane ≡ true → value_in keys CIdentifier 1 ≡ true → lane_entries a name item lane ≡ lane_entries b name item lane
+  applies_same : (case : Case) → AreReadSame a b (case_reads case) → applies a case ≡ applies b case
+  applies_same (Within field i low high) same = λ j. is_within low high (unsigned_abs (same.0 j))
+  applies_same (Outside field i low high) same = λ j. not (is_within low high (unsigned_abs (same.0 j)))
+  applies_same (Neither field i k) same = λ j. not (unsigned_abs (same.0 j) == 1 || unsigned_abs (same.1.0 j) == 1)
+  applies_same (LacksSince field i since first) same = λ j. not (unsigned_abs (same.0 j) == 1) && nat_le first (unsigned_abs (same.1.0 j))
+
+module _ (a b : Memory) (keys : List Key) (all : KeysAgree a b keys) where
+  lane_same : (name : List ℕ) (item : Item) → read_in keys (Value CIdentifier 1) ≡ true → (lane : ℕ) → reads_in keys (item_reads item lane) ≡ true → lane_entries a name item lane ≡ lane_entries b name item lane
   unfolding lane_entries
-  lane_same name item lane e id =
-      let identifier = number_same CIdentifier 1 id in
-      let here = fact_same item lane e in
-      λ i. if nat_le lane (most_lanes (identifier i)) then fact_entries name (Lane lane) (here i) else []
-
-  lanes_same : (name : List ℕ) (item : Item) (lanes : List ℕ) → list_all (item_in keys item) lanes ≡ true → value_in keys CIdentifier 1 ≡ true
-      → flat_map (lane_entries a name item) lanes ≡ flat_map (lane_entries b name item) lanes
-  lanes_same name item lanes e id = each_same (lane_entries a name item) (lane_entries b name item) (item_in keys item) (λ lane e. lane_same name item lane e id) lanes e
+  lane_same name item id lane e =
+      let identifier = read_same a b keys all (Value CIdentifier 1) id in
+      let here = fact_same a b item lane (reads_same a b keys all (item_reads item lane) e) in
+      λ j. if nat_le lane (most_lanes (unsigned_abs (identifier j))) then fact_entries name (Lane lane) (here j) else []
 
   values_same : (name : List ℕ) (item : Item) (values : Values) → values_in keys item values ≡ true → values_entries a name item values ≡ values_entries b name item values
-  values_same name item (One i) e = ap (λ (f : Option Fact). fact_entries name Module f) (fact_same item i e)
+  values_same name item (One i) e = ap (λ (f : Option Fact). fact_entries name Module f) (fact_same a b item i (reads_same a b keys all (item_reads item i) e))
   values_same name item (Lanes n) e =
-      let parts = and_parts (list_all (item_in keys item) (range_with_len 1 n)) (value_in keys CIdentifier 1) e in
-      lanes_same name item (range_with_len 1 n) parts.0 parts.1
+      let parts = and_parts _ _ e in
+      each_same (lane_entries a name item) (lane_entries b name item) (λ lane. reads_in keys (item_reads item lane)) (lane_same name item parts.0) (range_with_len 1 n) parts.1
 
-  applies_same : (case : Case) → case_in keys case ≡ true → applies a case ≡ applies b case
-  applies_same (Within field i low high) e = ap (λ (n : ℕ). is_within low high n) (number_same field i e)
-  applies_same (Outside field i low high) e = ap (λ (n : ℕ). not (is_within low high n)) (number_same field i e)
-  applies_same (Neither field i j) e = numbers_same (λ one other. not (one == 1 || other == 1)) field field i j e
-  applies_same (LacksSince field i since first) e = numbers_same (λ set number. not (set == 1) && nat_le first number) field since i 1 e
-
-  any_same : (cases : List Case) → list_all (case_in keys) cases ≡ true → list_any (applies a) cases ≡ list_any (applies b) cases
+  any_same : (cases : List Case) → list_all (λ case. reads_in keys (case_reads case)) cases ≡ true → list_any (applies a) cases ≡ list_any (applies b) cases
   any_same [] e = refl
   any_same (case ∷ cases) e =
-      let parts = and_parts (case_in keys case) (list_all (case_in keys) cases) e in
-      let here = applies_same case parts.0 in
-      let later = any_same cases parts.1 in
-      λ i. here i || later i
+      let parts = and_parts _ _ e in
+      let here = applies_same a b case (reads_same a b keys all (case_reads case) parts.0) in
+      λ j. here j || any_same cases parts.1 j
 
   unless : (absent reads : Bool) (s t : Bool) (u v : List Entry) → (absent || reads) ≡ true → (reads ≡ true → (s ≡ t) × (u ≡ v)) → (if absent || s then [] else u) ≡ (if absent || t then [] else v)
   unless true reads s t u v e same = refl
-  unless false reads s t u v e same = let (test, said) = same e in λ i. if test i then [] else said i
+  unless false reads s t u v e same = let (test, said) = same e in λ j. if test j then [] else said j
 
   row_same : (flat : Bool) (row : Row) → detail_in flat keys row ≡ true → row_entries a flat row ≡ row_entries b flat row
   unfolding row_entries
   row_same flat row e =
-      unless (row.paged && flat) (list_all (case_in keys) row.cases && values_in keys row.item row.values) (list_any (applies a) row.cases) (list_any (applies b) row.cases)
-      (values_entries a row.name row.item row.values) (values_entries b row.name row.item row.values) e (λ reads.
-      let parts = and_parts (list_all (case_in keys) row.cases) (values_in keys row.item row.values) reads in
-      (any_same row.cases parts.0, values_same row.name row.item row.values parts.1))
+      unless (row.paged && flat) (row_reads_in keys row) (list_any (applies a) row.cases) (list_any (applies b) row.cases)
+      (values_entries a row.name row.item row.values) (values_entries b row.name row.item row.values) e
+      (λ reads. let parts = and_parts _ _ reads in (any_same row.cases parts.0, values_same row.name row.item row.values parts.1))
 
   pub details_same : (flat : Bool) (rows : List Row) → list_all (detail_in flat keys) rows ≡ true → rows_entries a flat rows ≡ rows_entries b flat rows
   details_same flat rows e = each_same (row_entries a flat) (row_entries b flat) (detail_in flat keys) (row_same flat) rows e

@@ -1,10 +1,10 @@
 -- Memories that agree in the halves that are read of a module are of the same family, and are refused for the same reasons.
-use Rattle.std.proofs.Common.{◌≡◌, ℕ, ◌==◌, ◌&&◌, Bool, true, false, List, [], ◌∷◌, Option, Some, None, refl, sym, ap, ◌∙◌, if◌then◌else◌}
-use Rattle.std.proofs.lemmas.Bool.{not-false}
+use Rattle.std.proofs.Common.{◌≡◌, ℕ, ◌==◌, ◌&&◌, Bool, true, false, List, [], ◌∷◌, map, Option, Some, None, refl, ap, subst, ◌∙◌, if◌then◌else◌}
+use Rattle.std.proofs.lemmas.Bool.{and_parts, not-false}
 use Rattle.std.specs.Prelude.{is_some, not, option_map}
-use Rattle.std.specs.List.{AllByRecursion}
+use Rattle.std.specs.List.{AllByRecursion, list_all}
 use Rattle.std.specs.Option.{option_or}
-use Rattle.bus_model.specs.declared.device.Dev.TheVariants.{A0, A2}
+use Rattle.bus_model.specs.declared.device.Dev.TheVariants.{A0}
 use Rattle.paged_memory.specs.declared.family.Family.{Family}
 use Rattle.paged_memory.specs.declared.family.Family.TheVariants.{Cmis, Sff8636, Sff8472}
 use Rattle.paged_memory.specs.Families.{family_by, is_family, is_other_cmis, managed_by}
@@ -18,7 +18,7 @@ use Rattle.field_tables.specs.Readings.{bit, number}
 use Rattle.field_tables.proofs.SameValues.{Agree, same_absent, same_number}
 use Rattle.applications.specs.Refusals.{is_read_revision}
 use Rattle.reports.specs.declared.fault.ReportFault.{ReportFault}
-use Rattle.reports.specs.Families.{detail_fault, lacks, reported, unread}
+use Rattle.reports.specs.Families.{detail_fault, reported, unread}
 use Rattle.reports.specs.Reports.{report_fault}
 use Rattle.module_decoding.specs.declared.module_family.ModuleFault.{ModuleFault}
 use Rattle.module_decoding.specs.declared.module_family.ModuleFault.TheVariants.{Absent, Unknown, Revision}
@@ -29,7 +29,10 @@ use Rattle.module_decoding.specs.CmisPages.{absent_page, is_flat}
 use Rattle.module_decoding.specs.Reports.{fault_in, fault_of}
 use Rattle.module_decoding.specs.ModuleFamilies as families
 use Rattle.module_decoding.specs.ModuleFamilies.{detail_family_of, family_of, identifier, known}
-use Rattle.module_reading.specs.Regions.{has_diagnostics}
+use Rattle.module_reading.specs.declared.region.Region.{Region}
+use Rattle.module_reading.specs.Regions.{cmis_regions, everything, has_diagnostics, key_of, qsfp_regions, regions_in, regions_of, sfp_regions}
+use Rattle.module_reading.proofs.RegionLaws.{begins_lower}
+use Rattle.reports.proofs.SameRows.{KeysAgree, agree_among, is_among}
 use Rattle.reports.specs.SameReports.{IsSame}
 
 -- ---- reasons in order
@@ -55,35 +58,46 @@ pub none_mapped : {A B : Type 0} (f : A → B) (x : Option A) → option_map f x
 none_mapped f None e = refl
 none_mapped f (Some x) e = absurd cc
 
-pub same_if : {A : Type 0} (f x y : Bool) (u v w : A) → x ≡ f → y ≡ f → (f ≡ false → v ≡ w) → (if x then u else v) ≡ (if y then u else w)
-same_if true x y u v w p q same = (λ i. if p i then u else v) ∙ sym (λ i. if q i then u else w)
-same_if false x y u v w p q same = (λ i. if p i then u else v) ∙ same refl ∙ sym (λ i. if q i then u else w)
-
 -- ---- the halves of a family
 
--- of a CMIS module
-pub record CmisAgree (a b : Memory) : Type 0 where
-  pub low : Agree a b (lower_key A0)
-  pub first : Agree a b (upper_key A0 0 0x00)
-  pub paged : is_flat a ≡ false → Agree a b (upper_key A0 0 0x01) × (Agree a b (upper_key A0 0 0x02) × Agree a b (upper_key A0 0 0x11))
+-- what tells which halves a module of this family has: that its memory is flat, or that it has diagnostics
+abbrev pub tells : Family → Memory → Bool
+tells Cmis memory = is_flat memory
+tells Sff8636 memory = bit memory QFlatMemory
+tells Sff8472 memory = has_diagnostics memory
 
--- of a module of SFF-8636
-pub record QsfpAgree (a b : Memory) : Type 0 where
-  pub low : Agree a b (lower_key A0)
-  pub first : Agree a b (upper_key A0 0 0x00)
-  pub paged : bit a QFlatMemory ≡ false → Agree a b (upper_key A0 0 0x03)
+abbrev pub keys_by : Family → Bool → List Key
+keys_by Cmis flat = map key_of (cmis_regions everything flat)
+keys_by Sff8636 flat = map key_of (qsfp_regions everything flat)
+keys_by Sff8472 diagnosed = map key_of (sfp_regions everything diagnosed)
 
--- of a module of SFF-8472
-pub record SfpAgree (a b : Memory) : Type 0 where
-  pub low : Agree a b (lower_key A0)
-  pub diagnostics : has_diagnostics a ≡ true → Agree a b (lower_key A2)
+-- the halves agree that are asked for of a module of this family
+abbrev pub FamilyAgrees : Memory → Memory → Family → Type 0
+FamilyAgrees a b family = (told : Bool) → tells family a ≡ told → KeysAgree a b (keys_by family told)
 
--- the halves agree that are asked for of a module by its family
-pub record FamilyAgrees (a b : Memory) : Type 0 where
-  pub low : Agree a b (lower_key A0)
-  pub cmis : managed_by (identifier a) ≡ Some Cmis → CmisAgree a b
-  pub qsfp : managed_by (identifier a) ≡ Some Sff8636 → QsfpAgree a b
-  pub sfp : managed_by (identifier a) ≡ Some Sff8472 → SfpAgree a b
+-- and of one that is found to be of it, or of none
+abbrev pub AllAgree : Memory → Memory → Type 0
+AllAgree a b = KeysAgree a b (map key_of (regions_of everything a))
+
+pub low_agrees : (a b : Memory) → AllAgree a b → Agree a b (lower_key A0)
+low_agrees a b all = (subst (λ (regions : List Region). KeysAgree a b (map key_of regions)) (begins_lower everything a) all).0
+
+pub family_agrees : (a b : Memory) (family : Family) → managed_by (identifier a) ≡ Some family → AllAgree a b → FamilyAgrees a b family
+family_agrees a b family managed all = by family (subst (λ (found : Option Family). KeysAgree a b (map key_of (regions_in everything found a))) managed all) where
+  by : (family : Family) → KeysAgree a b (map key_of (regions_in everything (Some family) a)) → FamilyAgrees a b family
+  by Cmis agree told is = subst (λ (flat : Bool). KeysAgree a b (keys_by Cmis flat)) is agree
+  by other agree told is = subst (λ (t : Bool). KeysAgree a b (keys_by other t)) is agree
+
+module _ (a b : Memory) (family : Family) (agree : FamilyAgrees a b family) where
+  pub half : (told : Bool) → tells family a ≡ told → (key : Key) → is_among (keys_by family told) key ≡ true → Agree a b key
+  half told is key e = agree_among a b (keys_by family told) (agree told is) key e
+
+  -- one that each module of the family has
+  pub common_half : (key : Key) → is_among (keys_by family true) key ≡ true → is_among (keys_by family false) key ≡ true → Agree a b key
+  common_half key told untold = by (tells family a) refl where
+    by : (told : Bool) → tells family a ≡ told → Agree a b key
+    by true is = half true is key told
+    by false is = half false is key untold
 
 -- a family that all reports may speak of is the one that manages the module
 pub is_managed : (id : ℕ) (family : Family) → family_by id ≡ Some family → managed_by id ≡ Some family
@@ -140,16 +154,19 @@ module _ (a b : Memory) (low : Agree a b (lower_key A0)) where
 
 -- ---- pages
 
-pub same_absences : (a b : Memory) (pages : List ℕ) → AllByRecursion (λ page. Agree a b (upper_key A0 0 page)) pages → absent_page pages a ≡ absent_page pages b
+same_absences : (a b : Memory) (keys : List Key) → KeysAgree a b keys → (pages : List ℕ) → list_all (λ page. is_among keys (upper_key A0 0 page)) pages ≡ true → absent_page pages a ≡ absent_page pages b
 unfolding absent_page
-same_absences a b [] all = refl
-same_absences a b (page ∷ pages) all =
-    let here = same_absent a b (upper_key A0 0 page) all.0 in
-    let later = same_absences a b pages all.1 in
-    λ i. if here i then Some (upper_key A0 0 page) else later i
+same_absences a b keys all [] e = refl
+same_absences a b keys all (page ∷ pages) e =
+    let parts = and_parts _ _ e in
+    let here = same_absent a b (upper_key A0 0 page) (agree_among a b keys all (upper_key A0 0 page) parts.0) in
+    λ i. if here i then Some (upper_key A0 0 page) else same_absences a b keys all pages parts.1 i
 
-pub same_pages : (a b : Memory) (pages : List ℕ) → AllByRecursion (λ page. Agree a b (upper_key A0 0 page)) pages → lacks (absent_page pages a) ≡ lacks (absent_page pages b)
-same_pages a b pages agree = ap (λ (page : Option Key). lacks page) (same_absences a b pages agree)
+-- of those that a CMIS module has, whose memory is flat or not
+pub same_absent_page : (a b : Memory) → Agree a b (lower_key A0) → FamilyAgrees a b Cmis → (pages : Bool → List ℕ) → ((flat : Bool) → list_all (λ page. is_among (keys_by Cmis flat) (upper_key A0 0 page)) (pages flat) ≡ true)
+    → absent_page (pages (is_flat a)) a ≡ absent_page (pages (is_flat b)) b
+same_absent_page a b low agree pages has =
+    same_absences a b (keys_by Cmis (is_flat a)) (agree (is_flat a) refl) (pages (is_flat a)) (has (is_flat a)) ∙ ap (λ (flat : Bool). absent_page (pages flat) b) (same_flat a b low)
 
 -- ---- by family
 
@@ -159,12 +176,10 @@ unfolding families.fault_in
 is_known a family is_read none = not-false (is_some family) (none_applies (families.faults_in family is_read a) none).1.0
 
 -- what holds in each family holds in the one that was found
-in_family : (P : Family → Type 0) (a b : Memory) → FamilyAgrees a b → (CmisAgree a b → P Cmis) → (QsfpAgree a b → P Sff8636) → (SfpAgree a b → P Sff8472)
+in_family : (P : Family → Type 0) (a b : Memory) → AllAgree a b → ((family : Family) → FamilyAgrees a b family → P family)
     → (found : Option Family) → ((family : Family) → found ≡ Some family → managed_by (identifier a) ≡ Some family) → is_some found ≡ true → P (known found)
-in_family P a b agrees cmis qsfp sfp (Some Cmis) managed some = cmis (agrees.cmis (managed Cmis refl))
-in_family P a b agrees cmis qsfp sfp (Some Sff8636) managed some = qsfp (agrees.qsfp (managed Sff8636 refl))
-in_family P a b agrees cmis qsfp sfp (Some Sff8472) managed some = sfp (agrees.sfp (managed Sff8472 refl))
-in_family P a b agrees cmis qsfp sfp None managed some = absurd cc
+in_family P a b all each (Some family) managed some = each family (family_agrees a b family (managed family refl) all)
+in_family P a b all each None managed some = absurd cc
 
 -- a report that is the same in the family that was found is the same
 in_found : {F A : Type 0} (fault : Memory → Option F) (found : Memory → Family) (fault_in : Family → Memory → Option F) (said_in : Family → Memory → A) (a b : Memory)
@@ -178,34 +193,34 @@ in_found {F} {A} fault found fault_in said_in a b same_fault same_found same = r
       (same none.0).said none.1 ∙ ap (λ (family : Family). said_in family b) same_found;
 }
 
--- a report that is the same in each family is the same
-pub by_family : {A : Type 0} (report : Report) (said_in : Family → Memory → A) (a b : Memory) → FamilyAgrees a b →
-    (CmisAgree a b → IsSame (fault_in report Cmis) (said_in Cmis) a b) → (QsfpAgree a b → IsSame (fault_in report Sff8636) (said_in Sff8636) a b) → (SfpAgree a b → IsSame (fault_in report Sff8472) (said_in Sff8472) a b) →
-    IsSame (report_fault report) (λ m. said_in (family_of m) m) a b
-unfolding report_fault fault_of families.module_fault family_of
-by_family {A} report said_in a b agrees cmis qsfp sfp = record {
-  fault = ap (option_map (λ (fault : DecodeFault). reported fault)) decoded.fault;
-  said = λ none. decoded.said (none_mapped (λ (fault : DecodeFault). reported fault) (fault_of report a) none);
-} where
-  same : option_map (λ (fault : ModuleFault). Module fault) (families.module_fault a) ≡ None → IsSame (fault_in report (family_of a)) (said_in (family_of a)) a b
-  same none =
-      let found = family_by (identifier a) in
-      let is_read = is_read_revision (number a CRevision) in
-      in_family (λ (family : Family). IsSame (fault_in report family) (said_in family) a b) a b agrees cmis qsfp sfp found (is_managed (identifier a))
-      (is_known a found is_read (none_mapped (λ (fault : ModuleFault). Module fault) (families.fault_in found is_read a) none))
+module _ {A : Type 0} (said_in : Family → Memory → A) (a b : Memory) (all : AllAgree a b) where
+  -- a report that is the same in each family is the same
+  pub by_family : (report : Report) → ((family : Family) → FamilyAgrees a b family → IsSame (fault_in report family) (said_in family) a b) → IsSame (report_fault report) (λ m. said_in (family_of m) m) a b
+  unfolding report_fault fault_of families.module_fault family_of
+  by_family report each = record {
+    fault = ap (option_map (λ (fault : DecodeFault). reported fault)) decoded.fault;
+    said = λ none. decoded.said (none_mapped (λ (fault : DecodeFault). reported fault) (fault_of report a) none);
+  } where
+    low : Agree a b (lower_key A0)
+    low = low_agrees a b all
 
-  decoded : IsSame (fault_of report) (λ m. said_in (family_of m) m) a b
-  decoded = in_found (λ (m : Memory). option_map (λ (fault : ModuleFault). Module fault) (families.module_fault m)) family_of (fault_in report) said_in a b (ap (option_map (λ (fault : ModuleFault). Module fault)) (same_module_fault a b agrees.low)) (same_family a b agrees.low) same
+    decoded : IsSame (fault_of report) (λ m. said_in (family_of m) m) a b
+    decoded =
+        let found = family_by (identifier a) in
+        let is_read = is_read_revision (number a CRevision) in
+        in_found (λ (m : Memory). option_map (λ (fault : ModuleFault). Module fault) (families.module_fault m)) family_of (fault_in report) said_in a b
+        (ap (option_map (λ (fault : ModuleFault). Module fault)) (same_module_fault a b low)) (same_family a b low)
+        (λ none. in_family (λ (family : Family). IsSame (fault_in report family) (said_in family) a b) a b all each found (is_managed (identifier a))
+        (is_known a found is_read (none_mapped (λ (fault : ModuleFault). Module fault) (families.fault_in found is_read a) none)))
 
--- so are details
-pub by_detail_family : {A : Type 0} (fault_in : Family → Memory → Option ReportFault) (said_in : Family → Memory → A) (a b : Memory) → FamilyAgrees a b →
-    (CmisAgree a b → IsSame (fault_in Cmis) (said_in Cmis) a b) → (QsfpAgree a b → IsSame (fault_in Sff8636) (said_in Sff8636) a b) → (SfpAgree a b → IsSame (fault_in Sff8472) (said_in Sff8472) a b) →
-    IsSame (λ m. option_or (detail_fault m) (fault_in (detail_family_of m) m)) (λ m. said_in (detail_family_of m) m) a b
-unfolding detail_fault families.detail_fault detail_family_of
-by_detail_family {A} fault_in said_in a b agrees cmis qsfp sfp =
-    in_found detail_fault detail_family_of fault_in said_in a b (same_detail_fault a b agrees.low) (same_detail_family a b agrees.low) same where
-      same : detail_fault a ≡ None → IsSame (fault_in (detail_family_of a)) (said_in (detail_family_of a)) a b
-      same none =
-          let found = managed_by (identifier a) in
-          in_family (λ (family : Family). IsSame (fault_in family) (said_in family) a b) a b agrees cmis qsfp sfp found (λ family is. is)
-          (is_known a found (families.is_detail_revision (number a CRevision)) (none_mapped (λ (fault : ModuleFault). unread fault) (families.fault_in found (families.is_detail_revision (number a CRevision)) a) none))
+  -- so are details
+  pub by_detail_family : (fault_in : Family → Memory → Option ReportFault) → ((family : Family) → FamilyAgrees a b family → IsSame (fault_in family) (said_in family) a b)
+      → IsSame (λ m. option_or (detail_fault m) (fault_in (detail_family_of m) m)) (λ m. said_in (detail_family_of m) m) a b
+  unfolding detail_fault families.detail_fault detail_family_of
+  by_detail_family fault_in each =
+      let low = low_agrees a b all in
+      let found = managed_by (identifier a) in
+      let is_read = families.is_detail_revision (number a CRevision) in
+      in_found detail_fault detail_family_of fault_in said_in a b (same_detail_fault a b low) (same_detail_family a b low)
+      (λ none. in_family (λ (family : Family). IsSame (fault_in family) (said_in family) a b) a b all each found (λ family is. is)
+      (is_known a found is_read (none_mapped (λ (fault : ModuleFault). unread fault) (families.fault_in found is_read a) none)))

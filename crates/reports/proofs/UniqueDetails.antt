@@ -1,6 +1,6 @@
 -- The keys of what rows say are some of those that the rows have, in their order; these are distinct, by a computed test.
-use Rattle.std.proofs.Common.{◌≡◌, ◌⊎◌, inl, inr, ℕ, Bool, true, false, not, ◌&&◌, List, [], ◌∷◌, ◌++◌, Option, None, Some, map, refl, sym, ap, subst, if◌then◌else◌, codes, ◌<◌, nat_lt, ◌+◌}
-use Rattle.std.proofs.lemmas.Bool.{and_parts, ltb-true, not-true}
+use Rattle.std.proofs.Common.{◌≡◌, ◌⊎◌, inl, inr, ℕ, Bool, true, false, not, ◌&&◌, List, [], ◌∷◌, ◌++◌, Option, None, Some, map, refl, sym, ap, subst, codes, ◌<◌, nat_lt, ◌+◌}
+use Rattle.std.proofs.lemmas.Bool.{and_parts, cond_both, ltb-true, not-true}
 use Rattle.std.proofs.lemmas.Fmt.{decimal_digit}
 use Rattle.std.specs.Prelude.{⊤}
 use Rattle.std.proofs.lemmas.List.{map-append}
@@ -116,15 +116,6 @@ each_part f keys small part (x ∷ xs) e =
     let whole = part_append (keys_of (f x)) (keys x) (keys_of (flat_map f xs)) (flat_map keys xs) (part x both.0) (each_part f keys small part xs both.1) in
     subst (λ (ks : List (List ℕ)). Part ks (keys x ++ flat_map keys xs)) (sym (map-append entry_key (f x) (flat_map f xs))) whole
 
--- and of entries that may be left out
-if_part : (has : Bool) (entries : List Entry) (ks : List (List ℕ)) → Part (keys_of entries) ks → Part (keys_of (if has then entries else [])) ks
-if_part true entries ks p = p
-if_part false entries ks p = tt
-
-unless_part : (absent : Bool) (entries : List Entry) (ks : List (List ℕ)) → Part (keys_of entries) ks → Part (keys_of (if absent then [] else entries)) ks
-unless_part true entries ks p = tt
-unless_part false entries ks p = p
-
 fact_part : (name : List ℕ) (place : Place) (found : Option Fact) → Part (keys_of (fact_entries name place found)) (key_text name place ∷ [])
 unfolding fact_entries entry
 fact_part name place None = tt
@@ -134,8 +125,9 @@ lane_part : (memory : Memory) (name : List ℕ) (item : Item) (lane : ℕ) → l
 unfolding lane_entries
 lane_part memory name item lane small =
     let said = fact_entries name (Lane lane) (fact_at memory item lane) in
-    if_part (has_lane memory lane) said (lane_key name lane ∷ [])
-    (subst (λ (key : List ℕ). Part (keys_of said) (key ∷ [])) (lane_key_text name lane small) (fact_part name (Lane lane) (fact_at memory item lane)))
+    cond_both (has_lane memory lane) said [] (λ (entries : List Entry). Part (keys_of entries) (lane_key name lane ∷ []))
+    (λ has. subst (λ (key : List ℕ). Part (keys_of said) (key ∷ [])) (lane_key_text name lane small) (fact_part name (Lane lane) (fact_at memory item lane)))
+    (λ lacks. tt)
 
 values_part : (memory : Memory) (name : List ℕ) (item : Item) (values : Values) → are_small values ≡ true → Part (keys_of (values_entries memory name item values)) (values_keys name values)
 values_part memory name item (One i) e = fact_part name Module (fact_at memory item i)
@@ -145,7 +137,8 @@ values_part memory name item (Lanes n) e =
 row_part : (memory : Memory) (flat : Bool) (row : Row) → are_small row.values ≡ true → Part (keys_of (row_entries memory flat row)) (row_keys row)
 unfolding row_entries
 row_part memory flat row e =
-    unless_part (is_left_out memory flat row) (values_entries memory row.name row.item row.values) (row_keys row) (values_part memory row.name row.item row.values e)
+    cond_both (is_left_out memory flat row) [] (values_entries memory row.name row.item row.values) (λ (entries : List Entry). Part (keys_of entries) (row_keys row))
+    (λ left_out. tt) (λ told. values_part memory row.name row.item row.values e)
 
 abbrev rows_small : List Row → Bool
 rows_small rows = list_all (λ (row : Row). are_small row.values) rows
