@@ -4,7 +4,9 @@
 
 #include <dirent.h>
 #include <err.h>
+#include <fcntl.h>
 #include <stdio_ext.h>
+#include <stdlib.h>
 #include <string.h>
 #include <unistd.h>
 
@@ -90,19 +92,29 @@ static void note_disk(const char *name, bool is_written) {
     snprintf(unwritten, sizeof unwritten, "%s", is_written ? "" : name);
 }
 
+/* Whether the file has the whole text, whenever there was room for it. */
+static bool write_file(const char *name, const char *text, size_t length) {
+    int file = open(name, O_WRONLY | O_CREAT | O_TRUNC | O_CLOEXEC, 0666);
+    ssize_t written;
+    if (file < 0) return false;
+    for (; length > 0 && (written = write(file, text, length)) > 0; length -= (size_t)written) text += written;
+    return close(file) == 0 && length == 0;
+}
+
 /* Whether it is in its place. */
 static bool put_file(const struct port *port, const char *ending, void (*print)(FILE *out, const struct port *port)) {
-    char name[WORDS_SIZE], made[WORDS_SIZE];
-    snprintf(name, sizeof name, "%s/%s.%s", folder, port->entry.name, ending);
-    snprintf(made, sizeof made, "%s/.%s.%s", folder, port->entry.name, ending);
-    FILE *out = fopen(made, "we");
-    if (out == NULL) return note_disk(name, false), false;
+    char name[WORDS_SIZE], made[WORDS_SIZE], *text = NULL;
+    size_t length;
+    FILE *out = open_memstream(&text, &length);
+    if (out == NULL) return false;
     __fsetlocking(out, FSETLOCKING_BYCALLER); /* no other thread has it */
     print(out, port);
-    bool is_whole = !ferror(out);
-    is_whole = fclose(out) == 0 && is_whole && rename(made, name) == 0;
+    snprintf(name, sizeof name, "%s/%s.%s", folder, port->entry.name, ending);
+    snprintf(made, sizeof made, "%s/.%s.%s", folder, port->entry.name, ending);
+    bool is_whole = fclose(out) == 0 && write_file(made, text, length) && rename(made, name) == 0;
     note_disk(name, is_whole);
     if (!is_whole) unlink(made);
+    free(text);
     return is_whole;
 }
 

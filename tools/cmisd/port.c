@@ -39,6 +39,10 @@ struct port *port_of(const char *name) {
     return NULL;
 }
 
+static bool is_same_file(const struct stat *one, const struct stat *other) {
+    return one->st_dev == other->st_dev && one->st_ino == other->st_ino;
+}
+
 /* The port whose bus is this file, whatever name that is given. */
 struct port *port_on(const char *bus) {
     struct stat wanted, about;
@@ -46,8 +50,7 @@ struct port *port_on(const char *bus) {
     for (struct port *each = ports; each != NULL; each = each->next) {
         if (each->is_retired || stat(each->entry.bus, &about) != 0) continue;
         bool is_device = S_ISCHR(wanted.st_mode) && S_ISCHR(about.st_mode);
-        bool is_same_file = about.st_dev == wanted.st_dev && about.st_ino == wanted.st_ino;
-        if (is_device ? about.st_rdev == wanted.st_rdev : is_same_file) return each;
+        if (is_device ? about.st_rdev == wanted.st_rdev : is_same_file(&about, &wanted)) return each;
     }
     return NULL;
 }
@@ -100,12 +103,11 @@ static void reopen(struct port *port) {
     port->reopens_in = port->is_open ? SECOND : port->reopens_in < LONGEST ? 2 * port->reopens_in : LONGEST;
 }
 
-/* Whether the driver optoe has made its file anew: it answers nothing by the one that is open. */
+/* Whether a driver has made its file anew: nothing is answered by the one that is open. */
 static bool has_other_file(const struct port *port) {
     struct stat opened, named;
-    bool is_known = port->bus.carry == transact_in_a_row && fstat(port->bus.file, &opened) == 0;
-    if (!is_known || stat(port->entry.bus, &named) != 0) return false;
-    return opened.st_ino != named.st_ino || opened.st_dev != named.st_dev;
+    bool are_known = fstat(port->bus.file, &opened) == 0 && stat(port->entry.bus, &named) == 0;
+    return are_known && !is_same_file(&opened, &named);
 }
 
 /* Makes an operation, while others use the state. Answers when it began. */
