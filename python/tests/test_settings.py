@@ -299,6 +299,7 @@ FILE = {
                 "GOOD-PART1": {"OutputEqPreCursorTargetRx": EACH},
                 "GOOD": {"OutputEqPostCursorTargetRx": {"lane0": "0x2", "lane7": "1"}},
             },
+            "KNOWN": {"CDREnableTx": {"lane2": 1}},
             "Default": {"OutputAmplitudeTargetRx": {"OutputAmplitudeTargetRx8": 2}},
         }
     },
@@ -333,6 +334,7 @@ def written(tmp_path: pathlib.Path, found: object) -> SignalSettings:
         ("GOOD", "PART2", "100G", 31, {0: LaneSignal(post_cursor=2), 7: LaneSignal(post_cursor=1)}),
         ("GOOD", "PART1", "50G", 15, {7: LaneSignal(amplitude=2)}),
         ("OTHER", "PART1", "100G", 3, {7: LaneSignal(amplitude=2)}),
+        ("KNOWN", "PART1", "100G", 3, {2: LaneSignal(recover_tx=True)}),
         ("GOOD", "PART1", "100G", 4, {1: LaneSignal(recover_rx=True)}),
     ],
 )

@@ -100,6 +100,7 @@ def test_a_notebook_shows_a_table() -> None:
     assert advertised["applications 2, number"] == "2"
     assert advertised["unsupported"] == str(DR4.advertisement().unsupported)
     assert not [name for name in cells_of(DR8.flags()._repr_html_()) if "None" in name]
+    assert "path states" not in cells_of(example("sfp_10g_lr.txt").flags()._repr_html_())
 
 
 def test_a_table_shows_a_text_as_it_is() -> None:
