@@ -1,24 +1,29 @@
 -- What a module is, as C sees it. (docs/firmware.md, "Decoders"; OIF-CMIS-05.0, "Administrative Information
 -- (Page 00h)"; SFF-8636, "Upper Page 00h"; SFF-8472, "Serial ID: Data Fields")
-use Rattle.std.specs.Prelude.{◌+◌, pos, None}
+use Rattle.std.specs.Prelude.{ℕ, ◌+◌, pos, Option, Some, None}
 use Rattle.paged_memory.specs.declared.family.Family.{Family}
-use Rattle.paged_memory.specs.declared.family.Family.TheVariants.{Cmis, Sff8636, Sff8472}
+use Rattle.paged_memory.specs.declared.family.Family.TheVariants as families
 use Rattle.paged_memory.specs.Images.{Memory}
 use Rattle.field_tables.specs.declared.field.Field.TheVariants as fields
-use Rattle.field_tables.specs.declared.field.Sum.TheVariants as sums
-use Rattle.field_tables.specs.declared.field.TextField.TheVariants as texts
+use Rattle.field_tables.specs.declared.field.Sum.{Sum}
 use Rattle.field_tables.specs.Readings.{all_numbers, is_sum_right, number, text}
 use Rattle.module_decoding.specs.Amounts.{amount_at, length_in}
 use Rattle.module_decoding.specs.CmisPages.{is_flat}
 use Rattle.module_decoding.specs.ModuleFamilies.{family_of}
+use Rattle.module_decoding.specs.SharedFields.{shared_fields}
+use Rattle.module_decoding.specs.declared.shared_fields.SharedFields.{SharedFields}
 use Rattle.firmware_api.specs.declared.identity.ModuleIdentity.{ModuleIdentity}
-use Rattle.firmware_api.specs.declared.identity.SharedFields.{SharedFields}
 use Rattle.firmware_api.specs.ShownTexts.{shown_text}
 use Rattle.firmware_api.specs.Statuses.{family_number, number_of}
 
+-- a sum that the family doesn't have is not right
+abbrev pub sum_number : Memory → Option Sum → ℕ
+sum_number memory None = 0
+sum_number memory (Some sum) = number_of (is_sum_right memory sum)
+
 -- what modules of every family say, by the fields that have it; what only some say is 0
-abbrev pub shared_identity : Memory → Family → SharedFields → ModuleIdentity
-shared_identity memory family at = record {
+abbrev identity_at : Memory → Family → SharedFields → ModuleIdentity
+identity_at memory family at = record {
   max_power = pos 0;
   length = pos 0;
   family = family_number family;
@@ -30,7 +35,7 @@ shared_identity memory family at = record {
   connector = number memory at.connector;
   technology = 0;
   sum_base = number_of (is_sum_right memory at.sum_base);
-  sum_ext = 0;
+  sum_ext = sum_number memory at.sum_ext;
   oui = all_numbers memory at.oui;
   vendor = shown_text (text memory at.vendor);
   part = shown_text (text memory at.part);
@@ -39,47 +44,11 @@ shared_identity memory family at = record {
   date = shown_text (text memory at.date);
 }
 
-abbrev pub cmis_fields : SharedFields
-cmis_fields = record {
-  identifier = fields.CIdentifier;
-  connector = fields.CConnector;
-  oui = fields.COui;
-  sum_base = sums.CSum00;
-  vendor = texts.CVendor;
-  part = texts.CPart;
-  part_revision = texts.CPartRevision;
-  serial = texts.CSerial;
-  date = texts.CDate;
-}
-
-abbrev pub qsfp_fields : SharedFields
-qsfp_fields = record {
-  identifier = fields.QIdentifier;
-  connector = fields.QConnector;
-  oui = fields.QOui;
-  sum_base = sums.QSumBase;
-  vendor = texts.QVendor;
-  part = texts.QPart;
-  part_revision = texts.QPartRevision;
-  serial = texts.QSerial;
-  date = texts.QDate;
-}
-
-abbrev pub sfp_fields : SharedFields
-sfp_fields = record {
-  identifier = fields.SIdentifier;
-  connector = fields.SConnector;
-  oui = fields.SOui;
-  sum_base = sums.SSumBase;
-  vendor = texts.SVendor;
-  part = texts.SPart;
-  part_revision = texts.SPartRevision;
-  serial = texts.SSerial;
-  date = texts.SDate;
-}
+abbrev pub shared_identity : Memory → Family → ModuleIdentity
+shared_identity memory family = identity_at memory family (shared_fields family)
 
 abbrev pub cmis_identity : Memory → ModuleIdentity
-cmis_identity memory = record (shared_identity memory Cmis cmis_fields) {
+cmis_identity memory = record (shared_identity memory families.Cmis) {
   max_power = amount_at memory fields.CMaxPower None 1;
   length = length_in memory fields.CLengthBase fields.CLengthMultiplier;
   revision = number memory fields.CRevision;
@@ -90,9 +59,8 @@ cmis_identity memory = record (shared_identity memory Cmis cmis_fields) {
 }
 
 abbrev pub identity_of : Family → Memory → ModuleIdentity
-identity_of Cmis memory = cmis_identity memory
-identity_of Sff8636 memory = record (shared_identity memory Sff8636 qsfp_fields) { sum_ext = number_of (is_sum_right memory sums.QSumExt) }
-identity_of Sff8472 memory = record (shared_identity memory Sff8472 sfp_fields) { sum_ext = number_of (is_sum_right memory sums.SSumExt) }
+identity_of families.Cmis memory = cmis_identity memory
+identity_of family memory = shared_identity memory family
 
 -- by its family
 unfoldable pub identity_in : Memory → ModuleIdentity

@@ -1,6 +1,4 @@
-ghost use Rattle.std.specs.Prelude.{◌≡◌, ◌≢◌, IsTrue};
-ghost use Rattle.field_tables.specs.FieldRows.{row_of};
-ghost use Rattle.field_tables.specs.Readings.{is_of_bytes};
+ghost use Rattle.std.specs.Prelude.{◌≡◌, ◌≢◌};
 ghost use Rattle.module_decoding.specs.declared.report.Report.TheVariants.{Inventory};
 ghost use Rattle.firmware_api.specs.Halves.{memory_of, report_refusal};
 ghost use Rattle.firmware_api.specs.Identities as spec;
@@ -13,8 +11,8 @@ use crate::half::{HalfBytes, half_status, image_of};
 use crate::read_module::{family_number, number_of};
 use crate::shown_texts::put_text;
 use crate::status::{DONE, decode_status};
-use field_tables::{Field, Sum, TextField, all_numbers, is_sum_right, number};
-use module_decoding::{Report, amount_at, family_with, is_flat, length_in};
+use field_tables::{Field, Sum, all_numbers, is_sum_right, number};
+use module_decoding::{Report, amount_at, family_with, is_flat, length_in, shared_fields};
 use paged_memory::{Family, Image};
 
 /// What a module is. Amounts are in thousandths of a watt and of a metre. What only CMIS has is 0 for other modules.
@@ -42,20 +40,6 @@ pub struct ModuleIdentity {
     pub part_revision: [u8; 17],
     pub serial: [u8; 17],
     pub date: [u8; 17],
-}
-
-// Where a family keeps what modules of every family say of themselves.
-#[derive(Clone, Copy)]
-pub struct SharedFields {
-    pub identifier: Field,
-    pub connector: Field,
-    pub oui: Field,
-    pub sum_base: Sum,
-    pub vendor: TextField,
-    pub part: TextField,
-    pub part_revision: TextField,
-    pub serial: TextField,
-    pub date: TextField,
 }
 
 /// Puts into `identity` what the module whose memory has these halves is.
@@ -92,21 +76,14 @@ fn put_identity_of(family: Family, image: &Image, identity: &mut ModuleIdentity)
 {
     match family {
         Family::Cmis => put_cmis(image, identity),
-        Family::Sff8636 => {
-            put_shared(image, Family::Sff8636, &QSFP, identity);
-            identity.sum_ext = number_of(is_sum_right(image, Sum::QSumExt));
-        }
-        Family::Sff8472 => {
-            put_shared(image, Family::Sff8472, &SFP, identity);
-            identity.sum_ext = number_of(is_sum_right(image, Sum::SSumExt));
-        }
+        Family::Sff8636 | Family::Sff8472 => put_shared(image, family, identity),
     }
 }
 
 fn put_cmis(image: &Image, identity: &mut ModuleIdentity)
     ensures { identity.new ≡ spec.cmis_identity image.now }
 {
-    put_shared(image, Family::Cmis, &CMIS, identity);
+    put_shared(image, Family::Cmis, identity);
     identity.max_power = amount_at(image, Field::CMaxPower, None, 1);
     identity.length = length_in(image, Field::CLengthBase, Field::CLengthMultiplier);
     identity.revision = number(image, Field::CRevision);
@@ -115,42 +92,6 @@ fn put_cmis(image: &Image, identity: &mut ModuleIdentity)
     identity.power_class = number(image, Field::CPowerClass) + 1;
     identity.technology = number(image, Field::CTechnology);
 }
-
-const CMIS: SharedFields = SharedFields {
-    identifier: Field::CIdentifier,
-    connector: Field::CConnector,
-    oui: Field::COui,
-    sum_base: Sum::CSum00,
-    vendor: TextField::CVendor,
-    part: TextField::CPart,
-    part_revision: TextField::CPartRevision,
-    serial: TextField::CSerial,
-    date: TextField::CDate,
-};
-
-const QSFP: SharedFields = SharedFields {
-    identifier: Field::QIdentifier,
-    connector: Field::QConnector,
-    oui: Field::QOui,
-    sum_base: Sum::QSumBase,
-    vendor: TextField::QVendor,
-    part: TextField::QPart,
-    part_revision: TextField::QPartRevision,
-    serial: TextField::QSerial,
-    date: TextField::QDate,
-};
-
-const SFP: SharedFields = SharedFields {
-    identifier: Field::SIdentifier,
-    connector: Field::SConnector,
-    oui: Field::SOui,
-    sum_base: Sum::SSumBase,
-    vendor: TextField::SVendor,
-    part: TextField::SPart,
-    part_revision: TextField::SPartRevision,
-    serial: TextField::SSerial,
-    date: TextField::SDate,
-};
 
 const NO_IDENTITY: ModuleIdentity = ModuleIdentity {
     max_power: 0,
@@ -173,26 +114,32 @@ const NO_IDENTITY: ModuleIdentity = ModuleIdentity {
     date: [0; 17],
 };
 
-// What is in these fields; all else is 0, also what stands between the members.
+// What modules of every family say; all else is 0, also what stands between the members.
 #[inline(never)]
-fn put_shared(image: &Image, family: Family, fields: &SharedFields, identity: &mut ModuleIdentity)
-    requires identifier { IsTrue (is_of_bytes (row_of fields.now.identifier)) }
-    requires one_identifier { 1 ≡ (row_of fields.now.identifier).count }
-    requires connector { IsTrue (is_of_bytes (row_of fields.now.connector)) }
-    requires one_connector { 1 ≡ (row_of fields.now.connector).count }
-    requires oui { IsTrue (is_of_bytes (row_of fields.now.oui)) }
-    requires three { 3 ≡ (row_of fields.now.oui).count }
-    ensures { identity.new ≡ shared_identity image.now family fields.now }
+fn put_shared(image: &Image, family: Family, identity: &mut ModuleIdentity)
+    ensures { identity.new ≡ shared_identity image.now family }
 {
+    let fields = shared_fields(family);
     *identity = NO_IDENTITY;
     identity.family = family_number(family);
     identity.identifier = number(image, fields.identifier);
     identity.connector = number(image, fields.connector);
     identity.sum_base = number_of(is_sum_right(image, fields.sum_base));
+    identity.sum_ext = sum_number(image, fields.sum_ext);
     identity.oui = all_numbers(image, fields.oui);
     put_text(image, fields.vendor, &mut identity.vendor);
     put_text(image, fields.part, &mut identity.part);
     put_text(image, fields.part_revision, &mut identity.part_revision);
     put_text(image, fields.serial, &mut identity.serial);
     put_text(image, fields.date, &mut identity.date);
+}
+
+// Whether a sum is right, if there is one.
+fn sum_number(image: &Image, sum: Option<Sum>) -> u8
+    ensures { result ≡ spec.sum_number image.now sum }
+{
+    match sum {
+        Some(sum) => number_of(is_sum_right(image, sum)),
+        None => 0,
+    }
 }

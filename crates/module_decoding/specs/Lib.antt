@@ -3,3 +3,4 @@ pub mod CmisPages
 pub mod Amounts
 pub mod PaddedTexts
 pub mod Reports
+pub mod SharedFields

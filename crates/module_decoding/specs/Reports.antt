@@ -3,7 +3,7 @@
 use Rattle.std.specs.Prelude.{ℕ, Bool, List, [], ◌∷◌, Option, option_map}
 use Rattle.std.specs.Option.{option_or}
 use Rattle.paged_memory.specs.declared.family.Family.{Family}
-use Rattle.paged_memory.specs.declared.family.Family.TheVariants.{Cmis, Sff8636, Sff8472}
+use Rattle.paged_memory.specs.declared.family.Family.TheVariants as families
 use Rattle.paged_memory.specs.declared.key.Key.{Key}
 use Rattle.paged_memory.specs.Images.{Memory}
 use Rattle.field_tables.specs.declared.sff_fault.SffFault.{SffFault}
@@ -44,9 +44,9 @@ sff8472_fault Flags memory = sff8472.flags_fault memory
 
 -- of a module of this family
 abbrev pub fault_in : Report → Family → Memory → Option DecodeFault
-fault_in report Cmis memory = lacked (absent_page (pages_of report (is_flat memory)) memory)
-fault_in report Sff8636 memory = of_sff (sff8636_fault report memory)
-fault_in report Sff8472 memory = of_sff (sff8472_fault report memory)
+fault_in report families.Cmis memory = lacked (absent_page (pages_of report (is_flat memory)) memory)
+fault_in report families.Sff8636 memory = of_sff (sff8636_fault report memory)
+fault_in report families.Sff8472 memory = of_sff (sff8472_fault report memory)
 
 unfoldable pub fault_of : Report → Memory → Option DecodeFault
 fault_of report memory = option_or (option_map (λ fault. Module fault) (module_fault memory)) (fault_in report (family_of memory) memory)
