@@ -48,6 +48,9 @@ module_value memory limited field limits = record {
   limits = limits_in memory limited limits None;
 }
 
+abbrev pub no_value : ModuleValue
+no_value = record { value = pos 0; limits = no_limits }
+
 -- 0 in a lane that the module doesn't have
 abbrev pub value_at : Memory → Field → Option Field → ℕ → ℤ
 value_at memory field power lane = if nat_le lane (row_of field).count then amount_at memory field power lane else pos 0

@@ -4,7 +4,7 @@
 -- Diagnostic and Control Registers" and "Alarm and Warning Thresholds")
 use Rattle.std.specs.Prelude.{not, if◌then◌else◌, Bool, true, false, Some, None}
 use Rattle.paged_memory.specs.declared.family.Family.{Family}
-use Rattle.paged_memory.specs.declared.family.Family.TheVariants.{Cmis, Sff8636, Sff8472}
+use Rattle.paged_memory.specs.declared.family.Family.TheVariants as families
 use Rattle.paged_memory.specs.Images.{Memory}
 use Rattle.field_tables.specs.declared.field.Field.TheVariants as fields
 use Rattle.field_tables.specs.declared.field.Sum.TheVariants as sums
@@ -13,21 +13,29 @@ use Rattle.module_decoding.specs.CmisPages.{is_flat}
 use Rattle.module_decoding.specs.ModuleFamilies.{family_of}
 use Rattle.firmware_api.specs.declared.monitors.MeasuredFields.{MeasuredFields}
 use Rattle.firmware_api.specs.declared.monitors.ModuleMonitors.{ModuleMonitors}
-use Rattle.firmware_api.specs.MeasuredValues.{lane_values, module_value, no_lane_values, supported_values, unsupported}
+use Rattle.firmware_api.specs.MeasuredValues.{lane_values, module_value, no_lane_values, no_value, supported_values, unsupported}
 use Rattle.firmware_api.specs.Statuses.{family_number, number_of}
 
--- a CMIS module itself, which has limits or has none
-abbrev pub own_monitors : Memory → Bool → ModuleMonitors
-own_monitors memory limited = record {
-  temperature = module_value memory limited fields.CTemperature fields.CTempLimits;
-  vcc = module_value memory limited fields.CVcc fields.CVccLimits;
+-- what a module doesn't tell is 0
+abbrev pub no_monitors : ModuleMonitors
+no_monitors = record {
+  temperature = no_value;
+  vcc = no_value;
   tx_power = no_lane_values unsupported;
   tx_bias = no_lane_values unsupported;
   rx_power = no_lane_values unsupported;
-  family = family_number Cmis;
+  family = 0;
   lanes = 0;
   has_limits = 0;
   sum = 0;
+}
+
+-- a CMIS module itself, which has limits or has none
+abbrev pub own_monitors : Memory → Bool → ModuleMonitors
+own_monitors memory limited = record no_monitors {
+  temperature = module_value memory limited fields.CTemperature fields.CTempLimits;
+  vcc = module_value memory limited fields.CVcc fields.CVccLimits;
+  family = family_number families.Cmis;
 }
 
 abbrev pub paged_monitors : Memory → ModuleMonitors
@@ -44,18 +52,14 @@ paged_monitors memory = record (own_monitors memory true) {
 unfoldable pub cmis_monitors : Memory → ModuleMonitors
 cmis_monitors memory = if is_flat memory then own_monitors memory false else paged_monitors memory
 
--- what is measured, by the fields that have it, and zeros
+-- what is measured, by the fields that have it
 abbrev pub measured : Memory → Bool → MeasuredFields → ModuleMonitors
-measured memory limited at = record {
+measured memory limited at = record no_monitors {
   temperature = module_value memory limited at.temperature at.temperature_limits;
   vcc = module_value memory limited at.vcc at.vcc_limits;
   tx_power = lane_values memory limited at.tx_power None at.tx_power_limits;
   tx_bias = lane_values memory limited at.tx_bias None at.tx_bias_limits;
   rx_power = lane_values memory limited at.rx_power None at.rx_power_limits;
-  family = 0;
-  lanes = 0;
-  has_limits = 0;
-  sum = 0;
 }
 
 -- limits stand on a page that flat memory doesn't have
@@ -69,7 +73,7 @@ qsfp_monitors memory = record {
   tx_power = lane_values memory (qsfp_has_limits memory) fields.QTxPower None fields.QTxPowerLimits;
   tx_bias = lane_values memory (qsfp_has_limits memory) fields.QTxBias None fields.QTxBiasLimits;
   rx_power = lane_values memory (qsfp_has_limits memory) fields.QRxPower None fields.QRxPowerLimits;
-  family = family_number Sff8636;
+  family = family_number families.Sff8636;
   lanes = 4;
   has_limits = number_of (qsfp_has_limits memory);
   sum = 0;
@@ -82,16 +86,16 @@ sfp_monitors memory = record {
   tx_power = lane_values memory true fields.STxPower None fields.STxPowerLimits;
   tx_bias = lane_values memory true fields.STxBias None fields.STxBiasLimits;
   rx_power = lane_values memory true fields.SRxPower None fields.SRxPowerLimits;
-  family = family_number Sff8472;
+  family = family_number families.Sff8472;
   lanes = 1;
   has_limits = 1;
   sum = number_of (is_sum_right memory sums.SSumDmi);
 }
 
 abbrev pub monitors_of : Family → Memory → ModuleMonitors
-monitors_of Cmis memory = cmis_monitors memory
-monitors_of Sff8636 memory = qsfp_monitors memory
-monitors_of Sff8472 memory = sfp_monitors memory
+monitors_of families.Cmis memory = cmis_monitors memory
+monitors_of families.Sff8636 memory = qsfp_monitors memory
+monitors_of families.Sff8472 memory = sfp_monitors memory
 
 -- by the family
 unfoldable pub monitors_in : Memory → ModuleMonitors

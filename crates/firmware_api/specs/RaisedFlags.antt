@@ -3,7 +3,7 @@
 -- Command Status"; SFF-8636, "Interrupt Flags"; SFF-8472, "Alarm and Warning Flag Bits")
 use Rattle.std.specs.Prelude.{ℕ, ◌+◌, if◌then◌else◌, List, [], ◌∷◌}
 use Rattle.paged_memory.specs.declared.family.Family.{Family}
-use Rattle.paged_memory.specs.declared.family.Family.TheVariants.{Cmis, Sff8636, Sff8472}
+use Rattle.paged_memory.specs.declared.family.Family.TheVariants as families
 use Rattle.paged_memory.specs.Images.{Memory}
 use Rattle.field_tables.specs.declared.field.Field.{Field}
 use Rattle.field_tables.specs.declared.field.Field.TheVariants as fields
@@ -76,7 +76,7 @@ no_flags = record {
 -- with flat memory it tells nothing of its lanes
 abbrev pub flat_flags : Memory → ModuleFlags
 flat_flags memory = record no_flags {
-  family = family_number Cmis;
+  family = family_number families.Cmis;
   state = number memory fields.CModuleState;
   temperature = past_limits memory fields.CModuleFlag 1;
   vcc = past_limits memory fields.CModuleFlag 5;
@@ -101,7 +101,7 @@ paged_flags memory = record (flat_flags memory) {
 
 abbrev pub qsfp_flags : Memory → ModuleFlags
 qsfp_flags memory = record no_flags {
-  family = family_number Sff8636;
+  family = family_number families.Sff8636;
   lanes = 4;
   tx_fault = four_lanes memory fields.QTxFault;
   tx_los = four_lanes memory fields.QTxLos;
@@ -117,7 +117,7 @@ qsfp_flags memory = record no_flags {
 
 abbrev pub sfp_flags : Memory → ModuleFlags
 sfp_flags memory = record no_flags {
-  family = family_number Sff8472;
+  family = family_number families.Sff8472;
   lanes = 1;
   tx_fault = lane_bit memory fields.STxFault 1 1;
   rx_los = lane_bit memory fields.SRxLos 1 1;
@@ -132,9 +132,9 @@ unfoldable pub cmis_flags : Memory → ModuleFlags
 cmis_flags memory = if is_flat memory then flat_flags memory else paged_flags memory
 
 abbrev pub flags_of : Family → Memory → ModuleFlags
-flags_of Cmis memory = cmis_flags memory
-flags_of Sff8636 memory = qsfp_flags memory
-flags_of Sff8472 memory = sfp_flags memory
+flags_of families.Cmis memory = cmis_flags memory
+flags_of families.Sff8636 memory = qsfp_flags memory
+flags_of families.Sff8472 memory = sfp_flags memory
 
 -- by the family
 unfoldable pub flags_in : Memory → ModuleFlags

@@ -6,7 +6,7 @@ use Rattle.applications.specs.declared.fault.AdvertFault.TheVariants.{NotCmis, R
 use Rattle.applications.specs.declared.weights.lines.WeightLinesFault.{WeightLinesFault}
 use Rattle.applications.specs.declared.weights.lines.WeightLinesFault.TheVariants as weights_fault
 use Rattle.paged_memory.specs.declared.family.Family.{Family}
-use Rattle.paged_memory.specs.declared.family.Family.TheVariants.{Cmis, Sff8636, Sff8472}
+use Rattle.paged_memory.specs.declared.family.Family.TheVariants as families
 use Rattle.field_tables.specs.declared.sff_fault.SffFault.{SffFault}
 use Rattle.field_tables.specs.declared.sff_fault.SffFault.TheVariants as sff_fault
 use Rattle.module_decoding.specs.declared.module_family.ModuleFault.{ModuleFault}
@@ -24,9 +24,9 @@ use Rattle.firmware_api.specs.declared.status.Refusal.{Refusal}
 use Rattle.firmware_api.specs.declared.status.Refusal.TheVariants.{TooManyHalves, NoPlace, NoText, TooSmall, Advert, Certificate, TooManyKept, KeptNotAdmissible, NoConversation, Ended, NotEnded, NoReply, TooFewBytes, NoStart, NoModule, NoRange, NotTaken, Decode, Weights, Settings}
 
 abbrev pub family_number : Family → ℕ
-family_number Cmis = 1
-family_number Sff8636 = 2
-family_number Sff8472 = 3
+family_number families.Cmis = 1
+family_number families.Sff8636 = 2
+family_number families.Sff8472 = 3
 
 -- C knows no Bool
 abbrev pub number_of : Bool → ℕ
