@@ -11,7 +11,7 @@ use Rattle.module_decoding.specs.Amounts.{amount_at, length_in}
 use Rattle.module_decoding.specs.CmisPages.{is_flat}
 use Rattle.module_decoding.specs.ModuleFamilies.{family_of}
 use Rattle.module_decoding.specs.SharedFields.{shared_fields}
-use Rattle.module_decoding.specs.declared.shared_fields.SharedFields.{SharedFields}
+use Rattle.module_decoding.specs.declared.shared.SharedFields.{SharedFields}
 use Rattle.firmware_api.specs.declared.identity.ModuleIdentity.{ModuleIdentity}
 use Rattle.firmware_api.specs.ShownTexts.{shown_text}
 use Rattle.firmware_api.specs.Statuses.{family_number, number_of}

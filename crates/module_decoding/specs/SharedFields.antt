@@ -11,7 +11,7 @@ use Rattle.field_tables.specs.declared.field.TextField.{TextField}
 use Rattle.field_tables.specs.declared.field.TextField.TheVariants as texts
 use Rattle.field_tables.specs.FieldRows.{row_of}
 use Rattle.field_tables.specs.Readings.{is_of_bytes}
-use Rattle.module_decoding.specs.declared.shared_fields.SharedFields.{SharedFields}
+use Rattle.module_decoding.specs.declared.shared.SharedFields.{SharedFields}
 
 abbrev line : Field → Field → Field → Sum → Option Sum → TextField → TextField → TextField → TextField → TextField → SharedFields
 line identifier connector oui base ext vendor part revision serial date = record {

@@ -3,7 +3,7 @@ use Rattle.std.specs.Prelude.{ℕ, ◌&&◌, not, if◌then◌else◌, List, Opt
 use Rattle.std.specs.Option.{option_or}
 use Rattle.bus_model.specs.declared.device.Dev.TheVariants.{A2}
 use Rattle.paged_memory.specs.declared.family.Family.{Family}
-use Rattle.paged_memory.specs.declared.family.Family.TheVariants.{Cmis, Sff8636, Sff8472}
+use Rattle.paged_memory.specs.declared.family.Family.TheVariants as families
 use Rattle.paged_memory.specs.Images.{Memory}
 use Rattle.paged_memory.specs.Keys.{lower_key}
 use Rattle.field_tables.specs.Halves.{is_absent}
@@ -25,14 +25,14 @@ absent_diagnostics memory =
 
 -- why there is none of a module of this family
 abbrev pub fault_in : Family → Memory → Option ReportFault
-fault_in Cmis memory = lacks (absent_page (detail_pages memory) memory)
-fault_in Sff8636 memory = of_sff (sff8636_refusals.identity_fault memory)
-fault_in Sff8472 memory = option_or (of_sff (sff8472_refusals.module_fault memory)) (absent_diagnostics memory)
+fault_in families.Cmis memory = lacks (absent_page (detail_pages memory) memory)
+fault_in families.Sff8636 memory = of_sff (sff8636_refusals.identity_fault memory)
+fault_in families.Sff8472 memory = option_or (of_sff (sff8472_refusals.module_fault memory)) (absent_diagnostics memory)
 
 abbrev pub entries_in : Family → Memory → List Entry
-entries_in Cmis memory = cmis_entries memory
-entries_in Sff8636 memory = qsfp_entries memory
-entries_in Sff8472 memory = sfp_entries memory
+entries_in families.Cmis memory = cmis_entries memory
+entries_in families.Sff8636 memory = qsfp_entries memory
+entries_in families.Sff8472 memory = sfp_entries memory
 
 unfoldable pub details_fault : Memory → Option ReportFault
 details_fault memory = option_or (detail_fault memory) (fault_in (detail_family_of memory) memory)

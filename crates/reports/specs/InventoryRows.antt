@@ -1,9 +1,13 @@
 -- What a module is, line by line. (docs/formats.md, "inventory"; OIF-CMIS-05.0, "Lower Memory" and "Administrative Information (Page
 -- 00h)"; SFF-8636, "Upper Page 00h"; SFF-8472, "Serial ID: Data Fields")
-use Rattle.std.specs.Prelude.{List, [], ◌∷◌, codes}
+use Rattle.std.specs.Prelude.{ℕ, List, [], ◌∷◌, codes}
+use Rattle.paged_memory.specs.declared.family.Family.TheVariants.{Sff8636, Sff8472}
 use Rattle.field_tables.specs.declared.field.Field.TheVariants as fields
+use Rattle.field_tables.specs.declared.field.Sum.{Sum}
 use Rattle.field_tables.specs.declared.field.Sum.TheVariants as sums
 use Rattle.field_tables.specs.declared.field.TextField.TheVariants as texts
+use Rattle.module_decoding.specs.SharedFields.{shared_fields}
+use Rattle.module_decoding.specs.declared.shared.SharedFields.{SharedFields}
 use Rattle.report_entries.specs.Rows.{Row, Word, Either, Code, Revision, Next, Text, Oui, Right, Amount, Length, always}
 
 unfoldable pub cmis_rows : List Row
@@ -27,32 +31,24 @@ cmis_rows =
     ∷ always (codes "sum-00h") (Right sums.CSum00)
     ∷ []
 
-unfoldable pub qsfp_rows : List Row
-qsfp_rows =
-    always (codes "family") (Word (codes "SFF-8636"))
-    ∷ always (codes "identifier") (Code fields.QIdentifier)
-    ∷ always (codes "vendor") (Text texts.QVendor)
-    ∷ always (codes "oui") (Oui fields.QOui)
-    ∷ always (codes "part") (Text texts.QPart)
-    ∷ always (codes "part-revision") (Text texts.QPartRevision)
-    ∷ always (codes "serial") (Text texts.QSerial)
-    ∷ always (codes "date") (Text texts.QDate)
-    ∷ always (codes "connector") (Code fields.QConnector)
-    ∷ always (codes "sum-base") (Right sums.QSumBase)
-    ∷ always (codes "sum-ext") (Right sums.QSumExt)
+-- modules of SFF say the same, each by the fields of its standard
+abbrev sff_rows : List ℕ → SharedFields → Sum → List Row
+sff_rows family at sum_ext =
+    always (codes "family") (Word family)
+    ∷ always (codes "identifier") (Code at.identifier)
+    ∷ always (codes "vendor") (Text at.vendor)
+    ∷ always (codes "oui") (Oui at.oui)
+    ∷ always (codes "part") (Text at.part)
+    ∷ always (codes "part-revision") (Text at.part_revision)
+    ∷ always (codes "serial") (Text at.serial)
+    ∷ always (codes "date") (Text at.date)
+    ∷ always (codes "connector") (Code at.connector)
+    ∷ always (codes "sum-base") (Right at.sum_base)
+    ∷ always (codes "sum-ext") (Right sum_ext)
     ∷ []
 
+unfoldable pub qsfp_rows : List Row
+qsfp_rows = sff_rows (codes "SFF-8636") (shared_fields Sff8636) sums.QSumExt
+
 unfoldable pub sfp_rows : List Row
-sfp_rows =
-    always (codes "family") (Word (codes "SFF-8472"))
-    ∷ always (codes "identifier") (Code fields.SIdentifier)
-    ∷ always (codes "vendor") (Text texts.SVendor)
-    ∷ always (codes "oui") (Oui fields.SOui)
-    ∷ always (codes "part") (Text texts.SPart)
-    ∷ always (codes "part-revision") (Text texts.SPartRevision)
-    ∷ always (codes "serial") (Text texts.SSerial)
-    ∷ always (codes "date") (Text texts.SDate)
-    ∷ always (codes "connector") (Code fields.SConnector)
-    ∷ always (codes "sum-base") (Right sums.SSumBase)
-    ∷ always (codes "sum-ext") (Right sums.SSumExt)
-    ∷ []
+sfp_rows = sff_rows (codes "SFF-8472") (shared_fields Sff8472) sums.SSumExt

@@ -2,7 +2,7 @@
 -- "flags"; this project's own)
 use Rattle.std.specs.Prelude.{ℕ, Bool, false, List, [], ◌∷◌, ◌++◌, Option, option_map}
 use Rattle.paged_memory.specs.declared.family.Family.{Family}
-use Rattle.paged_memory.specs.declared.family.Family.TheVariants.{Cmis, Sff8636, Sff8472}
+use Rattle.paged_memory.specs.declared.family.Family.TheVariants as families
 use Rattle.paged_memory.specs.Images.{Memory}
 use Rattle.field_tables.specs.declared.field.Field.TheVariants.{QFlatMemory}
 use Rattle.field_tables.specs.Readings.{bit}
@@ -27,27 +27,27 @@ use Rattle.reports.specs.MonitorRows as monitors
 -- ---- the rows
 
 abbrev pub rows_of : Report → Family → List Row
-rows_of Inventory Cmis = inventory.cmis_rows
-rows_of Inventory Sff8636 = inventory.qsfp_rows
-rows_of Inventory Sff8472 = inventory.sfp_rows
-rows_of Monitors Cmis = monitors.cmis_rows
-rows_of Monitors Sff8636 = monitors.qsfp_rows
-rows_of Monitors Sff8472 = monitors.sfp_rows
-rows_of Flags Cmis = flags.state_rows
-rows_of Flags Sff8636 = []
-rows_of Flags Sff8472 = []
+rows_of Inventory families.Cmis = inventory.cmis_rows
+rows_of Inventory families.Sff8636 = inventory.qsfp_rows
+rows_of Inventory families.Sff8472 = inventory.sfp_rows
+rows_of Monitors families.Cmis = monitors.cmis_rows
+rows_of Monitors families.Sff8636 = monitors.qsfp_rows
+rows_of Monitors families.Sff8472 = monitors.sfp_rows
+rows_of Flags families.Cmis = flags.state_rows
+rows_of Flags families.Sff8636 = []
+rows_of Flags families.Sff8472 = []
 
 abbrev pub flag_rows_of : Family → List FlagRow
-flag_rows_of Cmis = flags.cmis_rows
-flag_rows_of Sff8636 = flags.qsfp_rows
-flag_rows_of Sff8472 = flags.sfp_rows
+flag_rows_of families.Cmis = flags.cmis_rows
+flag_rows_of families.Sff8636 = flags.qsfp_rows
+flag_rows_of families.Sff8472 = flags.sfp_rows
 
 -- ---- of a module of this family
 
 abbrev pub is_flat_in : Family → Memory → Bool
-is_flat_in Cmis memory = is_flat memory
-is_flat_in Sff8636 memory = bit memory QFlatMemory
-is_flat_in Sff8472 memory = false
+is_flat_in families.Cmis memory = is_flat memory
+is_flat_in families.Sff8636 memory = bit memory QFlatMemory
+is_flat_in families.Sff8472 memory = false
 
 abbrev pub said_in : Report → Family → Memory → List Entry
 said_in report family memory = rows_entries memory (is_flat_in family memory) (rows_of report family)

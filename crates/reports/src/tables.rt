@@ -82,6 +82,26 @@ macro_rules! line_table {
     };
 }
 
+// What modules of SFF say of themselves, by the fields of their standard.
+macro_rules! sff_inventory {
+    ($family:literal: $identifier:ident $connector:ident $oui:ident, $base:ident $ext:ident,
+        $vendor:ident $part:ident $revision:ident $serial:ident $date:ident) => {
+        line_table! {
+            "family": [Word $family];
+            "identifier": [Code $identifier];
+            "vendor": [Text $vendor];
+            "oui": [Oui $oui];
+            "part": [Text $part];
+            "part-revision": [Text $revision];
+            "serial": [Text $serial];
+            "date": [Text $date];
+            "connector": [Code $connector];
+            "sum-base": [Right $base];
+            "sum-ext": [Right $ext];
+        }
+    };
+}
+
 const CMIS_INVENTORY: &[Line] = line_table! {
     "family": [Word "CMIS"];
     "identifier": [Code CIdentifier];
@@ -134,18 +154,8 @@ fn cmis_monitors() -> &'static [Line]
     CMIS_MONITORS
 }
 
-const QSFP_INVENTORY: &[Line] = line_table! {
-    "family": [Word "SFF-8636"];
-    "identifier": [Code QIdentifier];
-    "vendor": [Text QVendor];
-    "oui": [Oui QOui];
-    "part": [Text QPart];
-    "part-revision": [Text QPartRevision];
-    "serial": [Text QSerial];
-    "date": [Text QDate];
-    "connector": [Code QConnector];
-    "sum-base": [Right QSumBase];
-    "sum-ext": [Right QSumExt];
+const QSFP_INVENTORY: &[Line] = sff_inventory! {
+    "SFF-8636": QIdentifier QConnector QOui, QSumBase QSumExt, QVendor QPart QPartRevision QSerial QDate
 };
 
 /// What a module of SFF-8636 is.
@@ -179,18 +189,8 @@ fn qsfp_monitors() -> &'static [Line]
     QSFP_MONITORS
 }
 
-const SFP_INVENTORY: &[Line] = line_table! {
-    "family": [Word "SFF-8472"];
-    "identifier": [Code SIdentifier];
-    "vendor": [Text SVendor];
-    "oui": [Oui SOui];
-    "part": [Text SPart];
-    "part-revision": [Text SPartRevision];
-    "serial": [Text SSerial];
-    "date": [Text SDate];
-    "connector": [Code SConnector];
-    "sum-base": [Right SSumBase];
-    "sum-ext": [Right SSumExt];
+const SFP_INVENTORY: &[Line] = sff_inventory! {
+    "SFF-8472": SIdentifier SConnector SOui, SSumBase SSumExt, SVendor SPart SPartRevision SSerial SDate
 };
 
 /// What a module of SFF-8472 is.
