@@ -13,9 +13,8 @@ use Rattle.bus_model.specs.declared.operation.Reply.TheVariants.{Bytes, Done, Re
 use Rattle.paged_memory.specs.declared.page_addressing.KnownPage.{KnownPage}
 use Rattle.paged_memory.specs.declared.page_addressing.KnownPage.TheVariants.{Unknown}
 use Rattle.paged_memory.specs.declared.page_addressing.PageAddressing.TheVariants.{BankAndPage}
-use Rattle.paged_memory.specs.declared.family.Family.{Family}
-use Rattle.paged_memory.specs.declared.family.Family.TheVariants.{Cmis, Sff8636, Sff8472}
-use Rattle.paged_memory.specs.Families.{managed_by}
+use Rattle.paged_memory.specs.declared.family.Family.TheVariants.{Cmis}
+use Rattle.paged_memory.specs.Families.{is_family, managed_by}
 use Rattle.paged_memory.specs.KnownPages.{is_known, selection_read}
 use Rattle.field_tables.specs.declared.field.Field.TheVariants.{CFlatMemory}
 use Rattle.field_tables.specs.FieldValues.{number_in_byte}
@@ -38,15 +37,9 @@ no_flags = record {
 abbrev pub unread : Flags → FlagKeeper
 unread flags = record { selected = Unknown; identifier = 0; flags = flags }
 
-abbrev is_cmis_family : Option Family → Bool
-is_cmis_family None = false
-is_cmis_family (Some Cmis) = true
-is_cmis_family (Some Sff8636) = false
-is_cmis_family (Some Sff8472) = false
-
 -- a module with this identifier is managed by CMIS
 abbrev pub is_cmis : ℕ → Bool
-is_cmis identifier = is_cmis_family (managed_by identifier)
+is_cmis identifier = is_family Cmis (managed_by identifier)
 
 -- ---- one reply
 
