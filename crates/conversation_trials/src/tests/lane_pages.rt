@@ -4,7 +4,7 @@ use bus_model::{Op, Reply};
 
 /// Pages 01h, 10h, 11h, 13h and 14h, of which the bytes of the upper half.
 #[derive(Drop)]
-pub struct Pages {
+pub(crate) struct Pages {
     pub pages: [[u8; 128]; 5],
     /// Each so many-th transaction is refused; none if 0.
     pub refuses_each: u32,
@@ -33,13 +33,13 @@ fn index_of(page: Option<u8>) -> usize {
 }
 
 impl Pages {
-    pub fn byte(&self, page: u8, address: u8) -> u8 {
+    pub(crate) fn byte(&self, page: u8, address: u8) -> u8 {
         let bytes = self.pages.get(index_of(Some(page)));
         let byte = bytes.and_then(|bytes| bytes.get(usize::from(address.wrapping_sub(128))));
         byte.copied().unwrap_or(0)
     }
 
-    pub fn set(&mut self, page: u8, address: u8, byte: u8) {
+    pub(crate) fn set(&mut self, page: u8, address: u8, byte: u8) {
         if let Some(bytes) = self.pages.get_mut(index_of(Some(page))) {
             if let Some(place) = bytes.get_mut(usize::from(address.wrapping_sub(128))) {
                 *place = byte;
@@ -91,7 +91,7 @@ impl Pages {
         }
     }
 
-    pub fn answer(&mut self, page: u8, op: &Op) -> Reply {
+    pub(crate) fn answer(&mut self, page: u8, op: &Op) -> Reply {
         self.transactions = self.transactions.wrapping_add(1);
         if self.refuses_each > 0 && self.transactions % self.refuses_each == 0 {
             return Reply::Refused;
@@ -125,7 +125,7 @@ impl Pages {
 }
 
 // A module with all paths down that advertises PRBS-31Q, loopbacks lane by lane, ratios and counters.
-pub fn board() -> Pages {
+pub(crate) fn board() -> Pages {
     let mut board = Pages {
         pages: [[0; 128]; 5],
         refuses_each: 0,
