@@ -117,11 +117,11 @@ def _validator(name):
     return jsonschema.Draft202012Validator(SCHEMAS[name])
 
 
-def refusal(name, value, twice=True):
-    """Why the schema of this name refuses a value; None if it doesn't. Fails if jsonschema, asked too unless `twice` is false, finds
-    otherwise."""
+def refusal(name, value, is_compared=lambda found: True):
+    """Why the schema of this name refuses a value; None if it doesn't. Fails if jsonschema finds otherwise; what is not compared is not
+    given to it."""
     found = next(complaints(value, SCHEMAS[name], SCHEMAS[name]), None)
-    if twice and jsonschema and _validator(name).is_valid(value) != (found is None):
+    if is_compared(found) and jsonschema and _validator(name).is_valid(value) != (found is None):
         raise AssertionError(f"jsonschema does not agree on {name}: {found}: {json.dumps(value)}")
     return found
 
