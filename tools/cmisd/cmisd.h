@@ -34,6 +34,13 @@ struct listing {
     const char *told; /* how the last one ended */
 };
 
+/* What PORT.image has: the memory as it was read, and what the module lists. Zeros follow both, and each byte is of a
+   member. */
+struct image {
+    uint8_t half_count, listed_count;
+    struct dovecounter_half halves[MOST_HALVES], listed[DOVECOUNTER_MOST_VDM];
+};
+
 /* Which outputs are disabled, by lane: of the transmitters, and of the receivers. */
 struct outputs {
     struct dovecounter_changing_lanes reading;
@@ -67,10 +74,11 @@ struct port {
     unsigned operations, nacks; /* all transactions; all refused */
     struct dovecounter_half halves[MOST_HALVES];
     size_t half_count;
-    int64_t read_at;                    /* when one was read last as a whole */
-    uint8_t page;                       /* that was read to be selected last */
-    bool has_new_image, has_new_counts; /* than its files */
-    bool is_unwritten;                  /* its PORT.json or PORT.prom couldn't be written */
+    int64_t read_at;              /* when one was read last as a whole */
+    uint8_t page;                 /* that was read to be selected last */
+    struct image image;           /* as its file has it; zeros if there is none */
+    bool has_new_counts;          /* than its PORT.prom */
+    bool is_unwritten;            /* its PORT.json or PORT.prom couldn't be written */
     struct dovecounter_plan plan; /* whose paths are shown, if its control bytes are those that the port works for */
 
     struct listing listing;
@@ -163,6 +171,7 @@ void put_image(struct port *port);
 void put_status(struct port *port);
 void renew_files(void);
 void remove_file(const char *port, const char *ending);
+void remove_image(struct port *port);
 void remove_old_files(void);
 
 /* control.c */

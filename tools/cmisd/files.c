@@ -73,9 +73,17 @@ static void print_metrics(FILE *out, const struct port *port) {
 
 /* ---- all of them */
 
+static struct image image_of(const struct port *port) {
+    struct image image = {.half_count = (uint8_t)port->half_count};
+    if (port->entry.vdm > 0) image.listed_count = port->listing.read_count;
+    memcpy(image.halves, port->halves, image.half_count * sizeof *image.halves);
+    memcpy(image.listed, port->listing.read, image.listed_count * sizeof *image.listed);
+    return image;
+}
+
 void print_image_of(FILE *out, const struct port *port, const char *end) {
-    size_t listed = port->entry.vdm > 0 ? port->listing.read_count : 0;
-    print_image(out, port->halves, port->half_count, port->listing.read, listed, end);
+    const struct image image = image_of(port);
+    print_image(out, image.halves, image.half_count, image.listed, image.listed_count, end);
 }
 
 static void print_lines(FILE *out, const struct port *port) { print_image_of(out, port, "\n"); }
@@ -118,8 +126,11 @@ static bool put_file(const struct port *port, const char *ending, void (*print)(
     return is_whole;
 }
 
+/* Written only if it differs from what the file has. */
 void put_image(struct port *port) {
-    if (port->has_new_image) port->has_new_image = !put_file(port, "image", print_lines);
+    const struct image image = image_of(port);
+    if (memcmp(&image, &port->image, sizeof image) == 0) return;
+    if (put_file(port, "image", print_lines)) port->image = image;
 }
 
 /* PORT.json is written although nothing has changed, so that others see when the port was looked at. */
@@ -148,6 +159,11 @@ void remove_file(const char *port, const char *ending) {
     snprintf(name, sizeof name, "%s/%s.%s", folder, port, ending);
     unlink(name);
     if (strcmp(name, unwritten) == 0) unwritten[0] = 0;
+}
+
+void remove_image(struct port *port) {
+    remove_file(port->entry.name, "image");
+    memset(&port->image, 0, sizeof port->image);
 }
 
 /* Of a run before this one there may be files of ports that are no longer configured, and images of modules that are gone. */

@@ -45,9 +45,7 @@ static void finish(struct port *port) {
     it->is_under_way = false;
     it->due = now() + (int64_t)port->entry.vdm * 1000;
     if (dovecounter_vdm_end(&it->reading, it->halves, &end) != DOVECOUNTER_DONE) return;
-    uint8_t count = is_unsupported(&end) ? 0 : it->reading.halves;
-    if (count != it->read_count || memcmp(it->read, it->halves, sizeof it->read) != 0) port->has_new_image = true;
-    it->read_count = count;
+    it->read_count = is_unsupported(&end) ? 0 : it->reading.halves;
     memcpy(it->read, it->halves, sizeof it->read);
     if (port->is_retired) return;
     if (port->half_count > 0) put_image(port);
@@ -63,7 +61,6 @@ void forget_module(struct port *port) {
 /* What it lists isn't known until it is read again. */
 void list_anew(struct port *port) {
     struct listing *it = &port->listing;
-    port->has_new_image = port->has_new_image || it->read_count > 0;
     it->read_count = 0;
     it->due = 0;
 }

@@ -132,7 +132,7 @@ static void take_presence(struct port *port, uint8_t presence) {
     forget(port);
     forget_module(port);
     port->before.is_once = false;
-    if (!is_plugged) remove_file(port->entry.name, "image");
+    if (!is_plugged) remove_image(port);
     tell(port, is_plugged ? "plugged" : "pulled", "");
     if (!is_plugged) shut(port);
 }
@@ -189,7 +189,6 @@ static size_t take_half(struct port *port, const struct dovecounter_half *half) 
     while (at < port->half_count && memcmp(&port->halves[at], half, offsetof(struct dovecounter_half, bytes)) != 0)
         at++;
     if (at == MOST_HALVES) return at;
-    if (at == port->half_count || memcmp(&port->halves[at], half, sizeof *half) != 0) port->has_new_image = true;
     if (at == port->half_count) port->half_count++;
     port->halves[at] = *half;
     return at;

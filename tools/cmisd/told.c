@@ -140,7 +140,6 @@ static void forget_former(struct port *port) {
     size_t count = 0;
     for (size_t i = 0; i < port->half_count; i++)
         if (port->anew >> i & 1) port->halves[count++] = port->halves[i];
-    port->has_new_image = port->has_new_image || count < port->half_count;
     port->half_count = count;
 }
 
