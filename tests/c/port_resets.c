@@ -2,6 +2,8 @@
    bus refuses after it has taken effect: each pair of the two is tried. */
 #include "one_port.h"
 
+#include <stdlib.h>
+
 /* A module that resets itself amid its reading may be left alone for what it seems to lack, until somebody asks for it to be read anew. */
 static int comes_up_in_the_end(void) {
     if (comes_up()) return 1;
@@ -22,10 +24,12 @@ static unsigned come_up(unsigned reset, unsigned late) {
     return transactions;
 }
 
-int main(void) {
+/* Of the resets each one, or one of so many. */
+int main(int count, char **words) {
+    unsigned of = count > 1 ? (unsigned)atoi(words[1]) : 1;
     make_halves();
     unsigned most = come_up(0, 0), pairs = 0;
-    for (unsigned reset = 1; reset <= most; reset++)
+    for (unsigned reset = 1; reset <= most; reset += of)
         for (unsigned late = 1; late <= 2 * most; late++) {
             come_up(reset, late);
             pairs++;
