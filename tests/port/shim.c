@@ -17,6 +17,7 @@
 struct shim shim = {.file = -1, .error = EREMOTEIO};
 
 enum { LONGEST = 1000000 }; /* milliseconds of a pause that a module sees: nothing changes in it for longer */
+enum { START = 3600 };      /* seconds: what the clock shows at first */
 
 static const char adapter[] = "/dev/i2c-99", eeprom[] = "/sys/bus/i2c/devices/99-0050/eeprom";
 
@@ -198,6 +199,7 @@ static void begin(void) {
     const char *words = getenv("PORT");
     char *copy = strdup(words != NULL ? words : ""), *rest = NULL;
     if (copy == NULL) abort();
+    shim.microseconds = (int64_t)START * 1000000;
     begin_emulator(&shim.module, 1);
     begin_diagnostics(&shim.diagnostics);
     begin_two_banks(&shim.firmware, 1);
@@ -234,6 +236,7 @@ __attribute__((destructor)) static void tell(void) {
     FILE *out = shim.out[0] != 0 ? fopen(shim.out, "w") : NULL;
     if (out == NULL) return;
     fwrite(text, 1, describe(&shim.module, text, sizeof text), out);
+    fprintf(out, "seconds %lld\n", (long long)shim.microseconds / 1000000 - START);
     if (shim.banks) tell_firmware(out);
     if (shim.links) fwrite(text, 1, describe_diagnostics(&shim.diagnostics, text, sizeof text), out);
     if (shim.lists) fwrite(text, 1, describe_statistics(&shim.statistics, text, sizeof text), out);
@@ -331,6 +334,7 @@ static bool is_locked(const struct i2c_msg *message) {
 }
 
 static int transfer(const struct i2c_rdwr_ioctl_data *data) {
+    if (data->nmsgs == 2 && data->msgs[0].len != 1) abort(); /* a store with a fetch after it */
     for (unsigned i = 0; i < data->nmsgs; i++)
         if (shim.longest != 0 && data->msgs[i].len > shim.longest)
             return errno = shim.too_long != 0 ? shim.too_long : EOPNOTSUPP, -1;
