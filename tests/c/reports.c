@@ -117,7 +117,10 @@ static void try_blocks(void) {
     expect("block that is refused", 64, 0, refused.is_there);
     expect("place of what is refused", 64, 1, refused.bytes != NULL);
     expect("bytes of the earlier block", 4, 0, (unsigned long)(memcmp(few.bytes, "few", 4) != 0));
-    struct block emptied = rattle_realloc(few.bytes, 4, 0, 8);
+    struct block many = rattle_realloc(few.bytes, 4, 64, 8);
+    expect("bytes of a block that has grown", 64, 0, (unsigned long)(memcmp(many.bytes, "few", 4) != 0));
+    memset(many.bytes, 1, 64);
+    struct block emptied = rattle_realloc(many.bytes, 64, 0, 8);
     expect("block that is emptied", 0, 1, emptied.is_there);
     rattle_dealloc(emptied.bytes);
     expect("blocks that are held", 0, 0, (unsigned long)held);
