@@ -44,7 +44,7 @@ uint8_t lanes_of_word(const char *word) {
     unsigned lanes = 0;
     for (;; word++) {
         char first = *word, last = first;
-        if (first < '1' || first > '8') return 0;
+        if (first < '1') return 0;
         if (*++word == '-') last = word[1], word += word[1] == '\0' ? 1 : 2;
         if (last < first || last > '8') return 0;
         for (; first <= last; first++) lanes |= 1U << (first - '1');
