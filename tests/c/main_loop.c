@@ -8,6 +8,7 @@
 #include <stdlib.h>
 
 static uint32_t clock_now;
+static uint32_t before_zero = 5000; /* how long a run goes until the clock starts anew */
 
 static struct {
     uint8_t page, state;           /* selected; ModuleState, as byte 3 has it */
@@ -139,7 +140,7 @@ static void run(const char *name, uint8_t state, uint32_t delay, unsigned refuse
     transactions = 0;
     was_refused = false;
     memset(&asked_before, 0, sizeof asked_before);
-    module.apply_due = clock_now = UINT32_MAX - 5000; /* it starts anew on the way */
+    module.apply_due = clock_now = UINT32_MAX - before_zero;
     if (!carry_out(planned, &effect, &patient)) fail("a plan was not begun");
     if (!effect.is_done && carry_out(planned, &effect, &patient)) fail("a plan was begun during another one");
     enum stage found = stage;
@@ -175,6 +176,8 @@ static void try_effects(void) {
     effect = (struct dovecounter_effect){.taken = 0xFF};
 }
 
+_Static_assert(_Generic(&over, atomic_bool * : true, default : false), "the interrupt may run on another processor");
+
 int main(void) {
     planned = &pairs;
     effect.taken = 0xFF;
@@ -193,6 +196,9 @@ int main(void) {
     patient.pause = 100;
     run("a bus that refuses all, with a limit", 3 << 1, 0, 1, false, FAILED, 8, 0);
     if (transactions != MOST_BEGINNINGS * 12) fail("a procedure was begun too often");
+    for (before_zero = 800; before_zero < 1900; before_zero += 100) /* then it starts anew while a stage rests */
+        run("the same, at another time", 3 << 1, 0, 1, false, FAILED, 8, 0);
+    before_zero = 5000;
     patient.limit = UINT32_MAX;
     run("a bus that refuses all", 3 << 1, 0, 1, false, FAILED, 4, 0);
     if (transactions != MOST_BEGINNINGS * 4096) fail("a procedure was begun too often");

@@ -165,14 +165,20 @@ static void try_low_power(void) {
 
 static void try_silence(void) {
     static const struct line failed[] = {{"plugged", 0, 0}, {"failed", DOVECOUNTER_PORT_UNREAD, 0}, {"", 0, 0}};
+    static struct line more[11]; /* ten, and one that isn't awaited */
+    for (int i = 0; i < 10; i++) more[i] = failed[1];
+    more[10] = failed[2];
     refuses_all = true;
     plug();
     run("a bus that refuses all", 15000, 2, failed);
+    expect("that is tried again after a second", 120, transactions);
+    run("less and less often, for twenty minutes", 1200000, 10, more);
     pull();
 }
 
 int main(void) {
     read_halves();
+    expect("first lanes are paired, as modules may have them", 1, wanted.paired);
     try_life();
     try_default();
     try_low_power();
