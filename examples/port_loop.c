@@ -28,7 +28,6 @@ void begin_port(bool was_powered) {
         .settle = 2000, .period = 10000, .first = 1000, .most = 300000, .recheck = 300000};
     dovecounter_port_new(&times, &port);
     carries_nothing = was_powered;
-    rests_until = 0;
 }
 
 static void watch_pin(void) {
@@ -72,7 +71,6 @@ void poll_port(void) {
         return;
     }
     uint8_t reply = transact(&next.operation, bytes);
-    rests_until = 0;
     wanted.stay = port.request == DOVECOUNTER_REQUEST_PROVISION ? 0 : STAY; /* 0 until it is up or left alone */
     dovecounter_port_take(&port, reply, bytes, next.operation.count, &wanted, milliseconds(), &outcome);
     print_outcome(&outcome);

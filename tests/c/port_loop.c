@@ -1,6 +1,10 @@
 /* Runs the loop of examples/port_loop.c on a simulated module, from some seconds before the clock passes 2^32 on: a module is plugged,
    comes up and is watched, the program restarts, the module is pulled, others bring up a default or are in low power, and a bus refuses
    all. Reads the text of the module's image on standard input. */
+#include "dovecounter.h"
+
+static unsigned asked; /* how often the library was asked what is to be done */
+#define dovecounter_port_next(port, now, next) (asked++, dovecounter_port_next(port, now, next))
 #include "../../examples/port_loop.c"
 
 #include "expect.h"
@@ -55,9 +59,10 @@ void print_line(const char *what, uint8_t code, uint8_t fault, uint8_t first) {
 /* Calls the loop for so long, in which these lines are printed. */
 static void run(const char *what, uint64_t time, unsigned count, const struct line wanted_lines[]) {
     awaited = wanted_lines;
-    lines = transactions = stores = 0;
+    lines = transactions = stores = asked = 0;
     for (uint64_t end = clock_now + time; clock_now < end && lines <= count; pass_one()) poll_port();
     expect(what, count, lines);
+    expect("the library is asked where it rests", 1, asked <= 2 * transactions + 1);
 }
 
 static void plug(void) {
