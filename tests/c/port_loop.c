@@ -1,6 +1,6 @@
 /* Runs the loop of examples/port_loop.c on a simulated module, from some seconds before the clock passes 2^32 on: a module is plugged,
-   comes up and is watched, the program restarts, the module is pulled, others bring up a default or are in low power, and a bus refuses
-   all. Reads the text of the module's image on standard input. */
+   comes up and is watched, the program restarts, the module is pulled, others bring up a default, fail or are in low power, and a bus
+   refuses all. Reads the text of the module's image on standard input. */
 #include "dovecounter.h"
 
 static unsigned asked; /* how often the library was asked what is to be done */
@@ -45,7 +45,7 @@ bool i2c_store(uint8_t address, uint8_t offset, const uint8_t *bytes, uint8_t co
 /* The lines that are awaited, in their order. */
 static const struct line {
     const char *what;
-    uint8_t code, fault;
+    uint8_t code, fault, first;
 } * awaited;
 
 void print_line(const char *what, uint8_t code, uint8_t fault, uint8_t first) {
@@ -53,7 +53,7 @@ void print_line(const char *what, uint8_t code, uint8_t fault, uint8_t first) {
     expect(what, 0, (unsigned long)strcmp(what, line->what));
     expect(what, line->code, code);
     expect(what, line->fault, fault);
-    expect("a first value", 0, first);
+    expect(what, line->first, first);
 }
 
 /* Calls the loop for so long, in which these lines are printed. */
@@ -71,7 +71,7 @@ static void plug(void) {
 }
 
 static void pull(void) {
-    static const struct line pulled[] = {{"pulled", 0, 0}, {"", 0, 0}};
+    static const struct line pulled[] = {{"pulled", 0, 0, 0}, {"", 0, 0, 0}};
     is_present = false;
     run("it is pulled", 100, 1, pulled);
     expect("and left alone", 0, transactions);
@@ -82,13 +82,14 @@ static void expect_up(void) {
 }
 
 static void try_life(void) {
-    static const struct line nothing[] = {{"", 0, 0}};
-    static const struct line plugged[] = {{"plugged", 0, 0}, {"", 0, 0}};
-    static const struct line comes_up[] = {{"went on", DOVECOUNTER_PORT_IDENTIFIED, 0},
-                                           {"went on", DOVECOUNTER_PORT_PROVISIONED, 0},
-                                           {"went on", DOVECOUNTER_PORT_CAME_UP, 0},
-                                           {"", 0, 0}};
-    static const struct line is_up[] = {{"plugged", 0, 0}, {"went on", DOVECOUNTER_PORT_CAME_UP, 0}, {"", 0, 0}};
+    static const struct line nothing[] = {{"", 0, 0, 0}};
+    static const struct line plugged[] = {{"plugged", 0, 0, 0}, {"", 0, 0, 0}};
+    static const struct line comes_up[] = {{"went on", DOVECOUNTER_PORT_IDENTIFIED, 0, 0},
+                                           {"went on", DOVECOUNTER_PORT_PROVISIONED, 0, 0},
+                                           {"went on", DOVECOUNTER_PORT_CAME_UP, 0, 0},
+                                           {"", 0, 0, 0}};
+    static const struct line is_up[] = {
+        {"plugged", 0, 0, 0}, {"went on", DOVECOUNTER_PORT_CAME_UP, 0, 0}, {"", 0, 0, 0}};
     begin_port(false);
     run("an empty cage", 100, 0, nothing);
     expect("has no transaction", 0, transactions);
@@ -115,12 +116,13 @@ static void expect_active(uint8_t first, uint8_t last) {
 
 /* A module brings 400G up by itself, which a restart of the firmware leaves, and a plug or a start of the board doesn't. */
 static void try_default(void) {
-    static const struct line stays[] = {{"plugged", 0, 0}, {"went on", DOVECOUNTER_PORT_CAME_UP, 0}, {"", 0, 0}};
-    static const struct line goes[] = {{"plugged", 0, 0},
-                                       {"went on", DOVECOUNTER_PORT_IDENTIFIED, 0},
-                                       {"went on", DOVECOUNTER_PORT_PROVISIONED, 0},
-                                       {"went on", DOVECOUNTER_PORT_CAME_UP, 0},
-                                       {"", 0, 0}};
+    static const struct line stays[] = {
+        {"plugged", 0, 0, 0}, {"went on", DOVECOUNTER_PORT_CAME_UP, 0, 0}, {"", 0, 0, 0}};
+    static const struct line goes[] = {{"plugged", 0, 0, 0},
+                                       {"went on", DOVECOUNTER_PORT_IDENTIFIED, 0, 0},
+                                       {"went on", DOVECOUNTER_PORT_PROVISIONED, 0, 0},
+                                       {"went on", DOVECOUNTER_PORT_CAME_UP, 0, 0},
+                                       {"", 0, 0, 0}};
     struct dovecounter_half *page = &halves[0];
     while (!page->upper || page->page != 0x11) page++;
     uint8_t before[8];
@@ -140,14 +142,15 @@ static void try_default(void) {
 }
 
 static void try_low_power(void) {
-    static const struct line woken[] = {{"plugged", 0, 0},
-                                        {"went on", DOVECOUNTER_PORT_IDENTIFIED, 0},
-                                        {"went on", DOVECOUNTER_PORT_WOKEN, 0},
-                                        {"went on", DOVECOUNTER_PORT_IDENTIFIED, 0},
-                                        {"went on", DOVECOUNTER_PORT_PROVISIONED, 0},
-                                        {"went on", DOVECOUNTER_PORT_CAME_UP, 0},
-                                        {"", 0, 0}};
-    static const struct line left[] = {{"plugged", 0, 0}, {"left alone", DOVECOUNTER_LEFT_NEEDS_POWER, 0}, {"", 0, 0}};
+    static const struct line woken[] = {{"plugged", 0, 0, 0},
+                                        {"went on", DOVECOUNTER_PORT_IDENTIFIED, 0, 0},
+                                        {"went on", DOVECOUNTER_PORT_WOKEN, 0, 0},
+                                        {"went on", DOVECOUNTER_PORT_IDENTIFIED, 0, 0},
+                                        {"went on", DOVECOUNTER_PORT_PROVISIONED, 0, 0},
+                                        {"went on", DOVECOUNTER_PORT_CAME_UP, 0, 0},
+                                        {"", 0, 0, 0}};
+    static const struct line left[] = {
+        {"plugged", 0, 0, 0}, {"left alone", DOVECOUNTER_LEFT_NEEDS_POWER, 0, 0}, {"", 0, 0, 0}};
     halves[0].bytes[26] = 0x10; /* LowPwrRequestSW */
     plug();
     run("a module in low power is woken", 9000, 6, woken);
@@ -168,8 +171,25 @@ static void try_low_power(void) {
     pull();
 }
 
+/* A module fails while its lanes are provisioned: its state stands beside the fault. */
+static void try_failure(void) {
+    static const struct line fails[] = {
+        {"plugged", 0, 0, 0},
+        {"went on", DOVECOUNTER_PORT_IDENTIFIED, 0, 0},
+        {"failed", DOVECOUNTER_PORT_NOT_PROVISIONED, DOVECOUNTER_NOT_READY, DOVECOUNTER_MODULE_FAULT},
+        {"", 0, 0, 0}};
+    plug();
+    run("a module that will fail", 100, 1, fails);
+    awaited = fails;
+    for (; port.stage != DOVECOUNTER_PORT_PROVISIONING; pass_one()) poll_port();
+    module.state = DOVECOUNTER_MODULE_FAULT;
+    run("fails", 100, 1, fails + 2);
+    pull();
+}
+
 static void try_silence(void) {
-    static const struct line failed[] = {{"plugged", 0, 0}, {"failed", DOVECOUNTER_PORT_UNREAD, 0}, {"", 0, 0}};
+    static const struct line failed[] = {
+        {"plugged", 0, 0, 0}, {"failed", DOVECOUNTER_PORT_UNREAD, 0, 0}, {"", 0, 0, 0}};
     static struct line more[11]; /* ten, and one that isn't awaited */
     for (int i = 0; i < 10; i++) more[i] = failed[1];
     more[10] = failed[2];
@@ -186,6 +206,7 @@ int main(void) {
     expect("first lanes are paired, as modules may have them", 1, wanted.paired);
     try_life();
     try_default();
+    try_failure();
     try_low_power();
     try_silence();
     return judged("port_loop");
