@@ -289,3 +289,10 @@ def test_a_plan_s_members_are_looked_at() -> None:
     pytest.raises(TypeError, lambda: judge(DR4, DR4))  # type: ignore[arg-type]
     pytest.raises(TypeError, lambda: Activation(changed(control=[0] * 8)))
     pytest.raises(TypeError, lambda: Activation(changed(lanes=None)))
+
+
+def test_it_is_said_what_is_wrong() -> None:
+    with pytest.raises(ValueError, match="^2 bytes from 127 on are not in lower A0$"):
+        DR4.changed(LOWER, 127, b"12")
+    fault = FirmwareFault(FirmwareFailure.REFUSED, 5, None)
+    assert str(fault) == "refused with status 05h"

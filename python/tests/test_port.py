@@ -583,5 +583,14 @@ def test_a_module_is_there_while_it_answers() -> None:
     heard = [port.hear(False, now, now + 1) for now in (6000, 6500, 7000, 7002)]
     assert heard == [Presence.SAME, Presence.SAME, Presence.SAME, Presence.PULLED]
     assert port.stage is Stage.ABSENT
+    assert port.hear(True, 8000, 8001) is Presence.PLUGGED
+    spans = [(8002, 8900), (8900, 8910), (8910, 8920), (8995, 9010)]  # 1008 ms from the first begin
+    assert [port.hear(False, *span) for span in spans][-1] is Presence.PULLED
     with pytest.raises(TypeError):
         port.request("sleep")  # type: ignore[arg-type]
+
+
+def test_staying_may_weigh_as_much_as_a_weight() -> None:
+    for stay, why in ((2**32 - 1, "no operation that is outstanding"), (2**32, "of staying")):
+        with pytest.raises(ValueError, match=why):
+            Port().take(False, Wanted({}, stay=stay), 0)

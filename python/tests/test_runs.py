@@ -479,6 +479,14 @@ def test_each_reply_is_looked_at_and_an_operation_without_one_is_given_again() -
     pytest.raises(ValueError, provisioning.waited)
 
 
+def test_time_passes_while_a_bus_refuses() -> None:
+    module = SimulatedModule(DR4)
+    module.store(0xA0, 26, b"\x10")  # LowPwrRequestSW
+    bus = RefusingBus(module, range(1, 11))
+    assert [bus(Operation(0xA0, 3, 1, None)) for _ in range(10)] == [False] * 10
+    assert module.state is ModuleState.ModuleLowPwr
+
+
 def test_pauses_are_as_long_as_was_said() -> None:
     module, best = SimulatedModule(DR4, Delays(1, 900, 900, 1, 1, 1, 1)), plan(DR4, WEIGHTS)
     pauses: List[float] = []
