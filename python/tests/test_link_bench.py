@@ -8,12 +8,13 @@ import os
 import pathlib
 import runpy
 import sys
+import time
 import xml.etree.ElementTree
 from typing import Any, List, Optional, Tuple
 
 import pytest
 
-from dovecounter import Operation, Pattern, Reply
+from dovecounter import LinkFault, Operation, Pattern, Reply
 
 EXAMPLE = pathlib.Path(__file__).resolve().parents[2] / "examples/link_bench.py"
 WANTED = """\
@@ -54,6 +55,58 @@ def test_it_prints_and_draws_each_lane(
             190, abs=0.11
         )
     assert float(bars[0].get("height", "")) == pytest.approx(20 * (9 - 5.523), abs=0.05)
+    (limit,) = [it for it in drawn if it.tag.endswith("line")]
+    assert float(limit.get("y1", "")) == pytest.approx(190 - 20 * (9 - 3.62), abs=0.1)
+    marks = {it.text: it.get("y") for it in drawn if (it.text or "").startswith("1e-")}
+    assert marks == {"1e-0": "14", "1e-3": "74", "1e-6": "134", "1e-9": "194"}
+    run(monkeypatch, "--svg", str(tmp_path / "lanes.svg"))
+    xml.etree.ElementTree.parse(tmp_path / "lanes.svg")
+
+
+def test_a_ratio_below_the_drawing_has_no_bar_and_one_pattern_is_enough_for_a_note(
+    capsys: pytest.CaptureFixture[str],
+) -> None:
+    bench = runpy.run_path(str(EXAMPLE))
+    assert [bench["rise"](ratio) for ratio in (0, 1e-12, 1e-9, 1)] == [0, 0, 0, 180]
+    ratios = iter(([1e-3, 1e-9], [1e-9, 2.4e-4]))
+    bench["main"].__globals__["measure"] = lambda *_: next(ratios)
+    with pytest.MonkeyPatch.context() as patched:
+        patched.setattr(sys, "argv", [str(EXAMPLE)])
+        bench["main"]()
+    lines = capsys.readouterr().out.splitlines()[1:]
+    assert ["beyond" in line for line in lines] == [True, False]
+
+
+def test_it_measures_the_module_on_a_bus_that_is_named(monkeypatch: pytest.MonkeyPatch) -> None:
+    opened: List[Tuple[str, int]] = []
+    pauses: List[float] = []
+
+    def open_bus(name: str, flags: int) -> int:
+        opened.append((name, flags))
+        return 5
+
+    def refuse(*_: Any) -> None:
+        raise OSError(errno.ENXIO, "no answer")
+
+    monkeypatch.setattr(os, "open", open_bus)
+    monkeypatch.setattr(fcntl, "ioctl", refuse)
+    monkeypatch.setattr(time, "sleep", pauses.append)
+    with pytest.raises(LinkFault):
+        run(monkeypatch, "/dev/i2c-7")
+    assert opened == [("/dev/i2c-7", os.O_RDWR)] and len(pauses) > 1000
+
+
+def test_it_loops_media_lanes_back_and_reads_twice() -> None:
+    bench = runpy.run_path(str(EXAMPLE))
+    links, loops, pauses = bench["SimulatedLinks"](), set(), list[float]()
+
+    def transact(operation: Operation) -> Reply:
+        loops.add(bytes(links.pages[0x13][180 - 128 : 184 - 128]))
+        reply: Reply = links.transact(operation)
+        return reply
+
+    bench["measure"](transact, pauses.append, Pattern.PRBS31Q)
+    assert loops == {bytes(4), b"\xff\0\0\0"} and pauses == [1, 1]
 
 
 def test_whenever_it_is_interrupted_it_switches_all_off() -> None:
