@@ -296,3 +296,11 @@ def test_it_is_said_what_is_wrong() -> None:
         DR4.changed(LOWER, 127, b"12")
     fault = FirmwareFault(FirmwareFailure.REFUSED, 5, None)
     assert str(fault) == "refused with status 05h"
+
+
+def test_a_kept_path_is_compared_up_to_lane_8() -> None:
+    best = plan(DR4, WEIGHTS)
+    image = DR4.changed(page(0x11), 206, best.control[:7] + b"\0")
+    with pytest.warns(KeptPathNotActive) as told:
+        plan(image, WEIGHTS, [best.paths[-1]])
+    assert [it.filename for it in told] == [__file__]
