@@ -297,7 +297,7 @@ FILE = {
         "0-15,31": {
             "100G_SPEED": {
                 "GOOD-PART1": {"OutputEqPreCursorTargetRx": EACH},
-                "GOOD": {"OutputEqPostCursorTargetRx": {"lane0": "0x2", "lane7": "1"}},
+                "GOOD": {"OutputEqPostCursorTargetRx": {"lane0": "0x2", "lane7": "10"}},
             },
             "KNOWN": {"CDREnableTx": {"lane2": 1}},
             "Default": {"OutputAmplitudeTargetRx": {"OutputAmplitudeTargetRx8": 2}},
@@ -331,7 +331,13 @@ def written(tmp_path: pathlib.Path, found: object) -> SignalSettings:
     "vendor, part, speed, port, wanted",
     [
         ("GOOD", "PART1", "100G", 0, {lane: LaneSignal(pre_cursor=3) for lane in range(8)}),
-        ("GOOD", "PART2", "100G", 31, {0: LaneSignal(post_cursor=2), 7: LaneSignal(post_cursor=1)}),
+        (
+            "GOOD",
+            "PART2",
+            "100G",
+            31,
+            {0: LaneSignal(post_cursor=2), 7: LaneSignal(post_cursor=10)},
+        ),
         ("GOOD", "PART1", "50G", 15, {7: LaneSignal(amplitude=2)}),
         ("OTHER", "PART1", "100G", 3, {7: LaneSignal(amplitude=2)}),
         ("KNOWN", "PART1", "100G", 3, {2: LaneSignal(recover_tx=True)}),
