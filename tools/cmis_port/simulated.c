@@ -49,7 +49,7 @@ static bool read_script(const char *name, struct simulated *simulated) {
     while ((found = fscanf(file, "%7s %5u", word, &directive.number)) == 2 && simulated->length < 1024) {
         for (directive.kind = OK; directive.kind <= LPMODE && strcmp(word, words[directive.kind]) != 0;)
             directive.kind++;
-        if (directive.kind > LPMODE || directive.number > UINT16_MAX) break;
+        if (directive.kind > LPMODE || directive.number > (directive.kind == LPMODE ? 1 : UINT16_MAX)) break;
         simulated->script[simulated->length++] = directive;
     }
     fclose(file);
