@@ -34,8 +34,7 @@ struct listing {
     const char *told; /* how the last one ended */
 };
 
-/* What PORT.image has: the memory as it was read, and what the module lists. Zeros follow both, and each byte is of a
-   member. */
+/* What PORT.image has: the memory as it was read, and what the module lists. Zeros follow both. */
 struct image {
     uint8_t half_count, listed_count;
     struct dovecounter_half halves[MOST_HALVES], listed[DOVECOUNTER_MOST_VDM];

@@ -126,6 +126,9 @@ static bool put_file(const struct port *port, const char *ending, void (*print)(
     return is_whole;
 }
 
+_Static_assert(sizeof(struct image) == 2 + (MOST_HALVES + DOVECOUNTER_MOST_VDM) * sizeof(struct dovecounter_half),
+               "images are compared byte by byte, so each byte has to be a member's");
+
 /* Written only if it differs from what the file has. */
 void put_image(struct port *port) {
     const struct image image = image_of(port);
