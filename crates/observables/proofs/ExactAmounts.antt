@@ -1,12 +1,11 @@
 -- What is written of a word is the number that it has to be.
-use Rattle.std.proofs.Common.{◌≡◌, ℕ, ◌/◌, ℤ, pos, arith, refl}
-use Rattle.std.specs.Prelude.{◌+ℤ◌, ◌-ℤ◌}
+use Rattle.std.proofs.Common.{ℕ, arith, refl}
 use Rattle.std.proofs.lemmas.Int.{ints}
 use Rattle.observables.specs.declared.quantity.Format.{Format}
 use Rattle.observables.specs.declared.quantity.Format.TheVariants.{Unsigned, Signed, Float}
 use Rattle.observables.specs.declared.quantity.Quantity.{Quantity}
 use Rattle.observables.specs.Quantities.{quantity_row, step_of}
-use Rattle.observables.specs.Amounts.{IsAmount, IsAmountIn, amount_in, amount_of, scaled, steps_of}
+use Rattle.observables.specs.Amounts.{IsAmount, IsAmountIn, amount_in, amount_of, steps_of}
 use Rattle.observables.proofs.RowSteps.{are_steps}
 
 by_format : (format : Format) (quantity : Quantity) (word : ℕ) → IsAmountIn format (step_of quantity) word (amount_in format quantity word)

@@ -1,8 +1,10 @@
 -- The places of monitors and of instances.
-use Rattle.std.proofs.Common.{◌≡◌, ◌<◌, ◌≤◌, ℕ, ◌+◌, ◌-◌, ◌*◌, ◌/◌, ◌%◌, nat_lt, true, false, refl, arith}
+use Rattle.std.proofs.Common.{◌≡◌, ◌<◌, ◌≤◌, ◌∙◌, ℕ, ◌+◌, ◌-◌, ◌*◌, ◌/◌, ◌%◌, nat_lt, true, false, Option, Some, None, ap, refl, arith}
+use Rattle.std.specs.Prelude.{option_and_then}
 use Rattle.std.proofs.lemmas.Bool.Decides.{nat_tests}
 use Rattle.paged_memory.specs.Images.{Memory}
-use Rattle.observables.specs.Observations.{EachInstanceHasAPlace, EachMonitorHasAPlace, all_places, monitor_places, monitored, observation_at, observed}
+use Rattle.observables.specs.declared.monitor.Monitor.{Monitor}
+use Rattle.observables.specs.Observations.{EachInstanceHasAPlace, EachMonitorHasAPlace, all_places, measured, monitor_of, monitor_places, monitored, observation_at, observed}
 
 at_monitor : (memory : Memory) (place n lane : ℕ) → nat_lt place monitor_places ≡ true → place / 8 ≡ n → place % 8 + 1 ≡ lane
     → observation_at memory place ≡ monitored memory n lane
@@ -28,3 +30,19 @@ pub each_instance : EachInstanceHasAPlace
 each_instance memory bank n few within =
     at_instance memory (monitor_places + 256 * bank + n) bank n (not_below (monitor_places + 256 * bank + n) monitor_places (omega arith))
     (below (monitor_places + 256 * bank + n) all_places (omega (arith, few, within))) (omega (arith, few, within)) (omega (arith, few, within))
+
+-- ---- those of one monitor
+
+found_there : (memory : Memory) (n place : ℕ) (found : Option Monitor) → 8 * n < monitor_places → 8 * n ≤ place → place < 8 * (n + 1) → monitor_of memory n ≡ found
+    → observation_at memory place ≡ option_and_then (λ monitor. measured memory monitor (place % 8 + 1)) found
+found_there memory n place found few from to is =
+    at_monitor memory place n (place % 8 + 1) (below place monitor_places (omega (arith, few, to))) (omega (arith, from, to)) refl
+    ∙ ap (λ (those : Option Monitor). option_and_then (λ monitor. measured memory monitor (place % 8 + 1)) those) is
+
+pub of_monitor : (memory : Memory) (n place : ℕ) (monitor : Monitor) → 8 * n < monitor_places → 8 * n ≤ place → place < 8 * (n + 1)
+    → monitor_of memory n ≡ Some monitor → observation_at memory place ≡ measured memory monitor (place % 8 + 1)
+of_monitor memory n place monitor few from to is = found_there memory n place (Some monitor) few from to is
+
+pub of_no_monitor : (memory : Memory) (n place : ℕ) → 8 * n < monitor_places → 8 * n ≤ place → place < 8 * (n + 1) → monitor_of memory n ≡ None
+    → observation_at memory place ≡ None
+of_no_monitor memory n place few from to is = found_there memory n place None few from to is

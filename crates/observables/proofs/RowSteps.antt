@@ -1,6 +1,6 @@
 -- Each row writes its step, and so a word of so many steps amounts to so many steps.
-use Rattle.std.proofs.Common.{◌≡◌, ℕ, ◌*◌, ◌^◌, ℤ, pos, arith, refl, ap, ◌∙◌}
-use Rattle.std.specs.Prelude.{◌*ℤ◌, ◌≤ℤ◌, unsigned_abs}
+use Rattle.std.proofs.Common.{◌≡◌, ℕ, ◌*◌, ℤ, pos, arith, refl, ap, ◌∙◌}
+use Rattle.std.specs.Prelude.{◌*ℤ◌, ◌≤ℤ◌}
 use borrow.Author.Differences.{same_in, product_is}
 use Rattle.observables.specs.declared.quantity.Quantity.{Quantity}
 use Rattle.observables.specs.declared.quantity.Quantity.TheVariants as quantities

@@ -1,5 +1,5 @@
 -- What the words of values and limits amount to, exactly. (OIF-CMIS-05.0, "VDM Observables" and "F16 format")
-use Rattle.std.specs.Prelude.{◌≡◌, ℕ, ◌*◌, ◌^◌, ◌/◌, ◌%◌, ◌<◌, ℤ, pos, ◌*ℤ◌, ◌+ℤ◌, ◌-ℤ◌, ◌≤ℤ◌, unsigned_abs}
+use Rattle.std.specs.Prelude.{◌≡◌, ℕ, ◌*◌, ◌^◌, ◌/◌, ◌%◌, ℤ, pos, ◌*ℤ◌, ◌+ℤ◌, ◌-ℤ◌, ◌≤ℤ◌, unsigned_abs}
 use Rattle.field_tables.specs.Numbers.{signed_by}
 use Rattle.field_tables.specs.declared.layout.Sign.TheVariants as signs
 use Rattle.observables.specs.declared.amount.Amount.{Amount}

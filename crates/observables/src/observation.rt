@@ -17,6 +17,9 @@ use paged_memory::{Family, Image};
 /// How many places of the list are of monitors, sixteen of eight lanes. Those of four banks of instances follow.
 pub const MONITOR_PLACES: u16 = 128;
 
+/// How many of them each monitor has, one for each lane.
+pub const LANES: u16 = 8;
+
 // How many places the list has.
 const PLACES: u16 = MONITOR_PLACES + 4 * 256;
 
@@ -50,7 +53,7 @@ pub fn observation_at(image: &Image, place: u16) -> Option<Observation>
     ensures { result ≡ spec.observation_at image.now place }
 {
     if place < MONITOR_PLACES {
-        return monitored(image, (place / 8) as u8, (place % 8) as u8 + 1);
+        return monitored(image, (place / LANES) as u8, (place % LANES) as u8 + 1);
     }
     if place < PLACES {
         let instance = place - MONITOR_PLACES;
@@ -69,7 +72,7 @@ fn monitored(image: &Image, monitor: u8, lane: u8) -> Option<Observation>
     measured(image, monitor, lane)
 }
 
-fn monitor_of(image: &Image, monitor: u8) -> Option<Monitor>
+pub(crate) fn monitor_of(image: &Image, monitor: u8) -> Option<Monitor>
     ensures row { result ≡ spec.monitor_of image.now monitor }
     ensures fits { IfSome result MonitorFits }
 {
@@ -81,7 +84,7 @@ fn monitor_of(image: &Image, monitor: u8) -> Option<Monitor>
 }
 
 // What is measured in a lane, if the monitor has that lane and its half is there.
-fn measured(image: &Image, monitor: Monitor, lane: u8) -> Option<Observation>
+pub(crate) fn measured(image: &Image, monitor: Monitor, lane: u8) -> Option<Observation>
     requires fits { MonitorFits monitor }
     requires first { 1 ≤ lane }
     ensures { result ≡ spec.measured image.now monitor lane }

@@ -1,10 +1,14 @@
 //! All that a module measures, in the order of the list.
 ghost use Rattle.std.specs.Prelude.{◌≡◌, ◌≤◌, ◌<◌, ◌+◌, ◌*◌, ◌/◌, ◌%◌, ℕ, max, None, Some, IfOk, IfSome, MatchOption};
+ghost use Rattle.observables.specs.Monitors.{MonitorFits};
 ghost use Rattle.observables.specs.Observations as spec;
 ghost use Rattle.observables.specs.Observations.{IsNextObservation, all_places, monitor_places, observations_before};
 ghost use Rattle.observables.specs.Words.{page_of};
 
-use crate::observation::{MONITOR_PLACES, Observation, observation_at};
+use crate::monitor::Monitor;
+use crate::observation::{
+    LANES, MONITOR_PLACES, Observation, measured, monitor_of, observation_at,
+};
 use crate::words::{byte_in, page_of};
 use paged_memory::{Image, PAGE_LEN};
 use std::alloc::{AllocError, Global};
@@ -34,12 +38,42 @@ pub fn next_observation(image: &Image, from: u16) -> Option<(u16, Observation)>
     ensures first { MatchOption result ((k : ℕ) → from ≤ k → k < all_places → spec.observation_at image.now k ≡ None) (IsNextObservation image.now from) }
     ensures within { IfSome result (λ found. found.0 < all_places) }
 {
-    for place in from..MONITOR_PLACES {
-        if let Some(observation) = observation_at(image, place) {
-            return Some((place, observation));
+    for number in from / LANES..MONITOR_PLACES / LANES {
+        if let Some(found) = next_of_monitor(image, number, from) {
+            return Some(found);
         }
     }
     next_of_instances(image, from.max(MONITOR_PLACES))
+}
+
+// The first from a place on of those of a monitor: none if the module's family lacks it.
+fn next_of_monitor(image: &Image, number: u16, from: u16) -> Option<(u16, Observation)>
+    requires { 8 * number < monitor_places }
+    ensures first { MatchOption result ((k : ℕ) → max from (8 * number) ≤ k → k < 8 * (number + 1) → spec.observation_at image.now k ≡ None)
+        (IsNextObservation image.now (max from (8 * number))) }
+{
+    let Some(monitor) = monitor_of(image, number as u8) else {
+        return None;
+    };
+    let first = LANES * number;
+    for place in from.max(first)..first + LANES {
+        if let Some(observation) = measured_at(image, number, monitor, place) {
+            return Some((place, observation));
+        }
+    }
+    None
+}
+
+// The observation at a place of those of a monitor.
+fn measured_at(image: &Image, _number: u16, monitor: Monitor, place: u16) -> Option<Observation>
+    requires few { 8 * _number < monitor_places }
+    requires first { 8 * _number ≤ place }
+    requires last { place < 8 * (_number + 1) }
+    requires row { spec.monitor_of image.now _number ≡ Some monitor }
+    requires fits { MonitorFits monitor }
+    ensures { result ≡ spec.observation_at image.now place }
+{
+    measured(image, monitor, (place % LANES) as u8 + 1)
 }
 
 // The first from a place of instances on.

@@ -1,7 +1,7 @@
-use Rattle.std.proofs.Common.{◌≡◌, ◌<◌, ◌≤◌, None, ℕ}
+use Rattle.std.proofs.Common.{◌≡◌, ◌<◌, ◌≤◌, ◌*◌, None, ℕ}
 use Rattle.observables.specs.Observations as spec
 use Rattle.observables.proofs.observations.next_observation.Given as goal
 
--- no place so far has an observation
-abbrev pub invariant-loop-place : goal.invariant-loop-place
-invariant-loop-place l = (k : ℕ) → l.from ≤ k → k < l.place → spec.observation_at l.image k ≡ None
+-- no place of the monitors so far has an observation
+abbrev pub invariant-loop-number : goal.invariant-loop-number
+invariant-loop-number l = (k : ℕ) → l.from ≤ k → k < 8 * l.number → spec.observation_at l.image k ≡ None
