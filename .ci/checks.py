@@ -14,6 +14,9 @@ PARTS = ("src", "specs", "proofs")
 # the checks that are under way
 RUNNING = set()
 PROOF_FILES = ("Invariants.antt", "Answers.antt", "Proof.antt")
+# where a check keeps what it has checked, for the next one; and where it can't: then it doesn't prove a second time what failed, to offer
+# the lines of proof files, which nobody reads here and which takes a sixth of a round
+KEPT, NOWHERE = "out/incremental", "/proc/nowhere"
 OPEN_PROOF = """use Rattle.{crate}.proofs.{path}.Statement.{{statement}}
 
 pub {name}_spec : {{M : Type 1}} → statement M
@@ -79,7 +82,7 @@ def check_of(name, libraries):
     words += ["-L", f"dependency={libraries.folder}"]
     words += ["--crate-type", "staticlib"] if head else []
     words += ["--antt-project", f"{KIT}/rattle/logic/antt-project.json", "--logic-built", f"{KIT}/logic_built"]
-    return [*words, "--links", f"{name}=", "--incremental", "out/incremental"]
+    return [*words, "--links", f"{name}="]
 
 
 def is_newer(path, made):
@@ -184,7 +187,8 @@ class Copy:
             self.give_proof(it, twins.get(it, it))
         own = {path: read(f"{self.folder}/{path}") for path in texts}
         self.write(texts)
-        said = self.said(["--allow-holes", *(word for it in sorted(functions) for word in ("--only", it))])
+        # most crates have one round; those that follow it are of few edits, over what the first of them keeps
+        said = self.said(["--allow-holes", *(word for it in sorted(functions) for word in ("--only", it))], KEPT if self.checks else NOWHERE)
         self.write(own)
         for it in functions - twins.keys():
             self.leave_open(it)
@@ -197,9 +201,10 @@ class Copy:
             raise CheckFailed(broken[0] if broken else said[-1500:])
         return said
 
-    def said(self, words):
-        """What a check with these words prints. One that is killed, most likely for memory, is made once more."""
-        words = [*check_of(self.name, self.libraries), "--jobs", "1", *words]
+    def said(self, words, place=KEPT):
+        """What a check with these words prints, which keeps what it checks in this place. One that is killed, most likely for memory, is made
+        once more."""
+        words = [*check_of(self.name, self.libraries), "--incremental", place, "--jobs", "1", *words]
         for _ in range(2):
             with subprocess.Popen(words, cwd=self.folder, stdout=subprocess.PIPE, stderr=subprocess.STDOUT, text=True) as ran:
                 RUNNING.add(ran)
