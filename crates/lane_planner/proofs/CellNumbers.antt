@@ -1,5 +1,5 @@
 -- Numbers that are kept in two parts, in cells that some places have.
-use Rattle.std.proofs.Common.{◌≡◌, ℕ, ◌+◌, ◌-◌, ◌*◌, ◌<◌, ◌≤◌, Bool, true, false, cond, List, length, replicate, set, get_or, refl, sym, subst, ◌∙◌, inl, inr, arith, nat_eq, nat_le, nat_lt, get_or-set_other}
+use Rattle.std.proofs.Common.{◌≡◌, ℕ, ◌+◌, ◌-◌, ◌*◌, ◌<◌, ◌≤◌, true, false, cond, List, length, replicate, set, get_or, refl, sym, subst, ◌∙◌, inl, inr, arith, get_or-set_other}
 use Rattle.std.proofs.Math.ListN.{length-replicate, length-set}
 use Rattle.std.proofs.lemmas.Bool.{cases_Bool, cases_eq, cases_lt, cond_both}
 use Rattle.std.proofs.lemmas.Bool.Decides.{nat_tests}

@@ -1,8 +1,8 @@
 -- What the decisions from a state are: the free lane's, and those of paths that fit.
-use Rattle.std.proofs.Common.{◌≡◌, ◌+◌, ◌<◌, ◌⊎◌, Bool, true, false, List, [], ◌∷◌, ◌++◌, map, filter, cond, nat_lt, refl, sym, subst, inl, inr, arith, ℕ, ◌/◌, ◌%◌, ◌≤◌, ap}
-use Rattle.std.specs.List.{AllByRecursion, Contains}
+use Rattle.std.proofs.Common.{◌≡◌, ◌+◌, ◌*◌, ◌<◌, ◌⊎◌, Bool, true, List, [], ◌∷◌, ◌++◌, filter, nat_lt, get_or, refl, inl, inr, arith, ℕ, ◌%◌, ◌≤◌, ap}
+use Rattle.std.specs.List.{All, Contains}
 use Rattle.std.proofs.lemmas.Bool.{and_parts, cond_both, ltb-true}
-use Rattle.std.proofs.lemmas.List.Elements.{All-contains, All-from_recursion}
+use Rattle.std.proofs.lemmas.List.Elements.{All-append, All-cons, All-contains, All-filter, All-from_recursion, All-map, All-nil, All-weaker, filter_passes}
 use Rattle.field_tables.specs.LaneSets.{is_disjoint}
 use Rattle.applications.specs.Advertised.{Advertised}
 use Rattle.applications.specs.AppWeights.{PathWeights}
@@ -12,10 +12,10 @@ use Rattle.plan_certificate.specs.declared.state.Decision.{Decision}
 use Rattle.plan_certificate.specs.Paths.{media_lanes}
 use Rattle.plan_certificate.specs.KeptPaths.{is_eligible, may_stay_free}
 use Rattle.plan_certificate.specs.States.{fits, free_decision, free_decisions, path_decision, path_decisions, paths_at, decisions_from, state_at, state_place}
-use Rattle.plan_certificate.proofs.Lists.{all_of_append, map_each}
+use Rattle.plan_certificate.proofs.Lists.{each_contained}
 use Rattle.plan_certificate.proofs.MoveLists.{BeginsAt, each_begins}
 use Rattle.plan_certificate.proofs.ByteLanes.{IsByte, each_end_is_byte}
-use Rattle.plan_certificate.proofs.Heaviest.{allowed}
+use Rattle.plan_certificate.proofs.Heaviest.{allowed, each_decision}
 use Rattle.plan_certificate.proofs.KeptPaths.{eligible_allowed}
 
 pub record OfPath (advert : Advertised) (weights : PathWeights) (kept : List Path) (state : State) (decision : Decision) : Type 0 where
@@ -35,36 +35,40 @@ pub record IsDecision (advert : Advertised) (weights : PathWeights) (kept : List
 
 -- ---- the decisions
 
-path_decisions_are : (advert : Advertised) (weights : PathWeights) (kept : List Path) (state : State) (paths : List Path) → AllByRecursion (BeginsAt (state.boundary + 1)) paths → AllByRecursion (OfPath advert weights kept state) (path_decisions advert weights kept state paths)
+-- they are listed
+pub listed_decisions : (advert : Advertised) (weights : PathWeights) (kept : List Path) (state : State) → state.boundary < 8
+    → (may_stay_free advert kept (state.boundary + 1) ≡ true → Contains (decisions_from advert weights kept state) (free_decision state))
+    × ((path : Path) → path.host ≡ state.boundary + 1 → is_eligible advert kept path ≡ true → is_disjoint (media_lanes advert path) state.used ≡ true → Contains (decisions_from advert weights kept state) (path_decision advert weights state path))
+listed_decisions advert weights kept state below =
+    let all = decisions_from advert weights kept state in
+    each_decision advert weights kept (Contains all) state below (each_contained all)
+
+path_decisions_are : (advert : Advertised) (weights : PathWeights) (kept : List Path) (state : State) → All (OfPath advert weights kept state) (path_decisions advert weights kept state (paths_at advert (state.boundary + 1)))
 unfolding path_decisions
-path_decisions_are advert weights kept state [] begin = tt
-path_decisions_are advert weights kept state (path ∷ paths) begin =
-    let rest = path_decisions_are advert weights kept state paths begin.1 in
-    let left = filter (fits advert kept state) paths in
-    cond_both (fits advert kept state path) (path ∷ left) left (λ (ps : List Path). AllByRecursion (OfPath advert weights kept state) (map (path_decision advert weights state) ps))
-    (λ does. let parts = and_parts _ _ does in (record { path = path; begins = begin.0; can = parts.0; unused = parts.1; is = refl }, rest))
-    (λ fails. rest)
+path_decisions_are advert weights kept state =
+    let test = fits advert kept state in
+    let paths = paths_at advert (state.boundary + 1) in
+    let begin = All-filter test (BeginsAt (state.boundary + 1)) paths (All-from_recursion (BeginsAt (state.boundary + 1)) paths (each_begins advert (state.boundary + 1))) in
+    All-map (OfPath advert weights kept state) (path_decision advert weights state) (filter test paths) (λ k d below.
+    let parts = and_parts _ _ (filter_passes test paths k d below) in
+    record { path = get_or (filter test paths) k d; begins = begin k d below; can = parts.0; unused = parts.1; is = refl })
 
-free_is_decision : (advert : Advertised) (weights : PathWeights) (kept : List Path) (state : State) (may : Bool) → may_stay_free advert kept (state.boundary + 1) ≡ may → state.boundary < 8 → AllByRecursion (IsDecision advert weights kept state) (free_decisions may state)
-free_is_decision advert weights kept state true is below = (record { below = below; kind = inl (refl, is) }, tt)
-free_is_decision advert weights kept state false is below = tt
-
-each_is_decision : (advert : Advertised) (weights : PathWeights) (kept : List Path) (state : State) → AllByRecursion (IsDecision advert weights kept state) (decisions_from advert weights kept state)
+each_is_decision : (advert : Advertised) (weights : PathWeights) (kept : List Path) (state : State) → All (IsDecision advert weights kept state) (decisions_from advert weights kept state)
 unfolding decisions_from
 each_is_decision advert weights kept state =
+    let Is = IsDecision advert weights kept state in
     let may : Bool = may_stay_free advert kept (state.boundary + 1) in
     let of_paths = path_decisions advert weights kept state (paths_at advert (state.boundary + 1)) in
-    cond_both (nat_lt state.boundary 8) (free_decisions may state ++ of_paths) [] (AllByRecursion (IsDecision advert weights kept state))
+    cond_both (nat_lt state.boundary 8) (free_decisions may state ++ of_paths) [] (All Is)
     (λ is.
     let below = ltb-true state.boundary 8 is in
-    let paths = map_each (OfPath advert weights kept state) (IsDecision advert weights kept state) of_paths (λ decision h. record { below = below; kind = inr h }) (path_decisions_are advert weights kept state (paths_at advert (state.boundary + 1)) (each_begins advert (state.boundary + 1))) in
-    all_of_append (IsDecision advert weights kept state) (free_decisions may state) of_paths (free_is_decision advert weights kept state may refl below) paths)
-    (λ fails. tt)
+    All-append Is (free_decisions may state) of_paths
+    (cond_both may (free_decision state ∷ []) [] (All Is) (λ free. All-cons Is (free_decision state) [] (record { below = below; kind = inl (refl, free) }) (All-nil Is)) (λ taken. All-nil Is))
+    (All-weaker (OfPath advert weights kept state) Is (λ decision h. record { below = below; kind = inr h }) of_paths (path_decisions_are advert weights kept state)))
+    (λ fails. All-nil Is)
 
 pub decision_is : (advert : Advertised) (weights : PathWeights) (kept : List Path) (state : State) (decision : Decision) → Contains (decisions_from advert weights kept state) decision → IsDecision advert weights kept state decision
-decision_is advert weights kept state decision contains =
-    let decisions = decisions_from advert weights kept state in
-    All-contains (IsDecision advert weights kept state) decisions decision (All-from_recursion (IsDecision advert weights kept state) decisions (each_is_decision advert weights kept state)) contains
+decision_is advert weights kept state decision = All-contains (IsDecision advert weights kept state) (decisions_from advert weights kept state) decision (each_is_decision advert weights kept state)
 
 pub at_is_byte : (place : ℕ) → IsByte (state_at place).used
 at_is_byte place = record { byte = place % 256; below = omega arith; is = refl }
@@ -90,6 +94,6 @@ ends_later advert weights kept state decision is_byte contains =
           record { past = omega (arith, end, lanes.host_some); within = omega (arith, end, taken.begins, lanes.host_to); is_byte = byte }
     ]
 
--- the place of a state with a higher boundary is higher
-pub place_past : (place : ℕ) (state : State) → place / 256 < state.boundary → place + 1 ≤ state_place state
-place_past place state past = omega (arith, past)
+-- the place of a state with a higher boundary is past those at this one
+pub place_past : (boundary : ℕ) (state : State) → boundary < state.boundary → 256 * boundary + 256 ≤ state_place state
+place_past boundary state past = omega (arith, past)

@@ -1,6 +1,6 @@
 -- Of two plans one at most comes before the other, and first best plans have the same paths.
 use Rattle.std.proofs.Common.{List, inl, inr, arith}
-use Rattle.std.specs.List.{All, Contains}
+use Rattle.std.specs.List.{Contains}
 use Rattle.std.proofs.lemmas.Bool.{cases_lt}
 use Rattle.std.proofs.lemmas.List.Elements.{All-contains, All-from_recursion}
 use Rattle.applications.specs.Advertised.{Advertised}
@@ -35,7 +35,7 @@ not_before_same paths others ahead same = not_in_other paths others ahead ((same
 
 -- ---- plans with the same paths
 
-pub same_back : (paths others : List Path) → HaveSamePaths paths others → HaveSamePaths others paths
+same_back : (paths others : List Path) → HaveSamePaths paths others → HaveSamePaths others paths
 same_back paths others same path = ((same path).1, (same path).0)
 
 same_on : (paths others more : List Path) → HaveSamePaths paths others → HaveSamePaths others more → HaveSamePaths paths more
@@ -73,10 +73,3 @@ first_of_same advert weights kept paths others best same is =
         | inr ahead ↦ inr (before_of_same paths others more same ahead)
       ];
     }
-
--- each path of the one plan is in the other, and each of the other in it
-pub same_from_all : (paths others : List Path) → All (Contains paths) others → All (Contains others) paths → HaveSamePaths paths others
-same_from_all paths others all back path = ((λ held. All-contains (Contains others) paths path back held), (λ held. All-contains (Contains paths) others path all held))
-
-pub all_from_same : (paths others : List Path) → HaveSamePaths paths others → All (Contains others) paths
-all_from_same paths others same = All-from_recursion (Contains others) paths (map_each (Contains paths) (Contains others) paths (λ path held. (same path).0 held) (each_contained paths))

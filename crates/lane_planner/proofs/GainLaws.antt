@@ -1,5 +1,5 @@
 -- Gains and decisions: a gain covers each decision; where no path that weighs something or is kept keeps it, the free lane does.
-use Rattle.std.proofs.Common.{◌≡◌, ℕ, ◌+◌, ◌-◌, ◌<◌, ◌≤◌, true, List, [], ◌∷◌, subst, ap, inl, inr, arith, zero, suc, false, refl, sym, ◌∙◌}
+use Rattle.std.proofs.Common.{◌≡◌, ◌⊎◌, ℕ, ◌+◌, ◌-◌, ◌<◌, ◌≤◌, true, List, [], ◌∷◌, subst, ap, inl, inr, arith, zero, suc, false, refl, sym, ◌∙◌}
 use Rattle.std.specs.List.{All, Contains}
 use Rattle.std.proofs.lemmas.Bool.{cases_Bool, cases_lt}
 use Rattle.std.proofs.lemmas.List.Elements.{All-contains, All-contains_itself, recursion_from_All}
@@ -13,13 +13,13 @@ use Rattle.plan_certificate.specs.declared.state.Decision.{Decision}
 use Rattle.plan_certificate.specs.Paths.{media_lanes, path_weight, app_of}
 use Rattle.plan_certificate.specs.KeptPaths.{is_among, is_eligible, may_stay_free}
 use Rattle.plan_certificate.specs.States.{free_decision, path_decision, decisions_from}
-use Rattle.plan_certificate.proofs.Heaviest.{IsPreserved, IsLater, LeavesEnough, allowed, each_decision, lanes_later}
+use Rattle.plan_certificate.proofs.Heaviest.{IsPreserved, IsLater, LeavesEnough, allowed, lanes_later}
 use Rattle.plan_certificate.proofs.KeptPaths.{eligible_allowed, listed_among}
-use Rattle.plan_certificate.proofs.Lists.{each_contained, map_each}
+use Rattle.plan_certificate.proofs.Lists.{map_each}
 use Rattle.lane_planner.specs.FirstBest.{IsOfUse}
 use Rattle.lane_planner.specs.Gains.{Follow, IsGain, IsLimit, CanBeGained, decisions_weight}
 use Rattle.lane_planner.proofs.KeptLanes.{has_lane, none_has, takes_lane, lane_of_other}
-use Rattle.lane_planner.proofs.DecisionKinds.{OfPath, decision_is}
+use Rattle.lane_planner.proofs.DecisionKinds.{OfPath, decision_is, listed_decisions}
 use Rattle.plan_certificate.proofs.LaneRuns.{disjoint_union}
 use Rattle.lane_planner.proofs.DisjointLanes.{disjoint_first, disjoint_second}
 
@@ -36,9 +36,7 @@ as_much : (advert : Advertised) (weights : PathWeights) (kept : List Path) (deci
 as_much advert weights kept [] state freer at fewer follow = ([], tt, refl)
 as_much advert weights kept (decision ∷ decisions) state freer at fewer follow =
     let is = decision_is advert weights kept state decision follow.0 in
-    let all = decisions_from advert weights kept freer in
-    let below : freer.boundary < 8 = omega (arith, at, is.below) in
-    let each = each_decision advert weights kept (Contains all) freer below (each_contained all) in
+    let each = listed_decisions advert weights kept freer (omega (arith, at, is.below)) in
     let total = sum_by-cons weight decision decisions in
     elim (is.kind) [
       | inl free ↦
@@ -68,8 +66,7 @@ free_run advert weights kept (suc count) state gain within free gained =
     let same : state.boundary + suc count ≡ state.boundary + 1 + count = omega arith in
     let after = subst (λ (n : ℕ). CanBeGained advert weights kept (record { boundary = n; used = state.used }) gain) same gained in
     let rest = free_run advert weights kept count (free_decision state).end gain (omega (arith, within)) (λ lane past upto. free lane (omega (arith, past)) (omega (arith, upto))) after in
-    let all = decisions_from advert weights kept state in
-    let each = each_decision advert weights kept (Contains all) state (omega (arith, within)) (each_contained all) in
+    let each = listed_decisions advert weights kept state (omega (arith, within)) in
     (free_decision state ∷ rest.0, (each.0 (free (state.boundary + 1) (omega arith) (omega arith)), rest.1), omega (arith, rest.2, sum_by-cons weight (free_decision state) rest.0))
 
 -- ---- in place of a path
@@ -106,105 +103,116 @@ covers_decision advert weights kept state gain later decision is is_later contai
     let run = is_later.gained in
     omega (arith, run.2, is.greatest (decision ∷ run.0) (contains, run.1), sum_by-cons weight decision run.0)
 
-limit_of : (advert : Advertised) (weights : PathWeights) (kept : List Path) (state : State) (gain : ℕ) (after : State → ℕ)
-    → All (λ decision. IsGain advert weights kept decision.end (after decision.end)) (decisions_from advert weights kept state)
-    → All (λ decision. decision.weight + after decision.end ≤ gain) (decisions_from advert weights kept state) → IsLimit advert weights kept state gain
-limit_of advert weights kept state gain after gains covered [] follow = omega arith
-limit_of advert weights kept state gain after gains covered (decision ∷ decisions) follow =
-    let all = decisions_from advert weights kept state in
-    let covers = All-contains (λ (s : Decision). s.weight + after s.end ≤ gain) all decision covered follow.0 in
-    let rest = All-contains (λ (s : Decision). IsGain advert weights kept s.end (after s.end)) all decision gains follow.0 in
-    omega (arith, covers, rest.greatest decisions follow.1, sum_by-cons weight decision decisions)
+-- what can be gained after each decision
+abbrev pub GainsAfter : Advertised → PathWeights → List Path → (State → ℕ) → State → Type 0
+GainsAfter advert weights kept gain state = (decision : Decision) → Contains (decisions_from advert weights kept state) decision → IsGain advert weights kept decision.end (gain decision.end)
+
+limit_of : (advert : Advertised) (weights : PathWeights) (kept : List Path) (state : State) (most : ℕ) (gain : State → ℕ) → GainsAfter advert weights kept gain state → All (λ decision. decision.weight + gain decision.end ≤ most) (decisions_from advert weights kept state)
+    → IsLimit advert weights kept state most
+limit_of advert weights kept state most gain gains covered [] follow = omega arith
+limit_of advert weights kept state most gain gains covered (decision ∷ decisions) follow =
+    let covers = All-contains (λ (s : Decision). s.weight + gain s.end ≤ most) (decisions_from advert weights kept state) decision covered follow.0 in
+    omega (arith, covers, (gains decision follow.0).greatest decisions follow.1, sum_by-cons weight decision decisions)
 
 -- a sum that some decisions reach, and that covers each decision and what can be gained after it, is the gain
-pub gain_from_decisions : (advert : Advertised) (weights : PathWeights) (kept : List Path) (state : State) (gain : ℕ) (after : State → ℕ) → CanBeGained advert weights kept state gain
-    → All (λ decision. IsGain advert weights kept decision.end (after decision.end)) (decisions_from advert weights kept state)
-    → All (λ decision. decision.weight + after decision.end ≤ gain) (decisions_from advert weights kept state) → IsGain advert weights kept state gain
-gain_from_decisions advert weights kept state gain after gained gains covered = record {
-  gained = gained;
-  greatest = λ decisions. limit_of advert weights kept state gain after gains covered decisions;
+pub gain_from_decisions : (advert : Advertised) (weights : PathWeights) (kept : List Path) (state : State) (most : ℕ) (gain : State → ℕ) → CanBeGained advert weights kept state most → GainsAfter advert weights kept gain state
+    → All (λ decision. decision.weight + gain decision.end ≤ most) (decisions_from advert weights kept state) → IsGain advert weights kept state most
+gain_from_decisions advert weights kept state most gain gained gains covered = record { gained = gained; greatest = limit_of advert weights kept state most gain gains covered }
+
+-- ---- what keeps the gain
+
+-- what the state's gain is, and those after its decisions
+pub record KnowsGains (advert : Advertised) (weights : PathWeights) (kept : List Path) (gain : State → ℕ) (state : State) : Type 0 where
+  pub below : state.boundary < 8
+  pub here : IsGain advert weights kept state (gain state)
+  pub after : GainsAfter advert weights kept gain state
+
+-- a path that fits, and weighs something or is kept, leaves the rest of the gain
+pub record Keeps (advert : Advertised) (weights : PathWeights) (kept : List Path) (gain : State → ℕ) (state : State) (path : Path) : Type 0 where
+  pub begins : path.host ≡ state.boundary + 1
+  pub can : is_eligible advert kept path ≡ true
+  pub unused : is_disjoint (media_lanes advert path) state.used ≡ true
+  pub of_use : IsOfUse weights kept path
+  pub leaves : path_weight weights path + gain (path_decision advert weights state path).end ≡ gain state
+
+abbrev pub NoneKeeps : Advertised → PathWeights → List Path → (State → ℕ) → State → Type 0
+NoneKeeps advert weights kept gain state = (path : Path) → Keeps advert weights kept gain state path → ⊥
+
+-- a decision that reaches the gain together with what can be gained after it
+abbrev IsAttained : Advertised → PathWeights → List Path → (State → ℕ) → State → Type 0
+IsAttained advert weights kept gain state = (decision : Decision) × Contains (decisions_from advert weights kept state) decision × (decision.weight + gain decision.end ≡ gain state)
+
+attained_by : (advert : Advertised) (weights : PathWeights) (kept : List Path) (gain : State → ℕ) (state : State) → KnowsGains advert weights kept gain state → (decisions : List Decision) → Follow advert weights kept state decisions → decisions_weight decisions ≡ gain state
+    → (gain state ≡ 0) ⊎ IsAttained advert weights kept gain state
+attained_by advert weights kept gain state knows [] follow is = inl (sym is)
+attained_by advert weights kept gain state knows (decision ∷ decisions) follow is =
+    let rest = knows.after decision follow.0 in
+    let covers = covers_decision advert weights kept state (gain state) (gain decision.end) decision knows.here rest follow.0 in
+    inr (decision, follow.0, omega (arith, is, rest.greatest decisions follow.1, covers, sum_by-cons weight decision decisions))
+
+attained : (advert : Advertised) (weights : PathWeights) (kept : List Path) (gain : State → ℕ) (state : State) → KnowsGains advert weights kept gain state → (gain state ≡ 0) ⊎ IsAttained advert weights kept gain state
+attained advert weights kept gain state knows = let run = knows.here.gained in attained_by advert weights kept gain state knows run.0 run.1 run.2
+
+-- a path of use whose decision reaches the gain keeps it
+reaching_keeps : (advert : Advertised) (weights : PathWeights) (kept : List Path) (gain : State → ℕ) (state : State) (decision : Decision) → decision.weight + gain decision.end ≡ gain state → (taken : OfPath advert weights kept state decision) → IsOfUse weights kept taken.path → Keeps advert weights kept gain state taken.path
+reaching_keeps advert weights kept gain state decision reaches taken worth = record {
+  begins = taken.begins;
+  can = taken.can;
+  unused = taken.unused;
+  of_use = worth;
+  leaves = omega (arith, reaches, ap weight taken.is, ap (λ (s : Decision). gain s.end) taken.is);
 }
 
 -- ---- the free lane
 
--- no path that fits, and weighs something or is kept, leaves the rest of the gain
-abbrev pub NoneKeeps : Advertised → PathWeights → List Path → (State → ℕ) → State → Type 0
-NoneKeeps advert weights kept after state =
-    (path : Path) → path.host ≡ state.boundary + 1 → is_eligible advert kept path ≡ true → is_disjoint (media_lanes advert path) state.used ≡ true → IsOfUse weights kept path
-    → path_weight weights path + after (path_decision advert weights state path).end ≡ after state → ⊥
-
-abbrev pub GainsAfter : Advertised → PathWeights → List Path → (State → ℕ) → State → Type 0
-GainsAfter advert weights kept after state = (decision : Decision) → Contains (decisions_from advert weights kept state) decision → IsGain advert weights kept decision.end (after decision.end)
-
--- a path of use whose decision and what follows reach the gain keeps it
-reaching_keeps : (advert : Advertised) (weights : PathWeights) (kept : List Path) (after : State → ℕ) (state : State) → IsGain advert weights kept state (after state) → GainsAfter advert weights kept after state → NoneKeeps advert weights kept after state
-    → (decision : Decision) (decisions : List Decision) → Follow advert weights kept state (decision ∷ decisions) → decisions_weight (decision ∷ decisions) ≡ after state → (taken : OfPath advert weights kept state decision) → IsOfUse weights kept taken.path → ⊥
-reaching_keeps advert weights kept after state gain gains none decision decisions follow is taken worth =
-    let total = sum_by-cons weight decision decisions in
-    let rest = gains decision follow.0 in
-    let most = rest.greatest decisions follow.1 in
-    let covers = covers_decision advert weights kept state (after state) (after decision.end) decision gain rest follow.0 in
-    let same = ap (λ (s : Decision). s.end) taken.is in
-    none taken.path taken.begins taken.can taken.unused worth (omega (arith, is, total, most, covers, ap weight taken.is, ap after same))
-
--- decisions that reach the gain show that it can be had after a free lane
-had_after_free : (advert : Advertised) (weights : PathWeights) (kept : List Path) (after : State → ℕ) (state : State) → IsGain advert weights kept state (after state) → GainsAfter advert weights kept after state → NoneKeeps advert weights kept after state
-    → Contains (decisions_from advert weights kept state) (free_decision state) → (decisions : List Decision) → Follow advert weights kept state decisions → decisions_weight decisions ≡ after state → after state ≤ after (free_decision state).end
-had_after_free advert weights kept after state gain gains none listed [] follow is = omega (arith, is)
-had_after_free advert weights kept after state gain gains none listed (decision ∷ decisions) follow is =
-    let total = sum_by-cons weight decision decisions in
-    let most = (gains decision follow.0).greatest decisions follow.1 in
-    elim ((decision_is advert weights kept state decision follow.0).kind) [
-      | inl free ↦ omega (arith, is, total, most, ap weight free.0, ap (λ (s : Decision). after s.end) free.0)
-      | inr taken ↦
-          let path : Path = taken.path in
-          let reaching = reaching_keeps advert weights kept after state gain gains none decision decisions follow is taken in
-          elim (cases_lt 0 (path_weight weights path)) [
-            | inl some ↦ absurd (reaching (inl some))
-            | inr nothing ↦ elim (cases_Bool (is_among kept path)) [
-              | inl among ↦ absurd (reaching (inr (listed_among kept path among)))
-              | inr not_kept ↦
-                  let End : State = (path_decision advert weights state path).end in
-                  let next : Follow advert weights kept End decisions = subst (λ (s : State). Follow advert weights kept s decisions) (ap (λ (s : Decision). s.end) taken.is) follow.1 in
-                  let bound = after_path_free advert weights kept state path (after (free_decision state).end) taken.can not_kept taken.begins (gains (free_decision state) listed) decisions next in
-                  omega (arith, is, total, ap weight taken.is, nothing, bound)
+-- where no path keeps the gain, it can be had after a free lane
+had_after_free : (advert : Advertised) (weights : PathWeights) (kept : List Path) (gain : State → ℕ) (state : State) → KnowsGains advert weights kept gain state → NoneKeeps advert weights kept gain state → IsGain advert weights kept (free_decision state).end (gain (free_decision state).end) → gain state ≤ gain (free_decision state).end
+had_after_free advert weights kept gain state knows none later =
+    elim (attained advert weights kept gain state knows) [
+      | inl nothing ↦ omega (arith, nothing)
+      | inr by ↦ elim ((decision_is advert weights kept state by.0 by.1).kind) [
+        | inl free ↦ omega (arith, by.2, ap weight free.0, ap (λ (s : Decision). gain s.end) free.0)
+        | inr taken ↦
+            let path : Path = taken.path in
+            let not_of_use = λ (worth : IsOfUse weights kept path). none path (reaching_keeps advert weights kept gain state by.0 by.2 taken worth) in
+            elim (cases_lt 0 (path_weight weights path)) [
+              | inl some ↦ absurd (not_of_use (inl some))
+              | inr nothing ↦ elim (cases_Bool (is_among kept path)) [
+                | inl among ↦ absurd (not_of_use (inr (listed_among kept path among)))
+                | inr not_kept ↦
+                    let run = subst (λ (s : State). CanBeGained advert weights kept s (gain s)) (ap (λ (s : Decision). s.end) taken.is) (knows.after by.0 by.1).gained in
+                    let bound = after_path_free advert weights kept state path (gain (free_decision state).end) taken.can not_kept taken.begins later run.0 run.1 in
+                    omega (arith, by.2, ap weight taken.is, ap (λ (s : Decision). gain s.end) taken.is, nothing, bound, run.2)
+              ]
             ]
-          ]
+      ]
     ]
 
-pub free_keeps : (advert : Advertised) (weights : PathWeights) (kept : List Path) (after : State → ℕ) (state : State) → state.boundary < 8 → may_stay_free advert kept (state.boundary + 1) ≡ true → IsGain advert weights kept state (after state) → GainsAfter advert weights kept after state → NoneKeeps advert weights kept after state
-    → after (free_decision state).end ≡ after state
-free_keeps advert weights kept after state below may gain gains none =
-    let all = decisions_from advert weights kept state in
-    let free = (each_decision advert weights kept (Contains all) state below (each_contained all)).0 may in
-    let covers = covers_decision advert weights kept state (after state) (after (free_decision state).end) (free_decision state) gain (gains (free_decision state) free) free in
-    let upto = had_after_free advert weights kept after state gain gains none free gain.gained.0 gain.gained.1 gain.gained.2 in
-    omega (arith, covers, upto)
+pub free_keeps : (advert : Advertised) (weights : PathWeights) (kept : List Path) (gain : State → ℕ) (state : State) → KnowsGains advert weights kept gain state → may_stay_free advert kept (state.boundary + 1) ≡ true → NoneKeeps advert weights kept gain state → gain (free_decision state).end ≡ gain state
+free_keeps advert weights kept gain state knows may none =
+    let free = (listed_decisions advert weights kept state knows.below).0 may in
+    let later = knows.after (free_decision state) free in
+    let covers = covers_decision advert weights kept state (gain state) (gain (free_decision state).end) (free_decision state) knows.here later free in
+    omega (arith, covers, had_after_free advert weights kept gain state knows none later)
 
 -- ---- the first host lane of a kept path
 
--- decisions that reach the gain show that a kept path keeps it, where one begins
-reached_by_kept : (advert : Advertised) (weights : PathWeights) (kept : List Path) (after : State → ℕ) (state : State) (begun : Path) → state.boundary < 8 → IsGain advert weights kept state (after state) → GainsAfter advert weights kept after state → NoneKeeps advert weights kept after state
-    → Contains kept begun → IsLater advert kept state begun → begun.host ≡ state.boundary + 1 → (decisions : List Decision) → Follow advert weights kept state decisions → decisions_weight decisions ≡ after state → ⊥
-reached_by_kept advert weights kept after state begun below gain gains none held later begins [] follow is =
-    let all = decisions_from advert weights kept state in
-    let decision = path_decision advert weights state begun in
-    let contains = (each_decision advert weights kept (Contains all) state below (each_contained all)).1 begun begins later.can later.unused in
-    let covers = covers_decision advert weights kept state (after state) (after decision.end) decision gain (gains decision contains) contains in
-    none begun begins later.can later.unused (inr held) (omega (arith, covers, is))
-reached_by_kept advert weights kept after state begun below gain gains none held later begins (decision ∷ decisions) follow is =
+-- where a kept path begins, some path keeps the gain
+pub kept_keeps : (advert : Advertised) (weights : PathWeights) (kept : List Path) (gain : State → ℕ) (state : State) (begun : Path) → KnowsGains advert weights kept gain state → NoneKeeps advert weights kept gain state → Contains kept begun → IsLater advert kept state begun → begun.host ≡ state.boundary + 1 → ⊥
+kept_keeps advert weights kept gain state begun knows none held later begins =
     let lane : ℕ = state.boundary + 1 in
     let lanes = lanes_later advert kept state begun later in
     let has = has_lane advert begun lane (omega (arith, begins)) (omega (arith, begins, lanes.host_some)) in
-    elim ((decision_is advert weights kept state decision follow.0).kind) [
-      | inl free ↦ none_has advert kept lane begun free.1 held has
-      | inr taken ↦
-          let own = allowed advert taken.path (eligible_allowed advert kept taken.path taken.can) in
-          let also = has_lane advert taken.path lane (omega (arith, taken.begins)) (omega (arith, taken.begins, own.host_some)) in
-          reaching_keeps advert weights kept after state gain gains none decision decisions follow is taken (inr (takes_lane advert kept taken.path begun lane taken.can held has also))
+    let decision = path_decision advert weights state begun in
+    let listed = (listed_decisions advert weights kept state knows.below).1 begun begins later.can later.unused in
+    let covers = covers_decision advert weights kept state (gain state) (gain decision.end) decision knows.here (knows.after decision listed) listed in
+    elim (attained advert weights kept gain state knows) [
+      | inl nothing ↦ none begun (record { begins = begins; can = later.can; unused = later.unused; of_use = inr held; leaves = omega (arith, covers, nothing) })
+      | inr by ↦ elim ((decision_is advert weights kept state by.0 by.1).kind) [
+        | inl free ↦ none_has advert kept lane begun free.1 held has
+        | inr taken ↦
+            let own = allowed advert taken.path (eligible_allowed advert kept taken.path taken.can) in
+            let also = has_lane advert taken.path lane (omega (arith, taken.begins)) (omega (arith, taken.begins, own.host_some)) in
+            none taken.path (reaching_keeps advert weights kept gain state by.0 by.2 taken (inr (takes_lane advert kept taken.path begun lane taken.can held has also)))
+      ]
     ]
-
-pub kept_keeps : (advert : Advertised) (weights : PathWeights) (kept : List Path) (after : State → ℕ) (state : State) (begun : Path) → state.boundary < 8 → IsGain advert weights kept state (after state) → GainsAfter advert weights kept after state → NoneKeeps advert weights kept after state
-    → Contains kept begun → IsLater advert kept state begun → begun.host ≡ state.boundary + 1 → ⊥
-kept_keeps advert weights kept after state begun below gain gains none held later begins =
-    reached_by_kept advert weights kept after state begun below gain gains none held later begins gain.gained.0 gain.gained.1 gain.gained.2

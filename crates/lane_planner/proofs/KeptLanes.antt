@@ -1,8 +1,8 @@
 -- Lanes of kept paths: none of these stays free, and no other path takes them.
-use Rattle.std.proofs.Common.{◌≡◌, ℕ, ◌+◌, ◌<◌, ◌≤◌, ◌⊎◌, ◌&&◌, ◌||◌, Bool, true, false, not, List, [], ◌∷◌, refl, sym, ap, ◌∙◌, inl, inr, arith}
+use Rattle.std.proofs.Common.{◌≡◌, ℕ, ◌+◌, ◌<◌, ◌≤◌, ◌⊎◌, ◌&&◌, Bool, true, false, not, List, [], ◌∷◌, refl, sym, ap, ◌∙◌, inl, inr, arith}
 use Rattle.std.specs.List.{Contains, list_all}
 use Rattle.std.specs.FinSet as set
-use Rattle.std.proofs.lemmas.Bool.{and_parts, cases_Bool, or_cases}
+use Rattle.std.proofs.lemmas.Bool.{and_parts, both_ways, cases_Bool, or_cases, true_from_ne_false}
 use Rattle.std.proofs.lemmas.Bool.Decides.{nat_tests}
 use Rattle.std.proofs.lemmas.List.Elements.{All-contains, Contains-append_right}
 use Rattle.std.proofs.lemmas.List.Sums.{AllPass-from_list_all}
@@ -11,8 +11,8 @@ use Rattle.applications.specs.Advertised.{Advertised}
 use Rattle.plan_certificate.specs.declared.path.Path.{Path}
 use Rattle.plan_certificate.specs.Paths.{app_of, host_lanes}
 use Rattle.plan_certificate.specs.Plans.{are_apart, IsAdmissible}
-use Rattle.plan_certificate.specs.KeptPaths.{is_among, is_apart_from, is_eligible, may_stay_free}
-use Rattle.plan_certificate.proofs.KeptPaths.{listed_among, same_or_apart}
+use Rattle.plan_certificate.specs.KeptPaths.{is_among, is_eligible, may_stay_free}
+use Rattle.plan_certificate.proofs.KeptPaths.{among_listed, listed_among, same_or_apart}
 use Rattle.plan_certificate.proofs.LaneRuns.{apart_at}
 use Rattle.plan_certificate.proofs.PathTakenOut.{IsApart, apart_back}
 
@@ -65,11 +65,6 @@ one_has advert (path ∷ kept) lane not_free =
 
 -- ---- the paths that may take them
 
-apart_if_not_kept : (advert : Advertised) (kept : List Path) (path : Path) → is_eligible advert kept path ≡ true → is_among kept path ≡ false → is_apart_from advert kept path ≡ true
-apart_if_not_kept advert kept path can not_kept =
-    let either = (and_parts _ _ can).0 in
-    ap (λ (b : Bool). b || is_apart_from advert kept path) (sym not_kept) ∙ either
-
 -- an eligible path is a kept one, or apart from each
 pub kept_or_apart : (advert : Advertised) (kept : List Path) (path other : Path) → is_eligible advert kept path ≡ true → Contains kept other → Contains kept path ⊎ IsApart advert other path
 kept_or_apart advert kept path other can held =
@@ -95,15 +90,8 @@ same_or_beside advert kept path other plan can held =
     ]
 
 -- the lanes of one that isn't kept may stay free
-free_beside : (advert : Advertised) (kept : List Path) (path : Path) (lane : ℕ) → is_apart_from advert kept path ≡ true → HasLane advert path lane → may_stay_free advert kept lane ≡ true
-free_beside advert [] path lane apart has = refl
-free_beside advert (one ∷ kept) path lane apart has =
-    let parts = and_parts _ _ apart in
-    let rest = free_beside advert kept path lane parts.1 has in
-    elim (cases_Bool (set.contains (host_lanes advert one) lane)) [
-      | inl both ↦ absurd (not_both advert one path lane parts.0 both has)
-      | inr lacks ↦ (λ i. not (lacks i) && rest i)
-    ]
-
 pub lane_of_other : (advert : Advertised) (kept : List Path) (path : Path) (lane : ℕ) → is_eligible advert kept path ≡ true → is_among kept path ≡ false → HasLane advert path lane → may_stay_free advert kept lane ≡ true
-lane_of_other advert kept path lane can not_kept has = free_beside advert kept path lane (apart_if_not_kept advert kept path can not_kept) has
+lane_of_other advert kept path lane can not_kept has =
+    true_from_ne_false (may_stay_free advert kept lane) (λ taken.
+    let one = one_has advert kept lane taken in
+    both_ways (is_among kept path) not_kept (among_listed kept path (takes_lane advert kept path one.path lane can one.held one.has has)))

@@ -1,8 +1,7 @@
 -- The kept paths, while a plan is read off: each has been taken or may still come, and in the end all have been taken.
 use Rattle.std.proofs.Common.{◌≡◌, ℕ, ◌+◌, ◌≤◌, ◌⊎◌, true, List, [], ◌∷◌, ◌++◌, subst, inl, inr, arith}
-use Rattle.std.specs.List.{All, AllByRecursion, Contains}
-use Rattle.std.proofs.lemmas.Bool.{cases_Bool}
-use Rattle.std.proofs.lemmas.List.Elements.{All-contains, All-from_recursion, Contains-append_left, Contains-push}
+use Rattle.std.specs.List.{AllByRecursion, Contains}
+use Rattle.std.proofs.lemmas.List.Elements.{All-contains, Contains-append_left, Contains-push}
 use Rattle.applications.specs.Advertised.{Advertised}
 use Rattle.applications.specs.AppWeights.{PathWeights}
 use Rattle.plan_certificate.specs.declared.path.Path.{Path}
@@ -15,11 +14,7 @@ use Rattle.plan_certificate.proofs.Heaviest.{IsLater, after_path, allowed, lanes
 use Rattle.plan_certificate.proofs.KeptPaths.{plan_eligible}
 use Rattle.plan_certificate.proofs.LaneRuns.{disjoint_none}
 use Rattle.plan_certificate.proofs.Lists.{each_contained, each_pair, map_each}
-use Rattle.lane_planner.specs.Tables.{gain_at}
-use Rattle.lane_planner.proofs.FirstPlans.{KnowsGains}
-use Rattle.lane_planner.proofs.GainLaws.{NoneKeeps, kept_keeps}
-use Rattle.lane_planner.proofs.KeptLanes.{has_lane, lane_within, none_has, one_has, same_or_beside}
-use Rattle.lane_planner.proofs.LaterPaths.{IsEarlier}
+use Rattle.lane_planner.proofs.KeptLanes.{has_lane, none_has, same_or_beside}
 
 abbrev pub IsTakenOrLater : Advertised → List Path → State → List Path → Path → Type 0
 IsTakenOrLater advert kept state paths path = Contains paths path ⊎ IsLater advert kept state path
@@ -55,22 +50,6 @@ taken_after_free advert kept state paths may are =
       | inl taken ↦ inl taken
       | inr later ↦ inr (later_after_free advert kept state path may held later)
     ]) (each_contained kept) are
-
--- where no path keeps the gain, the lane may: a kept path that begins there would
-pub lane_may_stay_free : (advert : Advertised) (weights : PathWeights) (kept : List Path) (table : List ℕ) (state : State) (paths : List Path) → KnowsGains advert weights kept table state → All (IsEarlier advert weights kept state) paths → AreTakenOrLater advert kept state paths → NoneKeeps advert weights kept (gain_at table) state
-    → may_stay_free advert kept (state.boundary + 1) ≡ true
-lane_may_stay_free advert weights kept table state paths gains earlier are none =
-    let lane : ℕ = state.boundary + 1 in
-    elim (cases_Bool (may_stay_free advert kept lane)) [
-      | inl may ↦ may
-      | inr not_free ↦
-          let one = one_has advert kept lane not_free in
-          let within = lane_within advert one.path lane one.has in
-          elim (All-contains (IsTakenOrLater advert kept state paths) kept one.path (All-from_recursion (IsTakenOrLater advert kept state paths) kept are) one.held) [
-            | inl taken ↦ absurd (omega (arith, within.to, (All-contains (IsEarlier advert weights kept state) paths one.path earlier taken).before))
-            | inr later ↦ absurd (kept_keeps advert weights kept (gain_at table) state one.path gains.below gains.here gains.after none one.held later (omega (arith, later.past, within.from)))
-          ]
-    ]
 
 -- ---- a path is taken
 

@@ -11,7 +11,8 @@ mod Marking
 mod MoreMoves
 pub mod TableGains
 pub mod LaterPaths
-mod ChosenPaths
+pub mod AheadPlans
+pub mod ChosenPaths
 mod FirstPlans
 pub mod KeptTaken
 pub mod FirstLaws

@@ -1,5 +1,5 @@
 -- Lists of what a function gives of each place, with one of them set, or all the same.
-use Rattle.std.proofs.Common.{◌≡◌, ℕ, zero, suc, ◌<◌, List, map, replicate, set, get_or, refl, sym, ap, ◌∙◌, inl, inr, arith, get_or-set_other}
+use Rattle.std.proofs.Common.{◌≡◌, ℕ, zero, suc, ◌<◌, map, replicate, set, get_or, refl, sym, ap, ◌∙◌, inl, inr, arith, get_or-set_other}
 use Rattle.std.specs.List.{range_with_len}
 use Rattle.std.proofs.Math.ListN.{length-replicate, length-set}
 use Rattle.std.proofs.lemmas.Bool.{cases_eq}

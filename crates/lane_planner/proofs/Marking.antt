@@ -1,5 +1,5 @@
 -- Marking states from the start on: what is marked is what decisions from the start reach.
-use Rattle.std.proofs.Common.{◌≡◌, ℕ, ◌+◌, ◌<◌, ◌≤◌, Bool, true, false, List, [], ◌∷◌, ◌++◌, length, get_or, refl, sym, subst, ap, ◌∙◌, inl, inr, arith, get_or-set_same, get_or-set_other, zero, suc, replicate, set}
+use Rattle.std.proofs.Common.{◌≡◌, ℕ, ◌+◌, ◌/◌, ◌<◌, ◌≤◌, Bool, true, false, List, [], ◌∷◌, ◌++◌, length, get_or, refl, sym, subst, ap, ◌∙◌, inl, inr, arith, get_or-set_same, get_or-set_other, replicate, set}
 use Rattle.std.specs.List.{Contains}
 use Rattle.std.proofs.Math.ListN.{length-set, length-replicate}
 use Rattle.std.proofs.lemmas.Bool.{both_ways, cases_eq, cases_lt}
@@ -73,7 +73,7 @@ marks_past place end are not = record {
 pub marks_more : {advert : Advertised} {weights : PathWeights} {kept : List Path} {marks more : List Bool} (place : ℕ) → AreMarks advert weights kept place marks → place < 2304 → IsMarked marks place → MarksEnds (decisions_from advert weights kept (state_at place)) marks more → AreMarks advert weights kept (place + 1) more
 marks_more {advert} {weights} {kept} {marks} {more} place are below marked new =
     let late : (decision : Decision) → Contains (decisions_from advert weights kept (state_at place)) decision → place + 1 ≤ state_place decision.end = (λ decision contains.
-    place_past place decision.end (ends_later advert weights kept (state_at place) decision (at_is_byte place) contains).past) in
+    omega (arith, place_past (place / 256) decision.end (ends_later advert weights kept (state_at place) decision (at_is_byte place) contains).past)) in
     record {
       all = new.all ∙ are.all;
       begun = new.kept 0 are.begun;

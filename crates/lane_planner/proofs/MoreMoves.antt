@@ -1,43 +1,24 @@
 -- The decisions of a list of moves, as the list grows.
-use Rattle.std.proofs.Common.{◌≡◌, ℕ, suc, ◌+◌, ◌<◌, Bool, true, false, List, [], ◌∷◌, ◌++◌, length, map, filter, take, get_or, cond, ap, ◌∙◌, append-nil, arith}
-use Rattle.std.proofs.Math.Seq.{take-suc}
+use Rattle.std.proofs.Common.{◌≡◌, ℕ, ◌+◌, ◌<◌, Bool, true, false, List, [], ◌∷◌, ◌++◌, length, map, filter, take, get_or, cond, refl, sym, ap, ◌∙◌, append_assoc}
 use Rattle.std.proofs.lemmas.List.{map-append}
-use Rattle.std.proofs.lemmas.List.Elements.{filter-append}
+use Rattle.std.proofs.lemmas.List.Elements.{filter_more}
 use Rattle.plan_certificate.specs.declared.state.State.{State}
 use Rattle.plan_certificate.specs.declared.moves.Move.{Move}
 use Rattle.plan_certificate.specs.declared.state.Decision.{Decision}
-use Rattle.plan_certificate.specs.States.{free_decision}
-use Rattle.plan_certificate.specs.Moves.{is_open, move_decision, move_decisions, decisions_by}
+use Rattle.plan_certificate.specs.States.{free_decisions}
+use Rattle.plan_certificate.specs.Moves.{is_open, move_decision, decisions_by}
 
-of_both : (state : State) (moves more : List Move) → move_decisions state (moves ++ more) ≡ move_decisions state moves ++ move_decisions state more
-of_both state moves more =
-    ap (map (move_decision state)) (filter-append (is_open state) moves more) ∙ map-append (move_decision state) (filter (is_open state) moves) (filter (is_open state) more)
+decision_if : (is : Bool) (state : State) (move : Move) → map (move_decision state) (cond is (move ∷ []) []) ≡ cond is (move_decision state move ∷ []) []
+decision_if true state move = refl
+decision_if false state move = refl
 
-one_more : (moves : List Move) (k : ℕ) (move : Move) → k < length moves → move ≡ get_or moves k move → take (k + 1) moves ≡ take k moves ++ move ∷ []
-one_more moves k move below is =
-    let one : k + 1 ≡ suc k = omega arith in
-    let split = take-suc moves k move below in
-    cc
-
-open_more : (state : State) (moves : List Move) (k : ℕ) (move : Move) → k < length moves → move ≡ get_or moves k move → is_open state move ≡ true → move_decisions state (take (k + 1) moves) ≡ move_decisions state (take k moves) ++ move_decision state move ∷ []
-open_more state moves k move below is open_there =
-    ap (move_decisions state) (one_more moves k move below is)
-    ∙ of_both state (take k moves) (move ∷ [])
-    ∙ ap (λ (b : Bool). move_decisions state (take k moves) ++ map (move_decision state) (cond b (move ∷ []) [])) open_there
-
-shut_more : (state : State) (moves : List Move) (k : ℕ) (move : Move) → k < length moves → move ≡ get_or moves k move → is_open state move ≡ false → move_decisions state (take (k + 1) moves) ≡ move_decisions state (take k moves)
-shut_more state moves k move below is shut =
-    ap (move_decisions state) (one_more moves k move below is)
-    ∙ of_both state (take k moves) (move ∷ [])
-    ∙ ap (λ (b : Bool). move_decisions state (take k moves) ++ map (move_decision state) (cond b (move ∷ []) [])) shut
-    ∙ append-nil (move_decisions state (take k moves))
-
--- ---- after the free lane's decision, where there is one
-
-pub one_decision_more : (free : Bool) (state : State) (moves : List Move) (k : ℕ) (move : Move) → k < length moves → move ≡ get_or moves k move → is_open state move ≡ true → decisions_by free state (take (k + 1) moves) ≡ decisions_by free state (take k moves) ++ move_decision state move ∷ []
-one_decision_more true state moves k move below is open_there = ap (λ (decisions : List Decision). free_decision state ∷ decisions) (open_more state moves k move below is open_there)
-one_decision_more false state moves k move below is open_there = open_more state moves k move below is open_there
-
-pub no_decision_more : (free : Bool) (state : State) (moves : List Move) (k : ℕ) (move : Move) → k < length moves → move ≡ get_or moves k move → is_open state move ≡ false → decisions_by free state (take (k + 1) moves) ≡ decisions_by free state (take k moves)
-no_decision_more true state moves k move below is shut = ap (λ (decisions : List Decision). free_decision state ∷ decisions) (shut_more state moves k move below is shut)
-no_decision_more false state moves k move below is shut = shut_more state moves k move below is shut
+pub decisions_more : (free : Bool) (state : State) (moves : List Move) (k : ℕ) (move : Move) → k < length moves → move ≡ get_or moves k move → decisions_by free state (take (k + 1) moves) ≡ decisions_by free state (take k moves) ++ cond (is_open state move) (move_decision state move ∷ []) []
+decisions_more free state moves k move below is =
+    let before = filter (is_open state) (take k moves) in
+    let decisions = map (move_decision state) before in
+    let more : List Move = cond (is_open state move) (move ∷ []) [] in
+    let moves_are = filter_more (is_open state) moves k move below ∙ ap (λ (one : Move). before ++ cond (is_open state one) (one ∷ []) []) (sym is) in
+    let decisions_are = map-append (move_decision state) before more ∙ ap (λ (ds : List Decision). decisions ++ ds) (decision_if (is_open state move) state move) in
+    ap (λ (ms : List Move). free_decisions free state ++ map (move_decision state) ms) moves_are
+    ∙ ap (λ (ds : List Decision). free_decisions free state ++ ds) decisions_are
+    ∙ sym (append_assoc (free_decisions free state) decisions (cond (is_open state move) (move_decision state move ∷ []) []))

@@ -2,7 +2,7 @@
 use Rattle.std.proofs.Common.{◌≡◌, ◌↔◌, ℕ, zero, suc, ◌<◌, ◌⊎◌, List, [], ◌∷◌, length, get_or, refl, sym, subst, ap, ◌∙◌, inl, inr, arith}
 use Rattle.std.specs.List.{AllPairs, Contains}
 use Rattle.std.proofs.lemmas.List.{get_or-map, length-map}
-use Rattle.std.proofs.lemmas.List.Elements.{All-contains, Contains-get_or}
+use Rattle.std.proofs.lemmas.List.Elements.{All-contains, Contains-append_right, Contains-get_or}
 use Rattle.field_tables.specs.LaneSets.{byte_of, lanes_in}
 use Rattle.field_tables.specs.LaneBytes.{byte_of-lanes_in}
 use Rattle.text_lines.specs.Lines.{text_of}
@@ -29,26 +29,18 @@ module _ {X : Type 0} (rank : X → ℕ) where
   HaveSame xs ys = (x : X) → Contains xs x ↔ Contains ys x
 
   -- a member is the first one, or is of the rest and above it
-  first_or_rest : (x : X) (xs : List X) (y : X) → Rises (x ∷ xs) → (k : ℕ) → k < length (x ∷ xs) → get_or (x ∷ xs) k y ≡ y → (x ≡ y) ⊎ ((rank x < rank y) × Contains xs y)
-  first_or_rest x xs y rises zero below is = inl is
-  first_or_rest x xs y rises (suc k) below is = inr (subst (λ (z : X). rank x < rank z) is (rises zero (suc k) y (omega arith) below), (k, omega (arith, below), is))
+  first_or_rest : (x : X) (xs : List X) (y : X) → Rises (x ∷ xs) → Contains (x ∷ xs) y → (x ≡ y) ⊎ ((rank x < rank y) × Contains xs y)
+  first_or_rest x xs y rises (zero, below, is) = inl is
+  first_or_rest x xs y rises (suc k, below, is) = inr (subst (λ (z : X). rank x < rank z) is (rises zero (suc k) y (omega arith) below), (k, omega (arith, below), is))
 
   rest_rises : (x : X) (xs : List X) → Rises (x ∷ xs) → Rises xs
   rest_rises x xs rises i j d before below = rises (suc i) (suc j) d (omega (arith, before)) (omega (arith, below))
 
-  in_rest : (x : X) (xs : List X) (y : X) → Contains xs y → Contains (x ∷ xs) y
-  in_rest x xs y contains = (suc contains.0, omega (arith, contains.1), contains.2)
-
-  rank_above : (x : X) (xs : List X) (y : X) → Rises (x ∷ xs) → Contains xs y → rank x < rank y
-  rank_above x xs y rises contains = subst (λ (z : X). rank x < rank z) contains.2 (rises zero (suc contains.0) y (omega arith) (omega (arith, contains.1)))
-
   same_first : (x y : X) (xs ys : List X) → Rises (x ∷ xs) → Rises (y ∷ ys) → HaveSame (x ∷ xs) (y ∷ ys) → x ≡ y
   same_first x y xs ys rises others same =
-      let there = (same x).0 (zero, omega arith, refl) in
-      let back = (same y).1 (zero, omega arith, refl) in
-      elim (first_or_rest y ys x others there.0 there.1 there.2) [
+      elim (first_or_rest y ys x others ((same x).0 (zero, omega arith, refl))) [
         | inl is ↦ sym is
-        | inr above ↦ elim (first_or_rest x xs y rises back.0 back.1 back.2) [
+        | inr above ↦ elim (first_or_rest x xs y rises ((same y).1 (zero, omega arith, refl))) [
           | inl is ↦ is
           | inr below ↦ absurd (omega (arith, above.0, below.0))
         ]
@@ -56,10 +48,10 @@ module _ {X : Type 0} (rank : X → ℕ) where
 
   rest_to : (x y : X) (xs ys : List X) → Rises (x ∷ xs) → Rises (y ∷ ys) → x ≡ y → (z : X) → (Contains (x ∷ xs) z → Contains (y ∷ ys) z) → Contains xs z → Contains ys z
   rest_to x y xs ys rises others is z to contains =
-      let there = to (in_rest x xs z contains) in
-      let above = rank_above x xs z rises contains in
-      elim (first_or_rest y ys z others there.0 there.1 there.2) [
-        | inl same ↦ let equal : rank x ≡ rank z = ap rank (is ∙ same) in absurd (omega (arith, above, equal))
+      elim (first_or_rest y ys z others (to (Contains-append_right (x ∷ []) xs z contains))) [
+        | inl same ↦
+            let above = subst (λ (w : X). rank x < rank w) contains.2 (rises zero (suc contains.0) z (omega arith) (omega (arith, contains.1))) in
+            absurd (omega (arith, above, ap rank (is ∙ same)))
         | inr found ↦ found.1
       ]
 

@@ -1,10 +1,11 @@
 -- The entries of the marked states: each reached state's once, and each covers its decisions.
 use Rattle.std.proofs.Common.{◌≡◌, ◌↔◌, ℕ, ◌+◌, ◌<◌, ◌≤◌, Bool, List, [], ◌∷◌, ◌++◌, map, get_or, refl, sym, subst, ap, ◌∙◌, inl, inr, arith, zero, suc, true, false, cond, filter}
 use Rattle.std.specs.List.{All, Contains, range_with_len}
-use Rattle.std.proofs.lemmas.Bool.{cases_eq, cases_Bool, cases_lt, false_from_ne_true}
-use Rattle.std.proofs.lemmas.List.{get_or-map, length-append, length-map, append-nil}
-use Rattle.std.proofs.lemmas.List.Elements.{All-contains, All-map, All-push, All-weaker, Contains-append_left, Contains-get_or, Contains-push}
-use Rattle.std.proofs.lemmas.List.Quantifiers.{all_pairs_push}
+use Rattle.std.proofs.lemmas.Bool.{cases_lt, false_from_ne_true}
+use Rattle.std.proofs.lemmas.List.{get_or-map, length-map, append-nil}
+use Rattle.std.proofs.lemmas.List.Elements.{All-contains, All-filter, All-from_recursion, All-map, Contains-get_or, filter_passes}
+use Rattle.std.proofs.lemmas.List.Kept.{AllPairs-filter}
+use Rattle.std.proofs.lemmas.List.Sums.{count_by-le-length, length-filter}
 use Rattle.plan_certificate.specs.declared.path.Path.{Path}
 use Rattle.applications.specs.Advertised.{Advertised}
 use Rattle.applications.specs.AppWeights.{PathWeights}
@@ -21,46 +22,14 @@ use Rattle.lane_planner.proofs.GainLaws.{covers_decision}
 use Rattle.lane_planner.proofs.Places.{place_below, state_of_place}
 use Rattle.lane_planner.proofs.ReachedStates.{has_place, reached_on}
 use Rattle.lane_planner.proofs.TableGains.{gain_in}
-use Rattle.std.proofs.lemmas.List.FromFn.{filter_of_map_range_with_len_more}
-
--- ---- the entries so far
+use Rattle.std.proofs.lemmas.List.FromFn.{filter_of_map_range_with_len_more, get_or-map-range_with_len, length-map-range_with_len}
+use Rattle.plan_certificate.proofs.Lists.{each_contained, each_of_filter}
 
 abbrev IsMarkedEntry : List Bool → List ℕ → Entry → Type 0
 IsMarkedEntry marks table entry = IsMarked marks (entry_place entry) × (entry ≡ entry_at table (entry_place entry))
 
 pub place_is : (table : List ℕ) (place : ℕ) → entry_place (entry_at table place) ≡ place
 place_is table place = omega arith
-
-pub one_entry_more : (marks : List Bool) (table : List ℕ) (place : ℕ) (entries : List Entry) → AreEntries marks table place entries → place < 2304 → IsMarked marks place → AreEntries marks table (place + 1) (entries ++ entry_at table place ∷ [])
-one_entry_more marks table place entries are inside marked =
-    let entry : Entry = entry_at table place in
-    let at : entry_place entry ≡ place = place_is table place in
-    record {
-      states = record {
-        rising = all_pairs_push (λ entry later. entry_place entry < entry_place later) entries entry are.states.rising (λ k d below. omega (arith, are.below k d below, at));
-        within = All-push (λ e. e.boundary ≤ 8) entries entry are.states.within (omega (arith, inside));
-        bytes = All-push (λ e. e.used < 256) entries entry are.states.bytes (omega arith);
-      };
-      below = All-push (λ e. entry_place e < place + 1) entries entry (All-weaker (λ e. entry_place e < place) (λ e. entry_place e < place + 1) (λ e low. omega (arith, low)) entries are.below) (omega (arith, at));
-      marked = All-push (IsMarkedEntry marks table) entries entry are.marked (subst (IsMarked marks) (sym at) marked, ap (entry_at table) (sym at));
-      each = λ other low is. elim (cases_eq other place) [
-        | inl same ↦ subst (λ (n : ℕ). Contains (entries ++ entry ∷ []) (entry_at table n)) (sym same) (Contains-push entries entry)
-        | inr differs ↦ Contains-append_left entries (entry ∷ []) (entry_at table other) (are.each other (omega (arith, low, differs)) is)
-      ];
-      few = omega (arith, are.few, length-append entries (entry ∷ []));
-    }
-
-pub no_entry_more : (marks : List Bool) (table : List ℕ) (place : ℕ) (entries : List Entry) → AreEntries marks table place entries → (IsMarked marks place → ⊥) → AreEntries marks table (place + 1) entries
-no_entry_more marks table place entries are not = record {
-  states = are.states;
-  below = All-weaker (λ e. entry_place e < place) (λ e. entry_place e < place + 1) (λ e low. omega (arith, low)) entries are.below;
-  marked = are.marked;
-  each = λ other low is. elim (cases_eq other place) [
-    | inl same ↦ absurd (not (subst (IsMarked marks) same is))
-    | inr differs ↦ are.each other (omega (arith, low, differs)) is
-  ];
-  few = omega (arith, are.few);
-}
 
 -- ---- what they are worth
 
@@ -113,15 +82,6 @@ module _ (advert : Advertised) (weights : PathWeights) (kept : List Path) (marks
     (λ contains. All-contains (IsReached advert weights kept) (map state_of entries) state (All-map (IsReached advert weights kept) state_of entries (λ k d below. entry_reached (get_or entries k d) (Contains-get_or entries k d below))) contains),
   )
 
-no_entries : (marks : List Bool) (table : List ℕ) → AreEntries marks table 0 []
-no_entries marks table = record {
-  states = omega arith;
-  below = omega arith;
-  marked = λ k d below. absurd (omega (arith, below));
-  each = λ place low. absurd (omega (arith, low));
-  few = omega arith;
-}
-
 pub none_marked : (marks : List Bool) (table : List ℕ) → marked_entries marks table 0 ≡ []
 unfolding marked_entries
 none_marked marks table = refl
@@ -149,14 +109,38 @@ none_between marks table place (suc end) within not = elim (cases_lt end place) 
       ∙ none_between marks table place end more (λ other past low. not other past (omega (arith, low)))
 ]
 
+-- ---- the entries of the marked places
+
+-- what holds of the entry at each place holds of each of them
+each_marked : (P : Entry → Type 0) (marks : List Bool) (table : List ℕ) (n : ℕ) → ((place : ℕ) → place < n → P (entry_at table place)) → All P (marked_entries marks table n)
+unfolding marked_entries
+each_marked P marks table n each =
+    let all = map (entry_at table) (range_with_len 0 n) in
+    All-filter (λ (e : Entry). get_or marks (entry_place e) false) P all (λ k d below.
+    let low : k < n = omega (arith, below, length-map-range_with_len (entry_at table) 0 n) in
+    subst P (sym (get_or-map-range_with_len (entry_at table) 0 n k k d low (omega arith))) (each k low))
+
 pub are_marked : (marks : List Bool) (table : List ℕ) (n : ℕ) → n ≤ 2304 → AreEntries marks table n (marked_entries marks table n)
-are_marked marks table zero within = subst (AreEntries marks table 0) (sym (none_marked marks table)) (no_entries marks table)
-are_marked marks table (suc n) within =
-    let before = are_marked marks table n (omega (arith, within)) in
-    let so_far = marked_entries marks table n in
-    let next : n + 1 ≡ suc n = omega arith in
-    let Are : List Entry → Type 0 = AreEntries marks table (n + 1) in
-    subst (λ (m : ℕ). AreEntries marks table m (marked_entries marks table m)) next (elim (cases_Bool (get_or marks n false)) [
-      | inl marked ↦ subst Are (sym (entries_more marks table n true marked)) (one_entry_more marks table n so_far before (omega (arith, within)) marked)
-      | inr not ↦ subst Are (sym (not_marked marks table n not)) (no_entry_more marks table n so_far before (λ marked. let wrong : false ≡ true = sym not ∙ marked in cc))
-    ])
+unfolding marked_entries
+are_marked marks table n within =
+    let Rise : Entry → Entry → Type 0 = λ entry later. entry_place entry < entry_place later in
+    let test : Entry → Bool = λ entry. get_or marks (entry_place entry) false in
+    let all = map (entry_at table) (range_with_len 0 n) in
+    let long = length-map-range_with_len (entry_at table) 0 n in
+    let place_of = λ (k : ℕ) (d : Entry) (low : k < n). ap entry_place (get_or-map-range_with_len (entry_at table) 0 n k k d low (omega arith)) in
+    let own = each_marked (λ e. e ≡ entry_at table (entry_place e)) marks table n (λ place low. ap (entry_at table) (sym (place_is table place))) in
+    let Held : Entry → Type 0 = Contains (marked_entries marks table n) in
+    record {
+      states = record {
+        rising = AllPairs-filter Rise test all (λ i j d before below. omega (arith, before, place_of i d (omega (arith, before, below, long)), place_of j d (omega (arith, below, long))));
+        within = each_marked (λ e. e.boundary ≤ 8) marks table n (λ place low. omega (arith, low, within));
+        bytes = each_marked (λ e. e.used < 256) marks table n (λ place low. omega arith);
+      };
+      below = each_marked (λ e. entry_place e < n) marks table n (λ place low. omega (arith, low, place_is table place));
+      marked = λ k d below. (filter_passes test all k d below, own k d below);
+      each = λ place low marked.
+          let held = All-from_recursion (λ (e : Entry). test e ≡ true → Held e) all (each_of_filter Held test all (each_contained (filter test all))) in
+          let here = get_or-map-range_with_len (entry_at table) 0 n place place (entry_at table place) low (omega arith) in
+          All-contains (λ (e : Entry). test e ≡ true → Held e) all (entry_at table place) held (place, omega (arith, low, long), here) (ap (λ (n : ℕ). get_or marks n false) (place_is table place) ∙ marked);
+      few = omega (arith, length-filter test all, count_by-le-length test all, long);
+    }

@@ -1,5 +1,5 @@
 -- The states that decisions from the start reach: with one the ends of its decisions, and none past the last host lane.
-use Rattle.std.proofs.Common.{◌≤◌, List, [], ◌∷◌, ◌++◌, refl, sym, subst, arith, ◌≡◌, ℕ, ◌/◌, ◌<◌, true, ap, ◌∙◌, inl, inr}
+use Rattle.std.proofs.Common.{◌≤◌, List, [], ◌∷◌, ◌++◌, refl, sym, subst, arith, ◌≡◌, ◌⊎◌, ℕ, ◌<◌, true, ap, ◌∙◌, inl, inr}
 use Rattle.std.specs.List.{Contains}
 use Rattle.plan_certificate.specs.declared.path.Path.{Path}
 use Rattle.applications.specs.Advertised.{Advertised}
@@ -10,7 +10,6 @@ use Rattle.plan_certificate.specs.States.{start, decisions_from, state_at, state
 use Rattle.plan_certificate.specs.ReachedStates.{IsReached, Leads}
 use Rattle.plan_certificate.proofs.ByteLanes.{IsByte, start_is_byte}
 use Rattle.lane_planner.proofs.DecisionKinds.{ends_later}
-use Rattle.std.proofs.lemmas.Bool.{cases_lt}
 use Rattle.lane_planner.specs.Tables.{has_cell}
 use Rattle.lane_planner.proofs.CellNumbers.{later_has_cell, start_has_cell}
 use Rattle.lane_planner.proofs.Places.{place_of_state_at, start_place}
@@ -25,35 +24,24 @@ reached_on advert weights kept state decision is contains = (is.0 ++ decision �
 pub start_reached : (advert : Advertised) (weights : PathWeights) (kept : List Path) → IsReached advert weights kept start
 start_reached advert weights kept = ([], refl)
 
+-- it is the start, or past the first boundary
 pub record HasPlace (state : State) : Type 0 where
   pub within : state.boundary ≤ 8
   pub is_byte : IsByte state.used
+  pub later : (state ≡ start) ⊎ (0 < state.boundary)
 
 led_has_place : (advert : Advertised) (weights : PathWeights) (kept : List Path) (from : State) (decisions : List Decision) (state : State) → HasPlace from → Leads advert weights kept from decisions state → HasPlace state
 led_has_place advert weights kept from [] state has leads = subst HasPlace leads has
 led_has_place advert weights kept from (decision ∷ decisions) state has leads =
     let ends = ends_later advert weights kept from decision has.is_byte leads.0 in
-    led_has_place advert weights kept decision.end decisions state (record { within = ends.within; is_byte = ends.is_byte }) leads.1
+    led_has_place advert weights kept decision.end decisions state (record { within = ends.within; is_byte = ends.is_byte; later = inr (omega (arith, ends.past)) }) leads.1
 
 pub has_place : (advert : Advertised) (weights : PathWeights) (kept : List Path) (state : State) → IsReached advert weights kept state → HasPlace state
-has_place advert weights kept state is = led_has_place advert weights kept start is.0 state (record { within = omega arith; is_byte = start_is_byte }) is.1
-
--- decisions lead on
-no_further_back : (advert : Advertised) (weights : PathWeights) (kept : List Path) (decisions : List Decision) (from state : State) → IsByte from.used → Leads advert weights kept from decisions state → from.boundary ≤ state.boundary
-no_further_back advert weights kept [] from state is_byte leads = omega (arith, ap (λ (s : State). s.boundary) leads)
-no_further_back advert weights kept (decision ∷ decisions) from state is_byte leads =
-    let ends = ends_later advert weights kept from decision is_byte leads.0 in
-    omega (arith, ends.past, no_further_back advert weights kept decisions decision.end state ends.is_byte leads.1)
-
-led_to_start : (advert : Advertised) (weights : PathWeights) (kept : List Path) (decisions : List Decision) (place : ℕ) → Leads advert weights kept start decisions (state_at place) → place < 256 → place ≡ 0
-led_to_start advert weights kept [] place leads low = sym (place_of_state_at place) ∙ sym (ap state_place leads) ∙ start_place
-led_to_start advert weights kept (decision ∷ decisions) place leads low =
-    let ends = ends_later advert weights kept start decision start_is_byte leads.0 in
-    absurd (omega (arith, low, ends.past, no_further_back advert weights kept decisions decision.end (state_at place) ends.is_byte leads.1))
+has_place advert weights kept state is = led_has_place advert weights kept start is.0 state (record { within = omega arith; is_byte = start_is_byte; later = inl refl }) is.1
 
 -- so each reached state that is before the last boundary has a cell
 pub reached_has_cell : (advert : Advertised) (weights : PathWeights) (kept : List Path) (place : ℕ) → IsReached advert weights kept (state_at place) → place < 2048 → has_cell place ≡ true
-reached_has_cell advert weights kept place is below = elim (cases_lt place 256) [
-  | inl low ↦ start_has_cell place (led_to_start advert weights kept is.0 place is.1 low)
-  | inr past ↦ later_has_cell place past below
+reached_has_cell advert weights kept place is below = elim ((has_place advert weights kept (state_at place) is).later) [
+  | inl first ↦ start_has_cell place (sym (place_of_state_at place) ∙ ap state_place first ∙ start_place)
+  | inr past ↦ later_has_cell place (omega (arith, past)) below
 ]

@@ -19,13 +19,6 @@ pub record IsFirstMarked (marks : List Bool) (from end place : ℕ) : Type 0 whe
   pub none : (other : ℕ) → from ≤ other → other < place → IsMarked marks other → ⊥
   pub marked : place < end → IsMarked marks place
 
--- the place after the last marked one of these; the one that they begin with if there is none
-pub record IsPastLastMarked (marks : List Bool) (from end place : ℕ) : Type 0 where
-  pub after : from ≤ place
-  pub within : place ≤ end
-  pub none : (other : ℕ) → place ≤ other → other < end → IsMarked marks other → ⊥
-  pub marked : from < place → IsMarked marks (place - 1)
-
 -- exactly the states that decisions from the start reach are marked
 pub record MarksReached (advert : Advertised) (weights : PathWeights) (kept : List Path) (marks : List Bool) : Type 0 where
   pub all : length marks ≡ most_states

@@ -1,6 +1,6 @@
 -- The planner's table of gains, by the places of states, and the plan that it reads off. (docs/planning.md, "The planner";
 -- this project's own)
-use Rattle.std.specs.Prelude.{◌≡◌, ℕ, Bool, ◌+◌, ◌-◌, ◌*◌, ◌/◌, ◌%◌, ◌<◌, ◌≤◌, ◌==◌, ◌&&◌, ◌||◌, ◌⊎◌, nat_lt, nat_le, if◌then◌else◌, false, List, [], ◌∷◌, ◌++◌, Option, All, AllPairs, Contains, filter, find, length, map, slice_index, slice_index_or}
+use Rattle.std.specs.Prelude.{◌≡◌, ℕ, Bool, ◌+◌, ◌-◌, ◌*◌, ◌/◌, ◌%◌, ◌<◌, ◌≤◌, ◌==◌, ◌&&◌, ◌||◌, nat_lt, nat_le, if◌then◌else◌, false, List, [], ◌∷◌, All, AllPairs, Contains, filter, length, map, max, slice_index, slice_index_or}
 use Rattle.std.specs.List.{range_with_len}
 use Rattle.applications.specs.Advertised.{Advertised}
 use Rattle.applications.specs.AppWeights.{PathWeights}
@@ -9,10 +9,9 @@ use Rattle.plan_certificate.specs.declared.moves.Move.{Move}
 use Rattle.plan_certificate.specs.declared.state.State.{State}
 use Rattle.plan_certificate.specs.declared.state.Decision.{Decision}
 use Rattle.plan_certificate.specs.declared.certificate.Entry.{Entry}
-use Rattle.plan_certificate.specs.Paths.{path_weight}
 use Rattle.plan_certificate.specs.Plans.{IsAdmissible, Keeps, plan_weight}
 use Rattle.plan_certificate.specs.KeptPaths.{is_among}
-use Rattle.plan_certificate.specs.States.{start, state_at, state_place, fits, path_decision, paths_at}
+use Rattle.plan_certificate.specs.States.{start, state_at, state_place}
 use Rattle.plan_certificate.specs.ReachedStates.{IsReached}
 use Rattle.plan_certificate.specs.Moves.{is_open, move_decision}
 use Rattle.plan_certificate.specs.Certificates.{HasStates, entry_place}
@@ -44,39 +43,32 @@ pub record IsTable (table : List ℕ) : Type 0 where
   pub all : length table ≡ most_states
   pub small : (place : ℕ) → place < most_states → slice_index table place ≤ 17179869180 * (8 - place / 256)
 
--- the gains of the reached states from a place on
-pub record HasGains (advert : Advertised) (weights : PathWeights) (kept : List Path) (from : ℕ) (table : List ℕ) : Type 0 where
+-- the gains of the reached states at these places
+pub record AreGains (advert : Advertised) (weights : PathWeights) (kept : List Path) (Done : ℕ → Type 0) (table : List ℕ) : Type 0 where
   pub numbers : IsTable table
-  pub gains : (place : ℕ) → from ≤ place → place < most_states → IsReached advert weights kept (state_at place) → IsGain advert weights kept (state_at place) (slice_index table place)
+  pub gains : (place : ℕ) → Done place → place < most_states → IsReached advert weights kept (state_at place) → IsGain advert weights kept (state_at place) (slice_index table place)
+
+-- those from a place on
+abbrev pub HasGains : Advertised → PathWeights → List Path → ℕ → List ℕ → Type 0
+HasGains advert weights kept from = AreGains advert weights kept (λ place. from ≤ place)
 
 abbrev pub gain_at : List ℕ → State → ℕ
 gain_at table state = slice_index table (state_place state)
 
 -- the most that one of the decisions weighs together with what the table has where it leads; 0 if there is none
-pub record IsMost (table : List ℕ) (decisions : List Decision) (most : ℕ) : Type 0 where
-  pub attained : (most ≡ 0) ⊎ ((decision : Decision) × Contains decisions decision × (decision.weight + gain_at table decision.end ≡ most))
-  pub greatest : All (λ decision. decision.weight + gain_at table decision.end ≤ most) decisions
+abbrev pub most_by : List ℕ → List Decision → ℕ
+most_by table [] = 0
+most_by table (decision ∷ decisions) = max (decision.weight + gain_at table decision.end) (most_by table decisions)
 
 abbrev pub entry_at : List ℕ → ℕ → Entry
 entry_at table place = record { boundary = place / 256; used = place % 256; potential = slice_index table place }
 
--- a path that fits, weighs something or is kept, and after which the state's whole gain can still be had
-unfoldable pub keeps_gain : Advertised → PathWeights → List Path → List ℕ → State → Path → Bool
-keeps_gain advert weights kept table state path =
-    fits advert kept state path
-    && (nat_lt 0 (path_weight weights path) || is_among kept path)
-    && path_weight weights path + gain_at table (path_decision advert weights state path).end == gain_at table state
-
--- the same of a path's move
+-- a move is open, weighs something or is a kept path's, and after it the state's whole gain can still be had
 abbrev pub move_keeps_gain : List Path → List ℕ → State → Move → Bool
 move_keeps_gain kept table state move =
     is_open state move
     && (nat_lt 0 move.weight || is_among kept move.path)
     && move.weight + gain_at table (move_decision state move).end == gain_at table state
-
--- the first such path, by rising Application and media lane
-unfoldable pub chosen : Advertised → PathWeights → List Path → List ℕ → State → Option Path
-chosen advert weights kept table state = find (keeps_gain advert weights kept table state) (paths_at advert (state.boundary + 1))
 
 -- a plan of so much weight with the kept paths, without others of weight 0
 pub record IsPlanOf (advert : Advertised) (weights : PathWeights) (kept : List Path) (weight : ℕ) (paths : List Path) : Type 0 where

@@ -1,5 +1,5 @@
 // The path that the plan takes at each state.
-ghost use Rattle.std.specs.Prelude.{◌≡◌, ◌||◌, ◌+◌, ◌≤◌, ◌<◌, nat_lt, All, find};
+ghost use Rattle.std.specs.Prelude.{◌≡◌, ◌||◌, ◌+◌, ◌<◌, nat_lt, All, find};
 ghost use Rattle.plan_certificate.specs.KeptPaths as spec;
 ghost use Rattle.plan_certificate.specs.Plans.{IsAdmissible};
 ghost use Rattle.plan_certificate.specs.Moves.{LeadsOn};

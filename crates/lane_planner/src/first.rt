@@ -1,4 +1,5 @@
-ghost use Rattle.std.specs.Prelude.{◌↔◌, All, Contains, IsTrue};
+ghost use Rattle.std.specs.Prelude.{◌↔◌, Contains, IsTrue};
+ghost use Rattle.plan_certificate.specs.declared.path.Path.{Path};
 ghost use Rattle.plan_certificate.specs.Certificates.{IsGood};
 ghost use Rattle.lane_planner.specs.FirstBest.{HaveSamePaths, IsFirstBest};
 
@@ -27,7 +28,7 @@ fn have_same_paths(paths: &[Path], others: &[Path]) -> bool
 }
 
 fn has_all(paths: &[Path], others: &[Path]) -> bool
-    ensures { IsTrue result ↔ All (Contains paths.now) others.now }
+    ensures { IsTrue result ↔ ((path : Path) → Contains others.now path → Contains paths.now path) }
 {
     others.iter().all(|other| has(paths, other))
 }

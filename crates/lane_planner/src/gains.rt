@@ -3,7 +3,7 @@ ghost use Rattle.std.specs.Prelude.{◌≡◌, ◌+◌, ◌≤◌, ◌<◌, ◌-
 ghost use Rattle.plan_certificate.specs.Plans.{AreAllowed};
 ghost use Rattle.plan_certificate.specs.Moves.{LeadsOn, decisions_by};
 ghost use Rattle.lane_planner.specs.Marks.{MarksReached};
-ghost use Rattle.lane_planner.specs.Tables.{HasGains, IsMost, IsTable};
+ghost use Rattle.lane_planner.specs.Tables.{HasGains, IsTable, most_by};
 
 use crate::marks::Marks;
 use crate::table::Table;
@@ -27,14 +27,14 @@ pub fn put_gains(
     for boundary in (0..HOST_LANES).rev() {
         moves.list(advert, weights, kept, boundary);
         let from = 256 * usize::from(boundary);
-        let mut past = marks.past_last(from, from + 256);
-        while from < past {
-            let place = past - 1;
+        let end = from + 256;
+        let mut place = marks.first(from, end);
+        while place < end {
             let state = State::at(place);
             let free = moves.may_stay_free;
             let gain = most(free, moves.moves.as_slice(), table, &state);
             table.put(place, gain);
-            past = marks.past_last(from, place);
+            place = marks.first(place + 1, end);
         }
     }
 }
@@ -44,7 +44,7 @@ fn most(may_stay_free: bool, moves: &[Move], table: &Table, state: &State) -> u6
     requires table { IsTable table.now }
     requires open { state.now.boundary < 8 }
     requires lead_on { All (LeadsOn state.now.boundary) moves.now }
-    ensures most { IsMost table.now (decisions_by may_stay_free state.now moves.now) result }
+    ensures most { result ≡ most_by table.now (decisions_by may_stay_free state.now moves.now) }
     ensures small { result ≤ 17179869180 * (8 - state.now.boundary) }
 {
     let mut most = 0;

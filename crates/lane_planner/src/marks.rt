@@ -1,6 +1,6 @@
 ghost use Rattle.std.specs.Prelude.{◌≡◌, ◌≢◌, ◌<◌, ◌≤◌, ℕ, true, false, replicate, slice_index_or, slice_set};
 ghost use Rattle.std.specs.Int.{bit_at};
-ghost use Rattle.lane_planner.specs.Marks.{IsFirstMarked, IsMarked, IsPastLastMarked};
+ghost use Rattle.lane_planner.specs.Marks.{IsFirstMarked, IsMarked};
 
 use plan_certificate::STATES;
 use std::marker::Model;
@@ -71,32 +71,6 @@ impl Marks {
         } else {
             place + 1
         }
-    }
-
-    /// The place after the last marked one from `from` on and before `end`; `from` if there is none.
-    pub(crate) fn past_last(&self, from: usize, end: usize) -> usize
-        requires from { from ≤ end }
-        requires end { end ≤ STATES }
-        ensures { IsPastLastMarked self.now from end result }
-    {
-        let mut past = end;
-        while from < past {
-            if self.has(past - 1) {
-                return past;
-            }
-            past = self.before(past - 1).max(from);
-        }
-        from
-    }
-
-    // The place itself; if its byte has no mark, the first place of that byte.
-    fn before(&self, place: usize) -> usize
-        requires { place < STATES }
-        ensures earlier { result ≤ place }
-        ensures none { (other : ℕ) → result ≤ other → other < place → IsMarked self.now other → ⊥ }
-    {
-        let byte = self.bytes[place / 8];
-        if byte == 0 { 8 * (place / 8) } else { place }
     }
 
     pub(crate) fn mark(&mut self, place: usize)

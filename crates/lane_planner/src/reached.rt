@@ -1,5 +1,5 @@
 // Which states decisions from the start reach.
-ghost use Rattle.std.specs.Prelude.{◌≡◌, ◌≤◌, ◌<◌, ◌+◌, All, false, length, replicate};
+ghost use Rattle.std.specs.Prelude.{◌≡◌, ◌<◌, ◌+◌, All, false, length, replicate};
 ghost use Rattle.plan_certificate.specs.Plans.{AreAllowed};
 ghost use Rattle.plan_certificate.specs.Moves.{LeadsOn, decisions_by};
 ghost use Rattle.lane_planner.specs.Marks.{MarksEnds, MarksReached};

@@ -2,7 +2,6 @@
 ghost use Rattle.std.specs.Prelude.{◌≡◌, ◌+◌, ◌*◌, ◌≤◌, List, ℕ, IfOk, length, map};
 ghost use Rattle.std.specs.List.{AllByRecursion};
 ghost use Rattle.text_lines.specs.Lines.{text_of};
-ghost use Rattle.plan_certificate.specs.declared.line.Line.{Line};
 ghost use Rattle.plan_certificate.specs.declared.line.Line.TheVariants.{StateLine};
 ghost use Rattle.plan_certificate.specs.Plans.{IsAdmissible};
 ghost use Rattle.plan_certificate.specs.CertificateText.{IsEntryInRange, line_text};

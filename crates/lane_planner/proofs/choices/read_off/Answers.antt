@@ -1,13 +1,9 @@
-use Rattle.std.proofs.Common.{◌≡◌, ◌++◌, ◌∷◌, [], List, find, sym, subst, ap, ◌∙◌, arith}
-use Rattle.std.specs.List.{AllPairs}
-use Rattle.plan_certificate.specs.declared.path.Path.{Path}
+use Rattle.std.proofs.Common.{find, sym, ap, ◌∙◌, arith}
 use Rattle.plan_certificate.specs.declared.state.State.{State}
 use Rattle.plan_certificate.specs.declared.state.Decision.{Decision}
-use Rattle.plan_certificate.specs.Paths.{IsLower}
-use Rattle.plan_certificate.specs.States.{start}
 use Rattle.lane_planner.specs.Tables.{move_keeps_gain}
-use Rattle.lane_planner.proofs.ChosenPaths.{chosen_is_lowest, chosen_leads_on, chosen_move, no_chosen_move}
-use Rattle.lane_planner.proofs.ReadOffs.{IsSoFar, begun, free_more, path_more, read_off}
+use Rattle.lane_planner.proofs.ChosenPaths.{chosen_leads_on, chosen_move, none_keeps}
+use Rattle.lane_planner.proofs.ReadOffs.{begun, free_more, path_more, read_off}
 use Rattle.lane_planner.proofs.choices.read_off.Goals as goal
 
 pub loop-state-init : goal.loop-state-init
@@ -35,18 +31,20 @@ loop-state-preserved-in-Some c =
     let kept = c.args.kept.now in
     let table = c.args.table.now in
     let state : State = c.loop-state.state in
-    let listed = c.as_slice.ensures.value ∙ c.put_moves.ensures.moves in
-    let found = sym c.chosen.ensures ∙ c.in-Some.is in
-    let chosen = chosen_move advert weights kept table state c.as_slice.result.now c.in-Some.one listed found in
-    let lowest = chosen_is_lowest advert weights kept table state c.as_slice.result.now c.in-Some.one listed (rw c.as_slice.ensures.value c.put_moves.ensures.rising) found in
-    let more = path_more advert weights kept table state c.loop-state.paths.items c.in-Some.one.path c.requires.kept c.requires.gains c.loop-state.invariant c.loop-state-test.true chosen.path lowest in
+    let found = ap (find (move_keeps_gain kept table state)) (sym (c.as_slice.ensures.value ∙ c.put_moves.ensures.moves)) ∙ sym c.chosen.ensures ∙ c.in-Some.is in
+    let chosen = chosen_move advert weights kept table state c.in-Some.one (rw c.put_moves.ensures.moves at c.put_moves.ensures.rising) found in
+    let more = path_more advert weights kept table state c.loop-state.paths.items c.in-Some.one.path c.requires.kept c.requires.gains c.loop-state.invariant c.loop-state-test.true chosen.keeps chosen.lowest in
     rw (c.push.ensures.items, ap (λ (s : Decision). s.end) c.decision-state.ensures ∙ chosen.end) more
 
 pub loop-state-preserved : goal.loop-state-preserved
 loop-state-preserved c =
+    let advert = c.args.advert.now in
+    let weights = c.args.weights.now in
+    let kept = c.args.kept.now in
+    let table = c.args.table.now in
     let state : State = c.loop-state.state in
-    let none = no_chosen_move c.args.advert.now c.args.weights.now c.args.kept.now c.args.table.now state c.as_slice.result.now (c.as_slice.ensures.value ∙ c.put_moves.ensures.moves) (sym c.chosen.ensures ∙ c.in-None.is) in
-    let more = free_more c.args.advert.now c.args.weights.now c.args.kept.now c.args.table.now state c.loop-state.paths.items c.requires.gains c.loop-state.invariant c.loop-state-test.true none in
+    let none = none_keeps advert weights kept table state (ap (find (move_keeps_gain kept table state)) (sym (c.as_slice.ensures.value ∙ c.put_moves.ensures.moves)) ∙ sym c.chosen.ensures ∙ c.in-None.is) in
+    let more = free_more advert weights kept table state c.loop-state.paths.items c.requires.gains c.loop-state.invariant c.loop-state-test.true none in
     rw (ap (λ (s : Decision). s.end) c.free_decision-state.ensures) more
 
 pub returns : goal.returns

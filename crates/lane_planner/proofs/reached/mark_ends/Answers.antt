@@ -1,13 +1,12 @@
-use Rattle.std.proofs.Common.{◌≡◌, ◌<◌, [], Bool, length, take, sym, subst, ap, ◌∙◌, arith}
+use Rattle.std.proofs.Common.{◌≡◌, ◌<◌, [], List, append-nil, length, take, sym, subst, ap, ◌∙◌, arith}
 use Rattle.std.proofs.lemmas.List.Elements.{All-get_or}
 use Rattle.plan_certificate.specs.declared.moves.Move.{Move}
 use Rattle.plan_certificate.specs.declared.state.State.{State}
 use Rattle.plan_certificate.specs.declared.state.Decision.{Decision}
-use Rattle.plan_certificate.specs.States.{free_decision, free_decisions, state_place}
-use Rattle.plan_certificate.specs.Moves.{LeadsOn, is_open, move_decision, decisions_by}
-use Rattle.lane_planner.specs.Marks.{MarksEnds}
+use Rattle.plan_certificate.specs.States.{free_decision, state_place}
+use Rattle.plan_certificate.specs.Moves.{LeadsOn, move_decision, decisions_by}
 use Rattle.lane_planner.proofs.Marking.{none_marked, one_marked}
-use Rattle.lane_planner.proofs.MoreMoves.{no_decision_more, one_decision_more}
+use Rattle.lane_planner.proofs.MoreMoves.{decisions_more}
 use Rattle.lane_planner.proofs.Places.{place_below}
 use Rattle.lane_planner.proofs.reached.mark_ends.Goals as goal
 use Rattle.lane_planner.proofs.reached.mark_ends.Goals.{then-may_stay_free, else-may_stay_free, then-is_open, else-is_open}
@@ -30,14 +29,14 @@ loop-one-preserved c =
     let moves = c.args.moves.now in
     let move : Move = c.one-item.result in
     let index = c.loop-one.one-index in
-    let free : Bool = c.args.may_stay_free in
+    let before : List Decision = decisions_by c.args.may_stay_free state (take index moves) in
+    let more = decisions_more c.args.may_stay_free state moves index move c.loop-one-test.true c.one-item.is in
     elim c.if-is_open.branch [
       | then-is_open w ↦
           let decision : Decision = move_decision state move in
-          let more = one_decision_more free state moves index move c.loop-one-test.true c.one-item.is (sym c.is_open.ensures ∙ w.if-is_open.true) in
           let place : w.place-then-is_open.result ≡ state_place decision.end = w.place-then-is_open.ensures ∙ ap (λ (s : Decision). state_place s.end) w.decision-end.ensures in
           let leads = subst (LeadsOn state.boundary) (sym c.one-item.is) (All-get_or (LeadsOn state.boundary) moves index move c.loop-one-test.true c.requires.lead_on) in
           let within : w.place-then-is_open.result < length c.loop-one.marks = omega (arith, place, place_below decision.end leads.within, c.loop-one.invariant.all, c.requires.all) in
-          rw (more, w.marks-is, w.mark-then-is_open.ensures) (one_marked (decisions_by free state (take index moves)) decision w.place-then-is_open.result c.args.marks.now c.loop-one.marks c.loop-one.invariant place within)
-      | else-is_open w ↦ rw (no_decision_more free state moves index move c.loop-one-test.true c.one-item.is (sym c.is_open.ensures ∙ w.if-is_open.false), w.marks-is) c.loop-one.invariant
+          rw (more, sym c.is_open.ensures ∙ w.if-is_open.true, w.marks-is, w.mark-then-is_open.ensures) (one_marked before decision w.place-then-is_open.result c.args.marks.now c.loop-one.marks c.loop-one.invariant place within)
+      | else-is_open w ↦ rw (more, sym c.is_open.ensures ∙ w.if-is_open.false, append-nil before, w.marks-is) c.loop-one.invariant
     ]

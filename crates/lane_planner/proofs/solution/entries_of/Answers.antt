@@ -1,7 +1,6 @@
-use Rattle.std.proofs.Common.{◌≡◌, ◌+◌, ◌++◌, ◌∷◌, [], ℕ, List, sym, subst, ap, ◌∙◌, arith, true}
-use Rattle.plan_certificate.specs.declared.certificate.Entry.{Entry}
+use Rattle.std.proofs.Common.{◌≡◌, ◌+◌, ◌++◌, ◌∷◌, [], ℕ, sym, ap, ◌∙◌, arith, true}
 use Rattle.plan_certificate.specs.EntryPlaces.{Listed}
-use Rattle.lane_planner.specs.Tables.{AreEntries, entry_at, marked_entries}
+use Rattle.lane_planner.specs.Tables.{entry_at, marked_entries}
 use Rattle.lane_planner.proofs.ReachedEntries.{are_marked, entries_more, none_between, none_marked}
 use Rattle.lane_planner.proofs.solution.entries_of.Goals as goal
 
