@@ -26,21 +26,15 @@ later_has_cell place past below = grind (arith, nat_tests)
 -- ---- the numbers
 
 -- of a place with a cell, and of another
-kept_number : (lows highs : List ℕ) (place cell : ℕ) → has_cell place ≡ true → cell ≡ place - 255 → number_at lows highs place ≡ get_or lows cell 0 + 4294967296 * get_or highs cell 0
+pub kept_number : (lows highs : List ℕ) (place cell : ℕ) → has_cell place ≡ true → cell ≡ place - 255 → number_at lows highs place ≡ get_or lows cell 0 + 4294967296 * get_or highs cell 0
 kept_number lows highs place cell has is = λ i. cond (has i) (get_or lows (sym is i) 0 + 4294967296 * get_or highs (sym is i) 0) 0
 
-no_number : (lows highs : List ℕ) (place : ℕ) → has_cell place ≡ false → number_at lows highs place ≡ 0
+pub no_number : (lows highs : List ℕ) (place : ℕ) → has_cell place ≡ false → number_at lows highs place ≡ 0
 no_number lows highs place none = λ i. cond (none i) (get_or lows (place - 255) 0 + 4294967296 * get_or highs (place - 255) 0) 0
 
-number_is : (lows highs : List ℕ) (place : ℕ) → place < 2304 → get_or (numbers_of lows highs) place 0 ≡ number_at lows highs place
+pub number_is : (lows highs : List ℕ) (place : ℕ) → place < 2304 → get_or (numbers_of lows highs) place 0 ≡ number_at lows highs place
 unfolding numbers_of
 number_is lows highs place below = get_or-map-range_with_len (number_at lows highs) 0 2304 place place 0 below (omega arith)
-
-pub number_of_cell : (lows highs : List ℕ) (place cell : ℕ) → place < 2304 → has_cell place ≡ true → cell ≡ place - 255 → get_or (numbers_of lows highs) place 0 ≡ get_or lows cell 0 + 4294967296 * get_or highs cell 0
-number_of_cell lows highs place cell below has is = number_is lows highs place below ∙ kept_number lows highs place cell has is
-
-pub number_none : (lows highs : List ℕ) (place : ℕ) → place < 2304 → has_cell place ≡ false → get_or (numbers_of lows highs) place 0 ≡ 0
-number_none lows highs place below none = number_is lows highs place below ∙ no_number lows highs place none
 
 pub cell_set : (lows highs : List ℕ) (place low high : ℕ) → AreParts lows highs → has_cell place ≡ true → (cell : ℕ) → cell ≡ place - 255 → numbers_of (set lows cell low) (set highs cell high) ≡ set (numbers_of lows highs) place (low + 4294967296 * high)
 unfolding numbers_of

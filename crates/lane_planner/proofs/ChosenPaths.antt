@@ -1,5 +1,5 @@
 -- The path of the move that is chosen at a state keeps the state's gain, and is the lowest that does; where none is chosen, none does.
-use Rattle.std.proofs.Common.{◌≡◌, ℕ, ◌+◌, ◌-◌, ◌⊎◌, ◌&&◌, ◌||◌, Bool, true, false, List, [], ◌∷◌, Some, None, nat_lt, filter, find, refl, ap, ◌∙◌, sym, subst, inl, inr, arith}
+use Rattle.std.proofs.Common.{◌≡◌, ℕ, ◌+◌, ◌-◌, ◌⊎◌, ◌&&◌, ◌||◌, Bool, true, false, List, [], ◌∷◌, Some, None, nat_lt, filter, find, refl, ap, ◌∙◌, sym, inl, inr}
 use Rattle.std.specs.List.{All, AllByRecursion, AllPairs}
 use Rattle.std.proofs.lemmas.Bool.{and_parts, both_ways, cases_Bool, eqb-true, eq-eqb, lt-ltb, ltb-true, or_cases, or_left, or_right}
 use Rattle.std.proofs.lemmas.List.Elements.{All-filter, All-from_recursion, All-map, filter_passes, recursion_from_All}
@@ -10,7 +10,7 @@ use Rattle.plan_certificate.specs.declared.moves.Move.{Move}
 use Rattle.plan_certificate.specs.declared.state.State.{State}
 use Rattle.plan_certificate.specs.Paths.{IsLower, path_weight}
 use Rattle.plan_certificate.specs.KeptPaths.{is_among, is_eligible}
-use Rattle.plan_certificate.specs.Moves.{LeadsOn, move_decision, move_of, moves_at, moves_of}
+use Rattle.plan_certificate.specs.Moves.{move_decision, move_of, moves_at, moves_of}
 use Rattle.plan_certificate.specs.States.{path_decision, paths_at}
 use Rattle.plan_certificate.proofs.Heaviest.{listed}
 use Rattle.plan_certificate.proofs.KeptPaths.{among_listed, eligible_allowed, listed_among}
@@ -99,11 +99,6 @@ chosen_move advert weights kept table state move rising is =
       ];
       end = ap (λ (m : Move). (move_decision state m).end) one.0.is;
     }
-
-pub chosen_leads_on : (boundary : ℕ) (test : Move → Bool) (moves : List Move) (move : Move) → find test moves ≡ Some move → All (LeadsOn (boundary + 1 - 1)) moves → LeadsOn boundary move
-chosen_leads_on boundary test moves move is all =
-    let same : boundary + 1 - 1 ≡ boundary = omega arith in
-    subst (λ (n : ℕ). LeadsOn n move) same (found (LeadsOn (boundary + 1 - 1)) test moves move is (recursion_from_All (LeadsOn (boundary + 1 - 1)) moves all)).0
 
 -- ---- none is found
 

@@ -3,7 +3,7 @@ use Rattle.std.proofs.Common.{◌≡◌, ℕ, ◌+◌, ◌/◌, ◌<◌, ◌≤�
 use Rattle.std.specs.List.{Contains}
 use Rattle.std.proofs.Math.ListN.{length-set, length-replicate}
 use Rattle.std.proofs.lemmas.Bool.{both_ways, cases_eq, cases_lt}
-use Rattle.std.proofs.lemmas.List.Elements.{Contains-append_left, Contains-push, Contains-push_cases, All-contains, All-from_recursion}
+use Rattle.std.proofs.lemmas.List.Elements.{Contains-append_left, Contains-push, Contains-push_cases, Contains-get_or, All-contains}
 use Rattle.plan_certificate.specs.declared.path.Path.{Path}
 use Rattle.applications.specs.Advertised.{Advertised}
 use Rattle.applications.specs.AppWeights.{PathWeights}
@@ -15,12 +15,11 @@ use Rattle.plan_certificate.proofs.ByteLanes.{IsByte, start_is_byte}
 use Rattle.lane_planner.specs.Marks.{AreMarks, IsMarked, MarksEnds, MarksReached}
 use Rattle.lane_planner.proofs.DecisionKinds.{at_is_byte, ends_later, place_past, decision_is}
 use Rattle.lane_planner.proofs.MadeLists.{get_of_same}
-use Rattle.lane_planner.proofs.Places.{place_below, start_place, state_of_place, place_of_state_at}
+use Rattle.lane_planner.proofs.Places.{boundary_of_place, start_place, state_of_place, place_of_state_at}
 use Rattle.lane_planner.proofs.ReachedStates.{reached_on}
 use Rattle.plan_certificate.specs.declared.moves.Move.{Move}
-use Rattle.plan_certificate.specs.Moves.{AreHeaviest, decisions_by}
-use Rattle.plan_certificate.proofs.HeaviestMoves.{each_among, each_outweighed}
-use Rattle.plan_certificate.proofs.Lists.{each_contained, map_each}
+use Rattle.plan_certificate.specs.Moves.{AreMoves, decisions_by}
+use Rattle.lane_planner.proofs.MoreMoves.{heaviest_are, heaviest_cover}
 
 -- ---- the ends of one state's decisions
 
@@ -94,17 +93,18 @@ marks_more {advert} {weights} {kept} {marks} {more} place are below marked new =
     }
 
 -- at the end each reached state is marked
-reached_from : (advert : Advertised) (weights : PathWeights) (kept : List Path) (marks : List Bool) → AreMarks advert weights kept 2304 marks → (decisions : List Decision) (from state : State) → IsByte from.used → from.boundary ≤ 8 → IsMarked marks (state_place from) → Leads advert weights kept from decisions state → IsMarked marks (state_place state)
-reached_from advert weights kept marks are [] from state is_byte within marked leads = subst (λ (s : State). IsMarked marks (state_place s)) leads marked
-reached_from advert weights kept marks are (decision ∷ decisions) from state is_byte within marked leads =
+reached_from : (advert : Advertised) (weights : PathWeights) (kept : List Path) (marks : List Bool) → AreMarks advert weights kept 2048 marks → (decisions : List Decision) (from state : State) → IsByte from.used → IsMarked marks (state_place from) → Leads advert weights kept from decisions state → IsMarked marks (state_place state)
+reached_from advert weights kept marks are [] from state is_byte marked leads = subst (λ (s : State). IsMarked marks (state_place s)) leads marked
+reached_from advert weights kept marks are (decision ∷ decisions) from state is_byte marked leads =
     let ends = ends_later advert weights kept from decision is_byte leads.0 in
+    let below : state_place from < 2048 = omega (arith, boundary_of_place from, (decision_is advert weights kept from decision leads.0).below) in
     let at : state_at (state_place from) ≡ from = state_of_place from is_byte in
     let contains = subst (λ (s : State). Contains (decisions_from advert weights kept s) decision) (sym at) leads.0 in
-    reached_from advert weights kept marks are decisions decision.end state ends.is_byte ends.within (are.closed (state_place from) (place_below from within) marked decision contains) leads.1
+    reached_from advert weights kept marks are decisions decision.end state ends.is_byte (are.closed (state_place from) below marked decision contains) leads.1
 
-pub all_marked : (advert : Advertised) (weights : PathWeights) (kept : List Path) (marks : List Bool) (state : State) → AreMarks advert weights kept 2304 marks → IsReached advert weights kept state → IsMarked marks (state_place state)
+pub all_marked : (advert : Advertised) (weights : PathWeights) (kept : List Path) (marks : List Bool) (state : State) → AreMarks advert weights kept 2048 marks → IsReached advert weights kept state → IsMarked marks (state_place state)
 all_marked advert weights kept marks state are is =
-    reached_from advert weights kept marks are is.0 start state start_is_byte (omega arith) (subst (IsMarked marks) (sym start_place) are.begun) is.1
+    reached_from advert weights kept marks are is.0 start state start_is_byte (subst (IsMarked marks) (sym start_place) are.begun) is.1
 
 start_reached : (advert : Advertised) (weights : PathWeights) (kept : List Path) → IsReached advert weights kept (state_at 0)
 start_reached advert weights kept = ([], sym (ap state_at (sym start_place) ∙ state_of_place start start_is_byte))
@@ -120,40 +120,30 @@ marks_begun {advert} {weights} {kept} n is = record {
   closed = λ place low. absurd (omega (arith, low));
 }
 
-marks_closed : (advert : Advertised) (weights : PathWeights) (kept : List Path) (marks : List Bool) → AreMarks advert weights kept 2048 marks → AreMarks advert weights kept 2304 marks
-marks_closed advert weights kept marks are = record {
-  all = are.all;
-  begun = are.begun;
-  sound = are.sound;
-  closed = λ place low marked decision contains. elim (cases_lt place 2048) [
-    | inl before ↦ are.closed place before marked decision contains
-    | inr past ↦ absurd (omega (arith, past, (decision_is advert weights kept (state_at place) decision contains).below))
-  ];
-}
-
 -- so exactly the reached states are marked
 pub marks_ended : {advert : Advertised} {weights : PathWeights} {kept : List Path} {marks : List Bool} → AreMarks advert weights kept 2048 marks → MarksReached advert weights kept marks
 marks_ended {advert} {weights} {kept} {marks} are = record {
   all = are.all;
   reached = λ place below. (
     (λ marked. are.sound place below marked),
-    (λ is. subst (IsMarked marks) (place_of_state_at place) (all_marked advert weights kept marks (state_at place) (marks_closed advert weights kept marks are) is)),
+    (λ is. subst (IsMarked marks) (place_of_state_at place) (all_marked advert weights kept marks (state_at place) are is)),
   );
 }
 
--- where the decisions of the heaviest moves are marked, those of all are
-pub ends_of_heaviest : {all heaviest : List Move} {marks more : List Bool} (free : Bool) (state : State) → AreHeaviest all heaviest → MarksEnds (decisions_by free state heaviest) marks more → MarksEnds (decisions_by free state all) marks more
-ends_of_heaviest {all} {heaviest} {marks} {more} free state are new =
+-- where the ends of the decisions of the heaviest moves are marked, those of all are
+pub ends_of_moves : {advert : Advertised} {weights : PathWeights} {kept : List Path} {boundary : ℕ} {free : Bool} {all heaviest : List Move} {marks more : List Bool} (state : State) → state.boundary ≡ boundary → boundary < 8
+    → AreMoves advert weights kept boundary free all heaviest → MarksEnds (decisions_by free state heaviest) marks more → MarksEnds (decisions_from advert weights kept state) marks more
+ends_of_moves {advert} {weights} {kept} {boundary} {free} {all} {heaviest} {marks} {more} state at below are new =
+    let decisions = decisions_from advert weights kept state in
+    let by : List Decision = decisions_by free state heaviest in
     let End : Decision → Type 0 = λ decision. IsMarked more (state_place decision.end) in
-    let of_heaviest = map_each (Contains (decisions_by free state heaviest)) End (decisions_by free state heaviest) (λ decision listed. new.ends decision listed) (each_contained (decisions_by free state heaviest)) in
-    let of_all = All-from_recursion End (decisions_by free state all) (each_outweighed free state End all heaviest (λ decision weight light marked. marked) are of_heaviest) in
-    let among = All-from_recursion (Contains (decisions_by free state all)) (decisions_by free state heaviest) (each_among free state (Contains (decisions_by free state all)) all heaviest are (each_contained (decisions_by free state all))) in
+    let each = heaviest_cover state at below are End (λ decision weight light marked. marked) (λ k d inside. new.ends (get_or by k d) (Contains-get_or by k d inside)) in
     record {
       all = new.all;
-      ends = λ decision listed. All-contains End (decisions_by free state all) decision of_all listed;
+      ends = λ decision listed. All-contains End decisions decision each listed;
       kept = new.kept;
       only = λ place marked. elim (new.only place marked) [
         | inl before ↦ inl before
-        | inr ends ↦ inr (ends.0, All-contains (Contains (decisions_by free state all)) (decisions_by free state heaviest) ends.0 among ends.1, ends.2)
+        | inr ends ↦ inr (ends.0, All-contains (Contains decisions) by ends.0 (heaviest_are state at below are) ends.1, ends.2)
       ];
     }

@@ -37,18 +37,13 @@ pub contains_mapped : {X Y : Type 0} (f : X → Y) (xs : List X) (x : X) → Con
 contains_mapped f xs x contains = (contains.0, omega (arith, contains.1, length-map xs f), get_or-map f xs contains.0 x (f x) contains.1 ∙ ap f contains.2)
 
 module _ (advert : Advertised) (weights : PathWeights) (kept : List Path) (marks : List Bool) (table : List ℕ) (entries : List Entry) (reached : MarksReached advert weights kept marks) (has : HasGains advert weights kept 0 table) (are : AreEntries marks table 2304 entries) where
-  pub entry_reached : (entry : Entry) → Contains entries entry → IsReached advert weights kept (state_of entry)
-  entry_reached entry contains =
+  entry_is : (entry : Entry) → Contains entries entry → IsReached advert weights kept (state_of entry) × IsGain advert weights kept (state_of entry) entry.potential
+  entry_is entry contains =
       let at = All-contains (IsMarkedEntry marks table) entries entry are.marked contains in
       let below = All-contains (λ e. entry_place e < 2304) entries entry are.below contains in
-      subst (IsReached advert weights kept) (sym (ap state_of at.1)) ((reached.reached (entry_place entry) below).0 at.0)
-
-  entry_gain : (entry : Entry) → Contains entries entry → IsGain advert weights kept (state_of entry) entry.potential
-  entry_gain entry contains =
-      let at = All-contains (IsMarkedEntry marks table) entries entry are.marked contains in
-      let below = All-contains (λ e. entry_place e < 2304) entries entry are.below contains in
-      let gain = has.gains (entry_place entry) (omega arith) below ((reached.reached (entry_place entry) below).0 at.0) in
-      subst (λ (e : Entry). IsGain advert weights kept (state_of e) e.potential) (sym at.1) gain
+      let is = (reached.reached (entry_place entry) below).0 at.0 in
+      let gain = has.gains (entry_place entry) (omega arith) below is in
+      (subst (IsReached advert weights kept) (sym (ap state_of at.1)) is, subst (λ (e : Entry). IsGain advert weights kept (state_of e) e.potential) (sym at.1) gain)
 
   pub bound_at : (state : State) → IsReached advert weights kept state → IsBound entries state (gain_at table state)
   bound_at state is =
@@ -60,26 +55,26 @@ module _ (advert : Advertised) (weights : PathWeights) (kept : List Path) (marks
       (entry_at table place, are.each place below marked, same, refl)
 
   pub each_gain : All (λ entry. IsGain advert weights kept (state_of entry) entry.potential) entries
-  each_gain k d below = entry_gain (get_or entries k d) (Contains-get_or entries k d below)
+  each_gain k d below = (entry_is (get_or entries k d) (Contains-get_or entries k d below)).1
 
   pub each_covers : All (λ entry. All (IsCovered entries entry.potential) (decisions_from advert weights kept (state_of entry))) entries
   each_covers k d below n e inside =
       let entry : Entry = get_or entries k d in
-      let listed = Contains-get_or entries k d below in
+      let own = entry_is entry (Contains-get_or entries k d below) in
       let state : State = state_of entry in
       let decisions = decisions_from advert weights kept state in
       let decision : Decision = get_or decisions n e in
       let contains = Contains-get_or decisions n e inside in
-      let is = reached_on advert weights kept state decision (entry_reached entry listed) contains in
+      let is = reached_on advert weights kept state decision own.0 contains in
       let later = gain_in advert weights kept 0 table decision.end has is (omega arith) in
-      (gain_at table decision.end, bound_at decision.end is, covers_decision advert weights kept state entry.potential (gain_at table decision.end) decision (entry_gain entry listed) later contains)
+      (gain_at table decision.end, bound_at decision.end is, covers_decision advert weights kept state entry.potential (gain_at table decision.end) decision own.1 later contains)
 
   pub states_are : (state : State) → IsReached advert weights kept state ↔ Contains (map state_of entries) state
   states_are state = (
     (λ is.
         let bound = bound_at state is in
         subst (Contains (map state_of entries)) bound.2 (contains_mapped state_of entries bound.0 bound.1)),
-    (λ contains. All-contains (IsReached advert weights kept) (map state_of entries) state (All-map (IsReached advert weights kept) state_of entries (λ k d below. entry_reached (get_or entries k d) (Contains-get_or entries k d below))) contains),
+    (λ contains. All-contains (IsReached advert weights kept) (map state_of entries) state (All-map (IsReached advert weights kept) state_of entries (λ k d below. (entry_is (get_or entries k d) (Contains-get_or entries k d below)).0)) contains),
   )
 
 pub none_marked : (marks : List Bool) (table : List ℕ) → marked_entries marks table 0 ≡ []

@@ -3,7 +3,7 @@ use Rattle.std.proofs.Common.{◌≡◌, ℕ, ◌+◌, ◌<◌, ◌≤◌, true,
 use Rattle.std.specs.List.{All}
 use Rattle.std.proofs.lemmas.Bool.{true_from_ne_false}
 use Rattle.std.proofs.lemmas.List.{length-append}
-use Rattle.std.proofs.lemmas.List.Elements.{All-contains, All-from_recursion, All-nil, All-push}
+use Rattle.std.proofs.lemmas.List.Elements.{All-contains, All-nil, All-push}
 use Rattle.applications.specs.Advertised.{Advertised}
 use Rattle.applications.specs.AppWeights.{PathWeights}
 use Rattle.plan_certificate.specs.declared.path.Path.{Path}
@@ -21,7 +21,7 @@ use Rattle.lane_planner.proofs.DecisionKinds.{listed_decisions}
 use Rattle.lane_planner.proofs.FirstPlans.{AgreesOrLater, agrees_at_end, agrees_at_start, agrees_free, agrees_path, still_before}
 use Rattle.lane_planner.proofs.GainLaws.{Keeps, KnowsGains, NoneKeeps, free_keeps, kept_keeps}
 use Rattle.lane_planner.proofs.KeptLanes.{lane_within, one_has}
-use Rattle.lane_planner.proofs.KeptTaken.{IsTakenOrLater, all_taken}
+use Rattle.lane_planner.proofs.KeptTaken.{all_taken}
 use Rattle.lane_planner.proofs.LaterPaths.{Grown, Stands, grown_free, grown_from_start, grown_path, weight_more}
 use Rattle.lane_planner.proofs.ReachedStates.{reached_on, start_reached}
 use Rattle.lane_planner.proofs.TableGains.{gain_in, small_in}
@@ -62,7 +62,7 @@ lane_may_stay_free advert weights kept table state paths gains grown none =
     true_from_ne_false (may_stay_free advert kept lane) (λ not_free.
     let one = one_has advert kept lane not_free in
     let within = lane_within advert one.path lane one.has in
-    elim (All-contains (IsTakenOrLater advert kept state paths) kept one.path (All-from_recursion (IsTakenOrLater advert kept state paths) kept grown.keeps) one.held) [
+    elim (grown.keeps one.path one.held) [
       | inl taken ↦ omega (arith, within.to, (All-contains (Stands advert state) paths one.path grown.stand taken).before)
       | inr later ↦ kept_keeps advert weights kept (gain_at table) state one.path gains none one.held later (omega (arith, later.past, within.from))
     ])

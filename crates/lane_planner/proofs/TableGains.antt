@@ -1,6 +1,6 @@
 -- The gains in a table: of where decisions lead, and of one state more.
 use Rattle.std.proofs.Common.{◌≡◌, ℕ, ◌+◌, ◌*◌, ◌/◌, ◌-◌, ◌<◌, ◌≤◌, List, [], ◌∷◌, length, replicate, set, get_or, refl, sym, subst, inl, inr, ◌∙◌, arith, get_or-set_same, get_or-set_other, ◌++◌, Bool, ◌⊎◌, max}
-use Rattle.std.specs.List.{Contains, All, AllByRecursion}
+use Rattle.std.specs.List.{Contains, All}
 use Rattle.std.proofs.Math.ListN.{length-replicate, length-set}
 use Rattle.std.proofs.lemmas.Bool.{cases_eq, cases_lt}
 use Rattle.plan_certificate.specs.declared.path.Path.{Path}
@@ -16,14 +16,12 @@ use Rattle.lane_planner.proofs.MadeLists.{get_of_same}
 use Rattle.lane_planner.proofs.Places.{boundary_of_place, place_below, state_of_place}
 use Rattle.lane_planner.proofs.ReachedStates.{has_place, reached_on}
 use Rattle.lane_planner.proofs.DecisionKinds.{at_is_byte, ends_later, place_past, decision_is}
-use Rattle.std.proofs.lemmas.List.Elements.{All-contains, All-from_recursion, Contains-append_right, recursion_from_All}
+use Rattle.std.proofs.lemmas.List.Elements.{All-contains, Contains-append_right}
 use Rattle.std.proofs.lemmas.List.Recursion.{max_bounds, max_push}
 use Rattle.std.proofs.lemmas.List.Sums.{sum_by-cons}
 use Rattle.plan_certificate.specs.declared.moves.Move.{Move}
 use Rattle.plan_certificate.specs.Moves.{AreMoves, decisions_by}
-use Rattle.plan_certificate.proofs.HeaviestMoves.{each_among, each_outweighed}
-use Rattle.plan_certificate.proofs.Lists.{each_contained}
-use Rattle.plan_certificate.proofs.MoveDecisions.{listed_are_decisions}
+use Rattle.lane_planner.proofs.MoreMoves.{heaviest_are, heaviest_cover}
 use Rattle.lane_planner.proofs.GainLaws.{GainsAfter, gain_from_decisions}
 
 pub gain_in : (advert : Advertised) (weights : PathWeights) (kept : List Path) (from : ℕ) (table : List ℕ) (state : State) → HasGains advert weights kept from table → IsReached advert weights kept state → from ≤ state_place state → IsGain advert weights kept state (gain_at table state)
@@ -127,13 +125,7 @@ pub gain_is_most : {advert : Advertised} {weights : PathWeights} {kept : List Pa
     → AreMoves advert weights kept boundary free all heaviest → IsGain advert weights kept (state_at place) (most_by table (decisions_by free (state_at place) heaviest))
 gain_is_most {advert} {weights} {kept} {table} {boundary} {free} {all} {heaviest} place at below has is are =
     let state : State = state_at place in
-    let decisions : List Decision = decisions_from advert weights kept state in
     let by : List Decision = decisions_by free state heaviest in
-    let most : ℕ = most_by table by in
-    let same : decisions_by free state all ≡ decisions = listed_are_decisions advert weights kept state boundary free all heaviest at below are in
-    let covered = each_outweighed free state (AtMost table most) all heaviest (λ decision weight light low. omega (arith, light, low)) are.heavy (recursion_from_All (AtMost table most) by (max_bounds (most_by table) (through table) refl (λ first rest. refl) by)) in
-    let covers : All (AtMost table most) decisions = All-from_recursion (AtMost table most) decisions (subst (AllByRecursion (AtMost table most)) same covered) in
-    let among = each_among free state (Contains (decisions_by free state all)) all heaviest are.heavy (each_contained (decisions_by free state all)) in
-    let listed : All (Contains decisions) by = subst (λ (ss : List Decision). All (Contains ss) by) same (All-from_recursion (Contains (decisions_by free state all)) by among) in
     let gains = gains_after advert weights kept table place (rw at has) is in
-    gain_from_decisions advert weights kept state most (gain_at table) (attained_by_decisions advert weights kept table state by gains listed) gains covers
+    let covers = heaviest_cover state at below are (AtMost table (most_by table by)) (λ decision weight light low. omega (arith, light, low)) (max_bounds (most_by table) (through table) refl (λ first rest. refl) by) in
+    gain_from_decisions advert weights kept state (most_by table by) (gain_at table) (attained_by_decisions advert weights kept table state by gains (heaviest_are state at below are)) gains covers

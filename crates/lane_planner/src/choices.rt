@@ -1,5 +1,5 @@
 // The path that the plan takes at each state.
-ghost use Rattle.std.specs.Prelude.{◌≡◌, ◌||◌, ◌+◌, ◌<◌, nat_lt, All, find};
+ghost use Rattle.std.specs.Prelude.{◌≡◌, ◌||◌, ◌+◌, ◌<◌, nat_lt, All, IfSome, find};
 ghost use Rattle.plan_certificate.specs.KeptPaths as spec;
 ghost use Rattle.plan_certificate.specs.Plans.{IsAdmissible};
 ghost use Rattle.plan_certificate.specs.Moves.{LeadsOn};
@@ -38,7 +38,8 @@ fn chosen(moves: &[Move], kept: &[Path], table: &Table, state: &State) -> Option
     requires table { IsTable table.now }
     requires open { state.now.boundary < 8 }
     requires lead_on { All (LeadsOn state.now.boundary) moves.now }
-    ensures { result ≡ find (move_keeps_gain kept.now table.now state.now) moves.now }
+    ensures found { result ≡ find (move_keeps_gain kept.now table.now state.now) moves.now }
+    ensures leads_on { IfSome result (λ one. LeadsOn state.now.boundary one) }
 {
     for one in moves {
         if keeps_gain(one, kept, table, state) {

@@ -2,27 +2,15 @@ use Rattle.std.proofs.Common.{find, sym, ap, ◌∙◌, arith}
 use Rattle.plan_certificate.specs.declared.state.State.{State}
 use Rattle.plan_certificate.specs.declared.state.Decision.{Decision}
 use Rattle.lane_planner.specs.Tables.{move_keeps_gain}
-use Rattle.lane_planner.proofs.ChosenPaths.{chosen_leads_on, chosen_move, none_keeps}
+use Rattle.lane_planner.proofs.ChosenPaths.{chosen_move, none_keeps}
 use Rattle.lane_planner.proofs.ReadOffs.{begun, free_more, path_more, read_off}
 use Rattle.lane_planner.proofs.choices.read_off.Goals as goal
 
 pub loop-state-init : goal.loop-state-init
 loop-state-init c = rw (c.start-state.ensures, c.new-paths.ensures) (begun c.args.advert.now c.args.weights.now c.args.kept.now c.args.table.now c.requires.kept)
 
-pub decision-state-requires : goal.decision-state-requires
-decision-state-requires c =
-    let state : State = c.loop-state.state in
-    let test = move_keeps_gain c.args.kept.now c.args.table.now state in
-    let found = ap (find test) (sym c.as_slice.ensures.value) ∙ sym c.chosen.ensures ∙ c.in-Some.is in
-    (chosen_leads_on state.boundary test c.put_moves.new.moves.items c.in-Some.one found c.put_moves.ensures.lead_on).within
-
 pub loop-state-smaller-in-Some : goal.loop-state-smaller-in-Some
-loop-state-smaller-in-Some c =
-    let state : State = c.loop-state.state in
-    let test = move_keeps_gain c.args.kept.now c.args.table.now state in
-    let found = ap (find test) (sym c.as_slice.ensures.value) ∙ sym c.chosen.ensures ∙ c.in-Some.is in
-    let leads = chosen_leads_on state.boundary test c.put_moves.new.moves.items c.in-Some.one found c.put_moves.ensures.lead_on in
-    omega (arith, ap (λ (s : Decision). s.end.boundary) c.decision-state.ensures, leads.further, c.loop-state-test.true)
+loop-state-smaller-in-Some c = omega (arith, ap (λ (s : Decision). s.end.boundary) c.decision-state.ensures, c.in-Some.ensures.leads_on.further, c.loop-state-test.true)
 
 pub loop-state-preserved-in-Some : goal.loop-state-preserved-in-Some
 loop-state-preserved-in-Some c =
@@ -31,7 +19,7 @@ loop-state-preserved-in-Some c =
     let kept = c.args.kept.now in
     let table = c.args.table.now in
     let state : State = c.loop-state.state in
-    let found = ap (find (move_keeps_gain kept table state)) (sym (c.as_slice.ensures.value ∙ c.put_moves.ensures.moves)) ∙ sym c.chosen.ensures ∙ c.in-Some.is in
+    let found = ap (find (move_keeps_gain kept table state)) (sym (c.as_slice.ensures.value ∙ c.put_moves.ensures.moves)) ∙ sym c.chosen.ensures.found ∙ c.in-Some.is in
     let chosen = chosen_move advert weights kept table state c.in-Some.one (rw c.put_moves.ensures.moves at c.put_moves.ensures.rising) found in
     let more = path_more advert weights kept table state c.loop-state.paths.items c.in-Some.one.path c.requires.kept c.requires.gains c.loop-state.invariant c.loop-state-test.true chosen.keeps chosen.lowest in
     rw (c.push.ensures.items, ap (λ (s : Decision). s.end) c.decision-state.ensures ∙ chosen.end) more
@@ -43,7 +31,7 @@ loop-state-preserved c =
     let kept = c.args.kept.now in
     let table = c.args.table.now in
     let state : State = c.loop-state.state in
-    let none = none_keeps advert weights kept table state (ap (find (move_keeps_gain kept table state)) (sym (c.as_slice.ensures.value ∙ c.put_moves.ensures.moves)) ∙ sym c.chosen.ensures ∙ c.in-None.is) in
+    let none = none_keeps advert weights kept table state (ap (find (move_keeps_gain kept table state)) (sym (c.as_slice.ensures.value ∙ c.put_moves.ensures.moves)) ∙ sym c.chosen.ensures.found ∙ c.in-None.is) in
     let more = free_more advert weights kept table state c.loop-state.paths.items c.requires.gains c.loop-state.invariant c.loop-state-test.true none in
     rw (ap (λ (s : Decision). s.end) c.free_decision-state.ensures) more
 

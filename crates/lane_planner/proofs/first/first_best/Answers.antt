@@ -1,7 +1,7 @@
-use Rattle.std.proofs.Common.{◌≡◌, ◌∙◌, List, sym, subst}
+use Rattle.std.proofs.Common.{◌≡◌, ◌∙◌, List, subst}
 use Rattle.plan_certificate.specs.declared.path.Path.{Path}
 use Rattle.plan_certificate.proofs.Heaviest.{good_is_best}
-use Rattle.lane_planner.specs.FirstBest.{HaveSamePaths, IsFirstBest}
+use Rattle.lane_planner.specs.FirstBest.{IsFirstBest}
 use Rattle.lane_planner.proofs.FirstLaws.{first_of_same, one_first}
 use Rattle.lane_planner.proofs.first.first_best.Goals as goal
 
@@ -16,8 +16,6 @@ returns g c =
     let theirs : c.as_slice-2.result.now ≡ others = (let read = c.as_slice-2.ensures.value in let seen = c.first.view_is in cc) in
     let keeps : c.certificate-inside.inside.0.1.1.0 ≡ kept = (let within = c.certificate-inside.view_is in let inside : c.certificate-inside.inside.0.1.1.0 ≡ c.certificate.inside.kept = cc in let seen = c.certificate.view_is in let outside : c.certificate.inside.kept ≡ kept = cc in inside ∙ outside) in
     let given = subst (λ (xs : List Path). IsFirstBest advert weights xs others) keeps c.first_plan-first.ensures.first in
-    let Same : List Path → List Path → Type 0 = HaveSamePaths in
-    let best = good_is_best advert weights _ c.requires in (
-      (λ is. first_of_same advert weights kept paths others best (subst (λ (xs : List Path). Same xs others) ours (subst (Same c.as_slice.result.now) theirs (c.have_same_paths.ensures.0 is))) given),
-      (λ first. c.have_same_paths.ensures.1 (subst (λ (xs : List Path). Same xs c.as_slice-2.result.now) (sym ours) (subst (Same paths) (sym theirs) (one_first advert weights kept paths others first given)))),
-    )
+    let best = good_is_best advert weights _ c.requires in
+    let same = rw (ours, theirs) at c.have_same_paths.ensures in
+    (λ is. first_of_same advert weights kept paths others best (same.0 is) given, λ first. same.1 (one_first advert weights kept paths others first given))

@@ -1,13 +1,12 @@
 use Rattle.std.proofs.Common.{◌≡◌, ◌∙◌, ℕ, ◌+◌, ◌-◌, ◌*◌, ◌/◌, ◌<◌, List, inl, inr, refl, sym, subst, ap, arith}
-use Rattle.std.specs.List.{All}
 use Rattle.std.proofs.lemmas.Bool.{cases_lt}
 use Rattle.plan_certificate.specs.declared.moves.Move.{Move}
 use Rattle.plan_certificate.specs.declared.state.State.{State}
 use Rattle.plan_certificate.specs.States.{state_at}
-use Rattle.plan_certificate.specs.Moves.{LeadsOn, moves_at, decisions_by}
-use Rattle.plan_certificate.proofs.HeaviestMoves.{heaviest_lead_on}
+use Rattle.plan_certificate.specs.Moves.{decisions_by}
 use Rattle.lane_planner.specs.Gains.{IsGain}
 use Rattle.lane_planner.specs.Tables.{AreGains, HasGains, most_by}
+use Rattle.lane_planner.proofs.MoreMoves.{listed_lead_on}
 use Rattle.lane_planner.proofs.ReachedStates.{reached_has_cell}
 use Rattle.lane_planner.proofs.TableGains.{IsDone, gain_is_most, gains_begun, gains_more, gains_of}
 use Rattle.lane_planner.proofs.gains.put_gains.Goals as goal
@@ -37,11 +36,7 @@ loop-boundary-preserved c =
 
 pub most-gain-requires-clause-lead_on : goal.most-gain-requires-clause-lead_on
 most-gain-requires-clause-lead_on c =
-    let boundary : ℕ = c.loop-boundary.boundary - 1 in
-    let are = c.list.ensures in
-    let at : boundary ≡ c.at-state.result.boundary = omega (arith, ap (λ (s : State). s.boundary) c.at-state.ensures, c.from-from.ensures, c.loop-place-test.true, c.loop-place.invariant.from) in
-    let each = heaviest_lead_on boundary (moves_at c.args.advert.now c.args.weights.now c.args.kept.now (boundary + 1)) c.list.new.self.moves.items are.heavy are.lead_on in
-    subst (λ (moves : List Move). All (LeadsOn c.at-state.result.boundary) moves) (sym c.as_slice.ensures.value) (subst (λ (n : ℕ). All (LeadsOn n) c.list.new.self.moves.items) at each)
+    rw c.as_slice.ensures.value (listed_lead_on c.list.ensures c.at-state.result.boundary (omega (arith, ap (λ (s : State). s.boundary) c.at-state.ensures, c.from-from.ensures, c.loop-place-test.true, c.loop-place.invariant.from)))
 
 pub loop-place-preserved : goal.loop-place-preserved
 loop-place-preserved c =

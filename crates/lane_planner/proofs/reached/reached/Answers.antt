@@ -1,14 +1,11 @@
-use Rattle.std.proofs.Common.{Bool, ◌≡◌, ℕ, ◌+◌, ◌*◌, ◌<◌, List, true, refl, set, sym, subst, ap, arith}
-use Rattle.std.specs.List.{All}
+use Rattle.std.proofs.Common.{Bool, ◌≡◌, ℕ, ◌+◌, ◌*◌, ◌/◌, ◌<◌, List, true, refl, set, sym, subst, ap, arith}
 use Rattle.plan_certificate.specs.declared.moves.Move.{Move}
 use Rattle.plan_certificate.specs.declared.state.State.{State}
-use Rattle.plan_certificate.specs.declared.state.Decision.{Decision}
 use Rattle.plan_certificate.specs.States.{state_at}
-use Rattle.plan_certificate.specs.Moves.{LeadsOn, moves_at, decisions_by}
-use Rattle.plan_certificate.proofs.HeaviestMoves.{heaviest_lead_on}
-use Rattle.plan_certificate.proofs.MoveDecisions.{listed_are_decisions}
+use Rattle.plan_certificate.specs.Moves.{decisions_by}
 use Rattle.lane_planner.specs.Marks.{AreMarks, MarksEnds}
-use Rattle.lane_planner.proofs.Marking.{ends_of_heaviest, marks_begun, marks_ended, marks_more, marks_past}
+use Rattle.lane_planner.proofs.MoreMoves.{listed_lead_on}
+use Rattle.lane_planner.proofs.Marking.{ends_of_moves, marks_begun, marks_ended, marks_more, marks_past}
 use Rattle.lane_planner.proofs.reached.reached.Goals as goal
 
 pub loop-boundary-init : goal.loop-boundary-init
@@ -18,11 +15,7 @@ loop-boundary-init c =
 
 pub mark_ends-requires-clause-lead_on : goal.mark_ends-requires-clause-lead_on
 mark_ends-requires-clause-lead_on c =
-    let boundary : ℕ = c.loop-boundary.boundary in
-    let are = c.list.ensures in
-    let at : boundary ≡ c.at-state.result.boundary = omega (arith, ap (λ (s : State). s.boundary) c.at-state.ensures, c.from-from.ensures, c.loop-place-test.true, c.loop-place.invariant.from) in
-    let each = heaviest_lead_on boundary (moves_at c.args.advert.now c.args.weights.now c.args.kept.now (boundary + 1)) c.list.new.self.moves.items are.heavy are.lead_on in
-    subst (λ (moves : List Move). All (LeadsOn c.at-state.result.boundary) moves) (sym c.as_slice.ensures.value) (subst (λ (n : ℕ). All (LeadsOn n) c.list.new.self.moves.items) at each)
+    rw c.as_slice.ensures.value (listed_lead_on c.list.ensures c.at-state.result.boundary (omega (arith, ap (λ (s : State). s.boundary) c.at-state.ensures, c.from-from.ensures, c.loop-place-test.true, c.loop-place.invariant.from)))
 
 pub loop-place-init : goal.loop-place-init
 loop-place-init c =
@@ -36,19 +29,12 @@ loop-place-init c =
 
 pub loop-place-preserved : goal.loop-place-preserved
 loop-place-preserved c =
-    let boundary : ℕ = c.loop-boundary.boundary in
     let place : ℕ = c.loop-place.place in
     let so_far = c.loop-place.invariant in
-    let before = c.loop-place.marks in
-    let after = c.mark_ends.new.marks in
-    let state : State = state_at place in
-    let are = c.list.ensures in
-    let low : state.boundary ≡ boundary = omega (arith, c.loop-place-test.true, so_far.from, c.from-from.ensures) in
-    let free : Bool = c.list.new.self.may_stay_free in
-    let decisions = listed_are_decisions c.args.advert.now c.args.weights.now c.args.kept.now state boundary free (moves_at c.args.advert.now c.args.weights.now c.args.kept.now (boundary + 1)) c.list.new.self.moves.items low c.loop-boundary-test.true are in
-    let at_state = subst (λ (s : State). MarksEnds (decisions_by free s c.as_slice.result.now) before after) c.at-state.ensures c.mark_ends.ensures in
-    let of_heaviest = subst (λ (moves : List Move). MarksEnds (decisions_by free state moves) before after) c.as_slice.ensures.value at_state in
-    let new = subst (λ (ss : List Decision). MarksEnds ss before after) decisions (ends_of_heaviest free state are.heavy of_heaviest) in
+    let at : place / 256 ≡ c.loop-boundary.boundary = omega (arith, c.loop-place-test.true, so_far.from, c.from-from.ensures) in
+    let Ends = λ (s : State) (moves : List Move). MarksEnds (decisions_by c.list.new.self.may_stay_free s moves) c.loop-place.marks c.mark_ends.new.marks in
+    let of_heaviest = subst (Ends (state_at place)) c.as_slice.ensures.value (subst (λ (s : State). Ends s c.as_slice.result.now) c.at-state.ensures c.mark_ends.ensures) in
+    let new = ends_of_moves (state_at place) at c.loop-boundary-test.true c.list.ensures of_heaviest in
     let below : place < 2304 = omega (arith, c.loop-boundary-test.true, c.loop-place-test.true, c.from-from.ensures) in
     let more = marks_more place so_far.so_far below (so_far.marked (omega (arith, c.loop-place-test.true, c.from-from.ensures))) new in
     let found = c.first-place-in-loop-place.ensures in
