@@ -49,6 +49,7 @@ fn chosen(moves: &[Move], kept: &[Path], table: &Table, state: &State) -> Option
     None
 }
 
+#[tactic(auto, using(crate::proofs::DisjointLanes::byte_below))]
 fn keeps_gain(one: &Move, kept: &[Path], table: &Table, state: &State) -> bool
     requires table { IsTable table.now }
     requires open { state.now.boundary < 8 }

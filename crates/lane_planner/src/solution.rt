@@ -40,6 +40,7 @@ impl Solution {
 
     /// Solves a problem, in place, for a solution that is returned would be moved: firmware has little stack. What holds of the
     /// plan is said of the certificate that can be made of it.
+    #[tactic(auto, using(crate::proofs::CertifiedPlans::certified))]
     pub fn solve(&mut self, problem: &Problem)
         requires kept { IsAdmissible problem.now.advert.now problem.now.kept.now }
         requires gains { self.old.gains ≡ replicate STATES 0 }

@@ -56,6 +56,7 @@ impl Table {
     }
 
     /// What the table has for a state.
+    #[tactic(auto, using(crate::proofs::DisjointLanes::byte_below))]
     pub fn of(&self, state: &State) -> u64
         requires { state.now.boundary ≤ 8 }
         ensures { result ≡ gain_at self.now state.now }
