@@ -14,12 +14,10 @@ place_below state within = omega (arith, within, byte_below state.used)
 pub boundary_of_place : (state : State) → state_place state / 256 ≡ state.boundary
 boundary_of_place state = omega (arith, byte_below state.used)
 
-byte_of_place : (state : State) → state_place state % 256 ≡ byte_of state.used
-byte_of_place state = omega (arith, byte_below state.used)
-
 pub state_of_place : (state : State) → IsByte state.used → state_at (state_place state) ≡ state
 state_of_place state is_byte =
-    (λ i. record { boundary = boundary_of_place state i; used = (ap lanes_in (byte_of_place state) ∙ lanes_of_byte state.used is_byte) i })
+    let byte : state_place state % 256 ≡ byte_of state.used = omega (arith, byte_below state.used) in
+    (λ i. record { boundary = boundary_of_place state i; used = (ap lanes_in byte ∙ lanes_of_byte state.used is_byte) i })
 
 pub start_place : state_place start ≡ 0
 start_place = let none : byte_of start.used ≡ 0 = ap byte_of (sym lanes_in-zero) ∙ byte_of-lanes_in 0 (omega arith) in omega (arith, none)

@@ -72,18 +72,12 @@ loop-place-preserved c =
       marked = λ low. next.marked (omega (arith, low, c.from-from.ensures));
     }
 
-pub loop-place-smaller : goal.loop-place-smaller
-loop-place-smaller c = omega (arith, c.first-place-in-loop-place.ensures.after, c.from-from.ensures, c.loop-place-test.true)
-
 pub put-requires-clause-place : goal.put-requires-clause-place
 put-requires-clause-place c =
     let place : ℕ = c.loop-place.place in
     let below : place < 2048 = omega (arith, c.loop-place-test.true, c.from-from.ensures, c.loop-boundary-test.true, c.loop-boundary.auto.boundary) in
     let marked = c.loop-place.invariant.marked (omega (arith, c.loop-place-test.true, c.from-from.ensures)) in
     reached_has_cell c.args.advert.now c.args.weights.now c.args.kept.now place ((c.requires.marks.reached place (omega (arith, below))).0 marked) below
-
-pub put-requires-clause-small : goal.put-requires-clause-small
-put-requires-clause-small c = omega (arith, c.most-gain.ensures.small)
 
 pub returns : goal.returns
 returns c = let start : 256 * c.loop-boundary.boundary ≡ 0 = omega (arith, c.loop-boundary-test.false) in rw start at c.loop-boundary.invariant

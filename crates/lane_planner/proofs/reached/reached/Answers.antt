@@ -45,9 +45,6 @@ loop-place-preserved c =
       marked = λ inside. found.marked (omega (arith, inside, c.from-from.ensures));
     }
 
-pub loop-place-smaller : goal.loop-place-smaller
-loop-place-smaller c = omega (arith, c.first-place-in-loop-place.ensures.after, c.from-from.ensures, c.loop-place-test.true)
-
 pub loop-boundary-preserved : goal.loop-boundary-preserved
 loop-boundary-preserved c =
     let ended : c.loop-place.place ≡ 256 * (c.loop-boundary.boundary + 1) = omega (arith, c.loop-place.invariant.within, c.loop-place-test.false, c.from-from.ensures) in

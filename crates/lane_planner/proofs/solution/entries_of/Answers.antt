@@ -32,9 +32,6 @@ loop-place-preserved c =
       marked = found.marked;
     }
 
-pub loop-place-smaller : goal.loop-place-smaller
-loop-place-smaller c = omega (arith, c.first-place-in-loop-place.ensures.after, c.loop-place-test.true)
-
 pub returns : goal.returns
 returns c =
     let ended : c.loop-place.place ≡ 2304 = omega (arith, c.loop-place.invariant.within, c.loop-place-test.false) in

@@ -46,14 +46,8 @@ loop-place-preserved c =
       marked = found.marked;
     }
 
-pub loop-place-smaller : goal.loop-place-smaller
-loop-place-smaller c = omega (arith, c.first-place-in-loop-place.ensures.after, c.loop-place-test.true)
-
 pub returns-clause-put : goal.returns-clause-put
 returns-clause-put c = let ended : c.loop-place.place ≡ 2304 = omega (arith, c.loop-place.invariant.within, c.loop-place-test.false) in rw ended at c.loop-place.invariant.put
 
 pub returns-clause-each : goal.returns-clause-each
 returns-clause-each c = let ended : c.loop-place.place ≡ 2304 = omega (arith, c.loop-place.invariant.within, c.loop-place-test.false) in rw ended at c.loop-place.invariant.each
-
-pub returns-clause-small : goal.returns-clause-small
-returns-clause-small c = omega (arith, c.loop-place.invariant.small, c.loop-place.invariant.within)

@@ -3,13 +3,6 @@ use Rattle.std.proofs.lemmas.Bool.{both_ways, cases_eq, cases_lt}
 use Rattle.lane_planner.specs.Marks.{IsMarked}
 use Rattle.lane_planner.proofs.marks.Marks.first.Goals as goal
 
-pub loop-place-init : goal.loop-place-init
-loop-place-init c = record {
-  after = omega arith;
-  within = c.requires.from;
-  none = λ other past low marked. absurd (omega (arith, past, low));
-}
-
 pub loop-place-preserved : goal.loop-place-preserved
 loop-place-preserved c =
     let marks = c.args.self.now in
@@ -26,14 +19,6 @@ loop-place-preserved c =
         ]
       ];
     }
-
-pub returns-then-has : goal.returns-then-has
-returns-then-has c = record {
-  after = c.loop-place.invariant.after;
-  within = c.loop-place.invariant.within;
-  none = c.loop-place.invariant.none;
-  marked = λ low. sym c.has.ensures ∙ c.if-has.true;
-}
 
 pub returns : goal.returns
 returns c = record {
