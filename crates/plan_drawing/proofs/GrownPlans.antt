@@ -1,91 +1,25 @@
 -- A plan that grows from a state by decisions that follow one another.
-use Rattle.std.proofs.Common.{◌≡◌, ℕ, zero, suc, ◌+◌, ◌<◌, ◌≤◌, ◌⊎◌, ◌&&◌, true, List, [], ◌∷◌, ◌++◌, get_or, subst, ap, inl, inr, arith}
-use Rattle.std.specs.List.{All, AllPairs, Contains}
+use Rattle.std.proofs.Common.{◌≡◌, ℕ, zero, suc, ◌+◌, ◌<◌, ◌≤◌, ◌⊎◌, List, [], ◌∷◌, ◌++◌, subst, ap, inl, inr, arith}
+use Rattle.std.specs.List.{Contains}
 use Rattle.std.proofs.lemmas.Bool.{cases_Bool, cases_lt}
-use Rattle.std.proofs.lemmas.List.Elements.{All-contains, All-from_recursion, All-push, Contains-append_left, Contains-push_cases}
-use Rattle.std.proofs.lemmas.List.Quantifiers.{all_pairs_push}
+use Rattle.std.proofs.lemmas.List.Elements.{All-contains, Contains-append_left, Contains-push_cases}
 use Rattle.std.proofs.lemmas.List.Sums.{sum_by-cons}
-use Rattle.field_tables.specs.LaneSets.{Lanes, is_disjoint}
 use Rattle.applications.specs.Advertised.{Advertised}
 use Rattle.applications.specs.AppWeights.{PathWeights}
 use Rattle.plan_certificate.specs.declared.path.Path.{Path}
 use Rattle.plan_certificate.specs.declared.state.State.{State}
 use Rattle.plan_certificate.specs.declared.state.Decision.{Decision}
-use Rattle.plan_certificate.specs.Paths.{app_of, is_allowed, media_lanes, path_weight}
-use Rattle.plan_certificate.specs.Plans.{are_apart, IsAdmissible, Keeps, plan_weight}
-use Rattle.plan_certificate.specs.KeptPaths.{is_eligible, may_stay_free}
+use Rattle.plan_certificate.specs.Paths.{path_weight}
+use Rattle.plan_certificate.specs.Plans.{IsAdmissible, Keeps, plan_weight}
+use Rattle.plan_certificate.specs.KeptPaths.{may_stay_free}
 use Rattle.plan_certificate.specs.States.{free_decision, path_decision}
 use Rattle.plan_certificate.proofs.Heaviest.{allowed}
 use Rattle.plan_certificate.proofs.KeptPaths.{eligible_allowed}
-use Rattle.plan_certificate.proofs.LaneRuns.{disjoint_back}
 use Rattle.lane_planner.specs.Gains.{Follow, decisions_weight}
-use Rattle.lane_planner.proofs.DisjointLanes.{disjoint_first, disjoint_second, runs_disjoint}
 use Rattle.lane_planner.proofs.KeptLanes.{lane_within, one_has}
-use Rattle.lane_planner.proofs.KeptTaken.{AreTakenOrLater, IsTakenOrLater, all_taken, taken_after_free, taken_after_path}
-use Rattle.lane_planner.proofs.LaterPaths.{AreInOrder, weight_more}
+use Rattle.lane_planner.proofs.KeptTaken.{all_taken}
+use Rattle.lane_planner.proofs.LaterPaths.{Grown, Stands, grown_free, grown_path, weight_more}
 use Rattle.lane_planner.proofs.DecisionKinds.{decision_is}
-
--- a path that ends at or below the boundary, at used media lanes
-pub record Stands (advert : Advertised) (state : State) (path : Path) : Type 0 where
-  pub can : is_allowed advert path ≡ true
-  pub before : path.host + (app_of advert path).host_lanes ≤ state.boundary + 1
-  pub used : (others : Lanes) → is_disjoint others state.used ≡ true → is_disjoint others (media_lanes advert path) ≡ true
-
--- the paths come before the state, in order, and the kept ones are among them or may still come
-pub record Grown (advert : Advertised) (kept : List Path) (state : State) (paths : List Path) : Type 0 where
-  pub within : state.boundary ≤ 8
-  pub stand : All (Stands advert state) paths
-  pub ordered : AllPairs (AreInOrder advert) paths
-  pub keeps : AreTakenOrLater advert kept state paths
-
--- ---- one decision more
-
-stands_past : (advert : Advertised) (weights : PathWeights) (state : State) (taken path : Path) → Stands advert state path → Stands advert (path_decision advert weights state taken).end path
-stands_past advert weights state taken path is = record {
-  can = is.can;
-  before = omega (arith, is.before);
-  used = λ others none. is.used others (disjoint_first others state.used (media_lanes advert taken) none);
-}
-
-stands_itself : (advert : Advertised) (weights : PathWeights) (state : State) (path : Path) → path.host ≡ state.boundary + 1 → is_allowed advert path ≡ true → Stands advert (path_decision advert weights state path).end path
-stands_itself advert weights state path begins can = record {
-  can = can;
-  before = omega (arith, begins);
-  used = λ others none. disjoint_second others state.used (media_lanes advert path) none;
-}
-
-in_order : (advert : Advertised) (state : State) (path taken : Path) → Stands advert state path → taken.host ≡ state.boundary + 1 → is_disjoint (media_lanes advert taken) state.used ≡ true → AreInOrder advert path taken
-unfolding are_apart
-in_order advert state path taken is begins unused =
-    let lanes = allowed advert path is.can in
-    let hosts = runs_disjoint path.host (app_of advert path).host_lanes taken.host (app_of advert taken).host_lanes (omega (arith, is.before, begins)) in
-    let media = disjoint_back (media_lanes advert taken) (media_lanes advert path) (is.used (media_lanes advert taken) unused) in
-    record { apart = (λ i. hosts i && media i); rises = omega (arith, is.before, begins, lanes.host_some) }
-
-pub grown_free : (advert : Advertised) (kept : List Path) (state : State) (paths : List Path) → Grown advert kept state paths → state.boundary < 8 → may_stay_free advert kept (state.boundary + 1) ≡ true → Grown advert kept (free_decision state).end paths
-grown_free advert kept state paths is below may = record {
-  within = omega (arith, below);
-  stand = λ k d inside.
-      let one = is.stand k d inside in
-      record { can = one.can; before = omega (arith, one.before); used = one.used };
-  ordered = is.ordered;
-  keeps = taken_after_free advert kept state paths may is.keeps;
-}
-
-pub grown_path : (advert : Advertised) (weights : PathWeights) (kept : List Path) (state : State) (paths : List Path) (path : Path) → IsAdmissible advert kept → Grown advert kept state paths → path.host ≡ state.boundary + 1 → is_eligible advert kept path ≡ true → is_disjoint (media_lanes advert path) state.used ≡ true
-    → Grown advert kept (path_decision advert weights state path).end (paths ++ path ∷ [])
-grown_path advert weights kept state paths path plan is begins can unused =
-    let End : State = (path_decision advert weights state path).end in
-    let may = eligible_allowed advert kept path can in
-    let lanes = allowed advert path may in
-    record {
-      within = omega (arith, begins, lanes.host_to);
-      stand = All-push (Stands advert End) paths path (λ k d inside. stands_past advert weights state path (get_or paths k d) (is.stand k d inside)) (stands_itself advert weights state path begins may);
-      ordered = all_pairs_push (AreInOrder advert) paths path is.ordered (λ k d inside. in_order advert state (get_or paths k d) path (is.stand k d inside) begins unused);
-      keeps = taken_after_path advert weights kept state paths path plan (record { can = can; past = omega (arith, begins); unused = unused }) begins is.keeps;
-    }
-
--- ---- to the end
 
 -- a plan with these paths, and others that begin past the state, that weighs at least so much more
 pub record Fulfils (advert : Advertised) (weights : PathWeights) (kept : List Path) (state : State) (paths : List Path) (gain : ℕ) : Type 0 where
@@ -158,7 +92,7 @@ finished advert weights kept (suc left) state paths plan upto is =
         | inr not_free ↦
             let one = one_has advert kept lane not_free in
             let within = lane_within advert one.path lane one.has in
-            elim (All-contains (IsTakenOrLater advert kept state paths) kept one.path (All-from_recursion (IsTakenOrLater advert kept state paths) kept is.keeps) one.held) [
+            elim (is.keeps one.path one.held) [
               | inl taken ↦ absurd (omega (arith, within.to, (All-contains (Stands advert state) paths one.path is.stand taken).before))
               | inr later ↦
                   let begins : one.path.host ≡ lane = omega (arith, later.past, within.from) in

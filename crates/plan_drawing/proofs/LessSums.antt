@@ -12,19 +12,20 @@ use Rattle.plan_certificate.specs.Paths.{is_allowed, media_lanes, path_weight}
 use Rattle.plan_certificate.specs.Plans.{IsAdmissible, IsBest, plan_weight}
 use Rattle.plan_certificate.specs.KeptPaths.{is_eligible, may_stay_free}
 use Rattle.plan_certificate.specs.States.{free_decision, path_decision, decisions_from}
-use Rattle.plan_certificate.proofs.Heaviest.{IsLater, allowed, each_decision}
+use Rattle.plan_certificate.proofs.Heaviest.{IsLater, allowed}
 use Rattle.plan_certificate.proofs.KeptPaths.{IsBeside, all_beside}
 use Rattle.plan_certificate.proofs.Lists.{each_contained, map_each}
 use Rattle.lane_planner.specs.Gains.{IsGain}
 use Rattle.lane_planner.specs.Tables.{HasGains, gain_at}
+use Rattle.lane_planner.proofs.AheadPlans.{ahead_bounded, ahead_free, ahead_path}
+use Rattle.lane_planner.proofs.DecisionKinds.{listed_decisions}
 use Rattle.lane_planner.proofs.GainLaws.{covers_decision}
 use Rattle.lane_planner.proofs.KeptLanes.{none_has, has_lane}
-use Rattle.lane_planner.proofs.LaterPaths.{weight_more}
+use Rattle.lane_planner.proofs.LaterPaths.{Stands, grown_free, grown_path, weight_more}
 use Rattle.lane_planner.proofs.ReachedStates.{reached_on}
 use Rattle.lane_planner.proofs.TableGains.{gain_in}
 use Rattle.plan_drawing.specs.Alternatives.{IsAlternative, IsLess}
-use Rattle.plan_drawing.proofs.AheadPlans.{ahead_bounded, ahead_free, ahead_path}
-use Rattle.plan_drawing.proofs.GrownPlans.{Fulfils, Stands, followed, grown_free, grown_path}
+use Rattle.plan_drawing.proofs.GrownPlans.{Fulfils, followed}
 use Rattle.plan_drawing.proofs.WalkedStates.{SameBelow, Walked, ahead_itself}
 
 -- what is known where the plan has come to a state
@@ -86,9 +87,8 @@ pub less_by_path : (advert : Advertised) (weights : PathWeights) (kept paths : L
     → path.host ≡ state.boundary + 1 → is_eligible advert kept path ≡ true → is_disjoint (media_lanes advert path) state.used ≡ true → sum ≡ path_weight weights path + gain_at table (path_decision advert weights state path).end
     → IsLess advert weights kept paths (state.boundary + 1) (Some path) (gain_at table state - sum)
 less_by_path advert weights kept paths table state taken path sum is begins can unused summed =
-    let decisions = decisions_from advert weights kept state in
     let decision : Decision = path_decision advert weights state path in
-    let contains = (each_decision advert weights kept (Contains decisions) state is.below (each_contained decisions)).1 path begins can unused in
+    let contains = (listed_decisions advert weights kept state is.below).1 path begins can unused in
     let gain = gain_here advert weights kept paths table state taken is in
     let next = gain_next advert weights kept paths table state taken decision is contains in
     let covers = covers_decision advert weights kept state (gain_at table state) (gain_at table decision.end) decision gain next contains in
@@ -126,9 +126,8 @@ pub less_by_free : (advert : Advertised) (weights : PathWeights) (kept paths : L
     → IsLess advert weights kept paths (state.boundary + 1) None (gain_at table state - sum)
 less_by_free advert weights kept paths table state taken sum is may summed =
     let lane : ℕ = state.boundary + 1 in
-    let decisions = decisions_from advert weights kept state in
     let decision : Decision = free_decision state in
-    let contains = (each_decision advert weights kept (Contains decisions) state is.below (each_contained decisions)).0 may in
+    let contains = (listed_decisions advert weights kept state is.below).0 may in
     let gain = gain_here advert weights kept paths table state taken is in
     let next = gain_next advert weights kept paths table state taken decision is contains in
     let covers = covers_decision advert weights kept state (gain_at table state) (gain_at table decision.end) decision gain next contains in

@@ -3,7 +3,6 @@ pub mod RankedChoices
 pub mod ToldStates
 pub mod FoundPaths
 mod GrownPlans
-mod AheadPlans
 mod WalkedStates
 mod LessSums
 mod FairChoices

@@ -1,6 +1,6 @@
 -- The states that a plan comes through: those that it has taken its paths to, and how every plan with the same paths stands there.
-use Rattle.std.proofs.Common.{◌≡◌, ◌≢◌, ◌==◌, ℕ, zero, suc, ◌+◌, ◌<◌, ◌≤◌, Bool, true, false, List, [], ◌∷◌, ◌++◌, Option, Some, None, cond, refl, sym, subst, ap, ◌∙◌, inl, inr, arith}
-use Rattle.std.specs.List.{All, AllByRecursion, Contains, find, range_with_len}
+use Rattle.std.proofs.Common.{◌≡◌, ◌≢◌, ◌==◌, ℕ, zero, suc, ◌+◌, ◌<◌, ◌≤◌, Bool, true, false, List, [], ◌∷◌, ◌++◌, Option, Some, None, cond, refl, sym, subst, inl, inr, arith}
+use Rattle.std.specs.List.{All, AllByRecursion, Contains, range_with_len}
 use Rattle.std.proofs.lemmas.Bool.{cases_Bool, eq-eqb, eqb-true}
 use Rattle.std.proofs.lemmas.List.Elements.{All-contains, All-from_recursion, All-push}
 use Rattle.applications.specs.Advertised.{Advertised}
@@ -10,16 +10,17 @@ use Rattle.plan_certificate.specs.declared.state.State.{State}
 use Rattle.plan_certificate.specs.Paths.{is_allowed}
 use Rattle.plan_certificate.specs.Plans.{IsAdmissible, Keeps}
 use Rattle.plan_certificate.specs.ReachedStates.{IsReached}
-use Rattle.plan_certificate.specs.States.{start, free_decision, path_decision, decisions_from}
-use Rattle.plan_certificate.proofs.Heaviest.{IsLater, allowed, each_decision}
+use Rattle.plan_certificate.specs.States.{start, free_decision, path_decision}
+use Rattle.plan_certificate.proofs.Heaviest.{IsLater, allowed}
 use Rattle.plan_certificate.proofs.KeptPaths.{IsBeside, all_beside}
 use Rattle.plan_certificate.proofs.Lists.{each_contained, found, map_each}
 use Rattle.lane_planner.specs.FirstBest.{AgreeOn}
-use Rattle.lane_planner.proofs.KeptTaken.{later_at_start}
+use Rattle.lane_planner.proofs.AheadPlans.{Ahead, ahead_at_start, ahead_free, ahead_path, left_later}
+use Rattle.lane_planner.proofs.ChosenPaths.{none_passes}
+use Rattle.lane_planner.proofs.DecisionKinds.{listed_decisions}
+use Rattle.lane_planner.proofs.LaterPaths.{Grown, Stands, grown_free, grown_from_start, grown_path}
 use Rattle.lane_planner.proofs.ReachedStates.{reached_on, start_reached}
 use Rattle.plan_drawing.specs.Walks.{begins_at, next_state, path_at, states_on, decision_of}
-use Rattle.plan_drawing.proofs.AheadPlans.{Ahead, ahead_at_start, ahead_free, ahead_path}
-use Rattle.plan_drawing.proofs.GrownPlans.{Grown, Stands, grown_free, grown_path}
 
 abbrev pub SameBelow : List Path → ℕ → List Path → Type 0
 SameBelow paths lane others = (path : Path) → path.host < lane → AgreeOn paths others path
@@ -34,12 +35,7 @@ pub record Walked (advert : Advertised) (weights : PathWeights) (kept paths : Li
 pub walked_at_start : (advert : Advertised) (weights : PathWeights) (kept paths : List Path) → IsAdmissible advert kept → Walked advert weights kept paths start []
 walked_at_start advert weights kept paths kept_plan = record {
   reached = start_reached advert weights kept;
-  grown = record {
-    within = omega arith;
-    stand = λ k d below. absurd (omega (arith, below));
-    ordered = λ i j d before below. absurd (omega (arith, below));
-    keeps = later_at_start advert kept kept_plan;
-  };
+  grown = grown_from_start advert kept kept_plan;
   inside = λ k d below. absurd (omega (arith, below));
   ahead = λ others plan keeps same. ahead_at_start advert weights kept others plan keeps;
 }
@@ -50,25 +46,9 @@ ahead_itself advert weights kept paths state taken plan keeps is = is.ahead path
 
 -- a path of the plan at the next host lane or past it may still come
 pub comes : (advert : Advertised) (weights : PathWeights) (kept paths : List Path) (state : State) (taken : List Path) (path : Path) → IsAdmissible advert paths → Keeps kept paths → Walked advert weights kept paths state taken → Contains paths path → state.boundary < path.host → IsLater advert kept state path
-comes advert weights kept paths state taken path plan keeps is held past =
-    let own = ahead_itself advert weights kept paths state taken plan keeps is in
-    elim (own.split path held) [
-      | inl so_far ↦
-          let stands = All-contains (Stands advert state) taken path is.grown.stand so_far in
-          let lanes = allowed advert path stands.can in
-          absurd (omega (arith, stands.before, past, lanes.host_some))
-      | inr left ↦ All-contains (IsLater advert kept state) own.rest path (All-from_recursion (IsLater advert kept state) own.rest own.later) left
-    ]
+comes advert weights kept paths state taken path plan keeps is = left_later advert weights kept state taken paths path is.grown.stand (ahead_itself advert weights kept paths state taken plan keeps is)
 
 -- ---- no path is found
-
-none_passes : {X : Type 0} (test : X → Bool) (xs : List X) → find test xs ≡ None → AllByRecursion (λ x. test x ≡ false) xs
-none_passes test [] is = tt
-none_passes {X} test (x ∷ xs) is =
-    elim (cases_Bool (test x)) [
-      | inl does ↦ absurd (let wrong : Some x ≡ None = ap (λ (b : Bool). cond b (Some x) (find test xs)) (sym does) ∙ is in cc)
-      | inr fails ↦ (fails, none_passes test xs (ap (λ (b : Bool). cond b (Some x) (find test xs)) (sym fails) ∙ is))
-    ]
 
 none_begins : (paths : List Path) (lane : ℕ) → path_at paths lane ≡ None → (path : Path) → Contains paths path → path.host ≢ lane
 none_begins paths lane is path held begins =
@@ -85,11 +65,10 @@ WalkedTo advert weights kept paths state = (taken : List Path) × Walked advert 
 walked_path : (advert : Advertised) (weights : PathWeights) (kept paths : List Path) (state : State) (taken : List Path) (path : Path) → IsAdmissible advert kept → IsAdmissible advert paths → Keeps kept paths → Walked advert weights kept paths state taken → state.boundary < 8 → Contains paths path → path.host ≡ state.boundary + 1
     → Walked advert weights kept paths (path_decision advert weights state path).end (taken ++ path ∷ [])
 walked_path advert weights kept paths state taken path kept_plan plan keeps is below held begins =
-    let decisions = decisions_from advert weights kept state in
     let later = comes advert weights kept paths state taken path plan keeps is held (omega (arith, begins)) in
     let can = All-contains (λ (p : Path). is_allowed advert p ≡ true) paths path plan.allowed held in
     let lanes = allowed advert path can in
-    let contains = (each_decision advert weights kept (Contains decisions) state below (each_contained decisions)).1 path begins later.can later.unused in
+    let contains = (listed_decisions advert weights kept state below).1 path begins later.can later.unused in
     record {
       reached = reached_on advert weights kept state (path_decision advert weights state path) is.reached contains;
       grown = grown_path advert weights kept state taken path kept_plan is.grown begins later.can later.unused;
@@ -104,14 +83,13 @@ walked_free : (advert : Advertised) (weights : PathWeights) (kept paths : List P
     → Walked advert weights kept paths (free_decision state).end taken
 walked_free advert weights kept paths state taken plan keeps is below none =
     let lane : ℕ = state.boundary + 1 in
-    let decisions = decisions_from advert weights kept state in
     let own = ahead_itself advert weights kept paths state taken plan keeps is in
     let beside = map_each (Contains paths) (IsBeside advert lane) kept (λ path held. elim (own.split path held) [
       | inl so_far ↦ inr (All-contains (Stands advert state) taken path is.grown.stand so_far).before
       | inr left ↦ inl (omega (arith, (All-contains (IsLater advert kept state) own.rest path (All-from_recursion (IsLater advert kept state) own.rest own.later) left).past, none path held))
     ]) keeps in
     let may = all_beside advert kept lane beside in
-    let contains = (each_decision advert weights kept (Contains decisions) state below (each_contained decisions)).0 may in
+    let contains = (listed_decisions advert weights kept state below).0 may in
     record {
       reached = reached_on advert weights kept state (free_decision state) is.reached contains;
       grown = grown_free advert kept state taken is.grown below may;
