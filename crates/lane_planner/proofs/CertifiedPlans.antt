@@ -1,7 +1,7 @@
 -- What holds of the certificate of the plan that is read off, whether it is made or only written.
-use Rattle.std.proofs.Common.{◌≡◌, ℕ, get_or, refl, sym, subst, ap, ◌∙◌, arith, ◌≤◌, List}
+use Rattle.std.proofs.Common.{◌≡◌, ℕ, get_or, refl, sym, subst, ap, ◌∙◌, arith, List, []}
 use Rattle.plan_certificate.specs.Limits.{most_states}
-use Rattle.plan_certificate.specs.Plans.{IsAdmissible, IsBest, Keeps, plan_weight}
+use Rattle.plan_certificate.specs.Plans.{IsAdmissible, IsBest}
 use Rattle.plan_certificate.specs.Certificates.{IsBound, IsGood}
 use Rattle.lane_planner.specs.declared.problem.Problem.{Problem}
 use Rattle.plan_certificate.specs.States.{start}
@@ -16,30 +16,18 @@ use Rattle.lane_planner.proofs.ReachedStates.{start_reached}
 use Rattle.applications.specs.Advertised.{Advertised}
 use Rattle.applications.specs.AppWeights.{PathWeights}
 use Rattle.plan_certificate.specs.declared.path.Path.{Path}
-use Rattle.plan_certificate.proofs.Heaviest.{all_later, bounded, kept_come}
-use Rattle.plan_certificate.proofs.PathTakenOut.{from_pairs}
 use Rattle.lane_planner.specs.FirstBest.{IsFirstBest}
-use Rattle.lane_planner.specs.Gains.{IsGain, IsLimit}
-use Rattle.lane_planner.proofs.GainLaws.{limit_preserved}
+use Rattle.lane_planner.proofs.AheadPlans.{ahead_at_start, ahead_bounded}
 use Rattle.lane_planner.proofs.TableGains.{gain_in}
-
--- no plan that holds the kept paths weighs more than what can be gained from the start
-within_gain : (advert : Advertised) (weights : PathWeights) (kept others : List Path) (gain : ℕ) → IsGain advert weights kept start gain → IsAdmissible advert others → Keeps kept others → plan_weight weights others ≤ gain
-within_gain advert weights kept others gain is plan keeps =
-    bounded advert weights kept (IsLimit advert weights kept) (limit_preserved advert weights kept) 8 start gain (omega arith) is.greatest others (from_pairs advert others plan.apart) (all_later advert kept others plan keeps) (kept_come advert kept others keeps)
-
-read_off_is_best : (advert : Advertised) (weights : PathWeights) (kept : List Path) (table : List ℕ) (paths : List Path) → HasGains advert weights kept 0 table → IsReadOff advert weights kept table paths → IsBest advert weights kept paths
-read_off_is_best advert weights kept table paths has off =
-    let gain = gain_in advert weights kept 0 table start has (start_reached advert weights kept) (omega arith) in
-    record {
-      admissible = off.plan.admissible;
-      keeps = off.plan.keeps;
-      heaviest = λ others plan keeps. omega (arith, off.plan.weighs, within_gain advert weights kept others (gain_at table start) gain plan keeps);
-    }
 
 pub read_off_is_first : (advert : Advertised) (weights : PathWeights) (kept : List Path) (table : List ℕ) (paths : List Path) → HasGains advert weights kept 0 table → IsReadOff advert weights kept table paths → IsFirstBest advert weights kept paths
 read_off_is_first advert weights kept table paths has off =
-    let best = read_off_is_best advert weights kept table paths has off in
+    let gain = gain_in advert weights kept 0 table start has (start_reached advert weights kept) (omega arith) in
+    let best : IsBest advert weights kept paths = record {
+      admissible = off.plan.admissible;
+      keeps = off.plan.keeps;
+      heaviest = λ others plan keeps. omega (arith, off.plan.weighs, ahead_bounded advert weights kept start [] others (gain_at table start) gain.greatest (ahead_at_start advert weights kept others plan keeps));
+    } in
     record {
       candidate = record { best = best; of_use = off.plan.of_use };
       first = λ others other.

@@ -3,7 +3,7 @@ use Rattle.std.proofs.Common.{◌≡◌, ◌↔◌, ℕ, zero, suc, ◌<◌, ◌
 use Rattle.std.specs.List.{AllPairs, Contains}
 use Rattle.std.proofs.lemmas.List.{get_or-map, length-map}
 use Rattle.std.proofs.lemmas.List.Elements.{All-contains, Contains-append_right, Contains-get_or}
-use Rattle.field_tables.specs.LaneSets.{byte_of, lanes_in}
+use Rattle.field_tables.specs.LaneSets.{byte_of}
 use Rattle.field_tables.specs.LaneBytes.{byte_of-lanes_in}
 use Rattle.text_lines.specs.Lines.{text_of}
 use Rattle.applications.specs.Advertised.{Advertised}
@@ -69,9 +69,6 @@ module _ {X : Type 0} (rank : X → ℕ) where
 
 -- ---- entries
 
-same_lanes : (a b : ℕ) → a < 256 → b < 256 → lanes_in a ≡ lanes_in b → a ≡ b
-same_lanes a b small other same = sym (byte_of-lanes_in a small) ∙ ap byte_of same ∙ byte_of-lanes_in b other
-
 one_gain : (advert : Advertised) (weights : PathWeights) (kept : List Path) (state : State) (gain other : ℕ) → IsGain advert weights kept state gain → IsGain advert weights kept state other → gain ≡ other
 one_gain advert weights kept state gain other is also =
     omega (arith, is.gained.2, also.gained.2, is.greatest also.gained.0 also.gained.1, also.greatest is.gained.0 is.gained.1)
@@ -79,7 +76,7 @@ one_gain advert weights kept state gain other is also =
 same_entry : (entry other : Entry) → entry.used < 256 → other.used < 256 → state_of entry ≡ state_of other → entry.potential ≡ other.potential → entry ≡ other
 same_entry entry other small also state potential =
     let boundary : entry.boundary ≡ other.boundary = ap (λ (s : State). s.boundary) state in
-    let used : entry.used ≡ other.used = same_lanes entry.used other.used small also (ap (λ (s : State). s.used) state) in
+    let used : entry.used ≡ other.used = sym (byte_of-lanes_in entry.used small) ∙ ap (λ (s : State). byte_of s.used) state ∙ byte_of-lanes_in other.used also in
     λ i. record { boundary = boundary i; used = used i; potential = potential i }
 
 -- ---- certificates

@@ -1,6 +1,6 @@
 -- Marks on states, by their places: those that decisions from the start reach. (docs/planning.md, "The planner"; this project's
 -- own)
-use Rattle.std.specs.Prelude.{◌≡◌, ◌↔◌, ℕ, ◌-◌, ◌<◌, ◌≤◌, ◌⊎◌, Bool, true, false, List, length, Contains, slice_index_or}
+use Rattle.std.specs.Prelude.{◌≡◌, ◌↔◌, ℕ, ◌<◌, ◌≤◌, ◌⊎◌, Bool, true, false, List, length, Contains, slice_index_or}
 use Rattle.applications.specs.Advertised.{Advertised}
 use Rattle.applications.specs.AppWeights.{PathWeights}
 use Rattle.plan_certificate.specs.declared.path.Path.{Path}

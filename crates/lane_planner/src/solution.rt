@@ -70,6 +70,7 @@ impl Solution {
     }
 
     /// The certificate of the plan.
+    #[tactic(auto, using(crate::proofs::ReachedEntries::are_marked))]
     pub fn certificate(&self, problem: &Problem) -> Certificate<'static, STATES>
         ensures { result ≡ claim_of problem.now self.now }
     {

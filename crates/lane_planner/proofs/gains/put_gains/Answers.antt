@@ -78,6 +78,3 @@ put-requires-clause-place c =
     let below : place < 2048 = omega (arith, c.loop-place-test.true, c.from-from.ensures, c.loop-boundary-test.true, c.loop-boundary.auto.boundary) in
     let marked = c.loop-place.invariant.marked (omega (arith, c.loop-place-test.true, c.from-from.ensures)) in
     reached_has_cell c.args.advert.now c.args.weights.now c.args.kept.now place ((c.requires.marks.reached place (omega (arith, below))).0 marked) below
-
-pub returns : goal.returns
-returns c = let start : 256 * c.loop-boundary.boundary ≡ 0 = omega (arith, c.loop-boundary-test.false) in rw start at c.loop-boundary.invariant

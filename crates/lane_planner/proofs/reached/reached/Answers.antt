@@ -45,11 +45,6 @@ loop-place-preserved c =
       marked = λ inside. found.marked (omega (arith, inside, c.from-from.ensures));
     }
 
-pub loop-boundary-preserved : goal.loop-boundary-preserved
-loop-boundary-preserved c =
-    let ended : c.loop-place.place ≡ 256 * (c.loop-boundary.boundary + 1) = omega (arith, c.loop-place.invariant.within, c.loop-place-test.false, c.from-from.ensures) in
-    rw ended at c.loop-place.invariant.so_far
-
 pub returns : goal.returns
 returns c =
     let ended : 256 * c.loop-boundary.boundary ≡ 2048 = omega (arith, c.loop-boundary-test.false, c.loop-boundary.auto.boundary-end) in

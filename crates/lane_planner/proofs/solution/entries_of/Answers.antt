@@ -1,6 +1,5 @@
-use Rattle.std.proofs.Common.{◌≡◌, ◌+◌, ◌++◌, ◌∷◌, [], ℕ, sym, ap, ◌∙◌, arith, true}
+use Rattle.std.proofs.Common.{◌+◌, ◌++◌, ◌∷◌, [], ℕ, sym, ap, ◌∙◌, true}
 use Rattle.plan_certificate.specs.EntryPlaces.{Listed}
-use Rattle.lane_planner.specs.Tables.{entry_at, marked_entries}
 use Rattle.lane_planner.proofs.ReachedEntries.{are_marked, entries_more, none_between, none_marked}
 use Rattle.lane_planner.proofs.solution.entries_of.Goals as goal
 
@@ -31,8 +30,3 @@ loop-place-preserved c =
       within = found.within;
       marked = found.marked;
     }
-
-pub returns : goal.returns
-returns c =
-    let ended : c.loop-place.place ≡ 2304 = omega (arith, c.loop-place.invariant.within, c.loop-place-test.false) in
-    c.loop-place.invariant.same ∙ ap (marked_entries c.args.marks.now c.args.table.now) ended

@@ -45,9 +45,3 @@ loop-place-preserved c =
       within = found.within;
       marked = found.marked;
     }
-
-pub returns-clause-put : goal.returns-clause-put
-returns-clause-put c = let ended : c.loop-place.place ≡ 2304 = omega (arith, c.loop-place.invariant.within, c.loop-place-test.false) in rw ended at c.loop-place.invariant.put
-
-pub returns-clause-each : goal.returns-clause-each
-returns-clause-each c = let ended : c.loop-place.place ≡ 2304 = omega (arith, c.loop-place.invariant.within, c.loop-place-test.false) in rw ended at c.loop-place.invariant.each

@@ -19,11 +19,3 @@ loop-place-preserved c =
         ]
       ];
     }
-
-pub returns : goal.returns
-returns c = record {
-  after = c.requires.from;
-  within = omega arith;
-  none = λ other past low. c.loop-place.invariant.none other past (omega (arith, low, c.loop-place-test.false));
-  marked = λ low. absurd (omega (arith, low));
-}
