@@ -14,7 +14,6 @@ pub mod LaterPaths
 pub mod AheadPlans
 pub mod ChosenPaths
 mod FirstPlans
-pub mod KeptTaken
 pub mod FirstLaws
 mod ReadOffs
 mod ReachedEntries

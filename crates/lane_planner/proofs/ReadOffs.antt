@@ -21,8 +21,7 @@ use Rattle.lane_planner.proofs.DecisionKinds.{listed_decisions}
 use Rattle.lane_planner.proofs.FirstPlans.{AgreesOrLater, agrees_at_end, agrees_at_start, agrees_free, agrees_path, still_before}
 use Rattle.lane_planner.proofs.GainLaws.{Keeps, KnowsGains, NoneKeeps, free_keeps, kept_keeps}
 use Rattle.lane_planner.proofs.KeptLanes.{lane_within, one_has}
-use Rattle.lane_planner.proofs.KeptTaken.{all_taken}
-use Rattle.lane_planner.proofs.LaterPaths.{Grown, Stands, grown_free, grown_from_start, grown_path, weight_more}
+use Rattle.lane_planner.proofs.LaterPaths.{Grown, Stands, grown_free, grown_from_start, grown_path, weight_more, all_taken}
 use Rattle.lane_planner.proofs.ReachedStates.{reached_on, start_reached}
 use Rattle.lane_planner.proofs.TableGains.{gain_in, small_in}
 

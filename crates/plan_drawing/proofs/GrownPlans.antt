@@ -17,8 +17,7 @@ use Rattle.plan_certificate.proofs.Heaviest.{allowed}
 use Rattle.plan_certificate.proofs.KeptPaths.{eligible_allowed}
 use Rattle.lane_planner.specs.Gains.{Follow, decisions_weight}
 use Rattle.lane_planner.proofs.KeptLanes.{lane_within, one_has}
-use Rattle.lane_planner.proofs.KeptTaken.{all_taken}
-use Rattle.lane_planner.proofs.LaterPaths.{Grown, Stands, grown_free, grown_path, weight_more}
+use Rattle.lane_planner.proofs.LaterPaths.{Grown, Stands, grown_free, grown_path, weight_more, all_taken}
 use Rattle.lane_planner.proofs.DecisionKinds.{decision_is}
 
 -- a plan with these paths, and others that begin past the state, that weighs at least so much more

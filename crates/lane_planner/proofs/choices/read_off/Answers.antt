@@ -1,4 +1,4 @@
-use Rattle.std.proofs.Common.{find, sym, ap, ◌∙◌, arith}
+use Rattle.std.proofs.Common.{find, sym, ap, ◌∙◌}
 use Rattle.plan_certificate.specs.declared.state.State.{State}
 use Rattle.plan_certificate.specs.declared.state.Decision.{Decision}
 use Rattle.lane_planner.specs.Tables.{move_keeps_gain}
@@ -8,9 +8,6 @@ use Rattle.lane_planner.proofs.choices.read_off.Goals as goal
 
 pub loop-state-init : goal.loop-state-init
 loop-state-init c = rw (c.start-state.ensures, c.new-paths.ensures) (begun c.args.advert.now c.args.weights.now c.args.kept.now c.args.table.now c.requires.kept)
-
-pub loop-state-smaller-in-Some : goal.loop-state-smaller-in-Some
-loop-state-smaller-in-Some c = omega (arith, ap (λ (s : Decision). s.end.boundary) c.decision-state.ensures, c.in-Some.ensures.leads_on.further, c.loop-state-test.true)
 
 pub loop-state-preserved-in-Some : goal.loop-state-preserved-in-Some
 loop-state-preserved-in-Some c =
