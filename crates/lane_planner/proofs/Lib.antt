@@ -15,7 +15,7 @@ pub mod AheadPlans
 pub mod ChosenPaths
 mod FirstPlans
 pub mod FirstLaws
-mod ReadOffs
+pub mod ReadOffs
 mod ReachedEntries
 mod CertifiedPlans
 mod PutPieces

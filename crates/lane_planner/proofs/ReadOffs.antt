@@ -46,7 +46,7 @@ begun advert weights kept table plan = record {
 
 -- ---- one decision further
 
-gains_known : (advert : Advertised) (weights : PathWeights) (kept : List Path) (table : List ℕ) (state : State) → HasGains advert weights kept 0 table → IsReached advert weights kept state → state.boundary < 8 → KnowsGains advert weights kept (gain_at table) state
+pub gains_known : (advert : Advertised) (weights : PathWeights) (kept : List Path) (table : List ℕ) (state : State) → HasGains advert weights kept 0 table → IsReached advert weights kept state → state.boundary < 8 → KnowsGains advert weights kept (gain_at table) state
 gains_known advert weights kept table state has is below = record {
   below = below;
   here = gain_in advert weights kept 0 table state has is (omega arith);

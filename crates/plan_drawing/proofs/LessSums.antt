@@ -11,19 +11,17 @@ use Rattle.plan_certificate.specs.declared.state.Decision.{Decision}
 use Rattle.plan_certificate.specs.Paths.{is_allowed, media_lanes, path_weight}
 use Rattle.plan_certificate.specs.Plans.{IsAdmissible, IsBest, plan_weight}
 use Rattle.plan_certificate.specs.KeptPaths.{is_eligible, may_stay_free}
-use Rattle.plan_certificate.specs.States.{free_decision, path_decision, decisions_from}
+use Rattle.plan_certificate.specs.States.{free_decision, path_decision}
 use Rattle.plan_certificate.proofs.Heaviest.{IsLater, allowed}
 use Rattle.plan_certificate.proofs.KeptPaths.{IsBeside, all_beside}
 use Rattle.plan_certificate.proofs.Lists.{each_contained, map_each}
-use Rattle.lane_planner.specs.Gains.{IsGain}
 use Rattle.lane_planner.specs.Tables.{HasGains, gain_at}
 use Rattle.lane_planner.proofs.AheadPlans.{ahead_bounded, ahead_free, ahead_path}
 use Rattle.lane_planner.proofs.DecisionKinds.{listed_decisions}
 use Rattle.lane_planner.proofs.GainLaws.{covers_decision}
 use Rattle.lane_planner.proofs.KeptLanes.{none_has, has_lane}
 use Rattle.lane_planner.proofs.LaterPaths.{Stands, grown_free, grown_path, weight_more}
-use Rattle.lane_planner.proofs.ReachedStates.{reached_on}
-use Rattle.lane_planner.proofs.TableGains.{gain_in}
+use Rattle.lane_planner.proofs.ReadOffs.{gains_known}
 use Rattle.plan_drawing.specs.Alternatives.{IsAlternative, IsLess}
 use Rattle.plan_drawing.proofs.GrownPlans.{Fulfils, followed}
 use Rattle.plan_drawing.proofs.WalkedStates.{SameBelow, Walked, ahead_itself}
@@ -36,20 +34,13 @@ pub record Here (advert : Advertised) (weights : PathWeights) (kept paths : List
   pub below : state.boundary < 8
   pub walked : Walked advert weights kept paths state taken
 
-gain_here : (advert : Advertised) (weights : PathWeights) (kept paths : List Path) (table : List ℕ) (state : State) (taken : List Path) → Here advert weights kept paths table state taken → IsGain advert weights kept state (gain_at table state)
-gain_here advert weights kept paths table state taken is = gain_in advert weights kept 0 table state is.gains is.walked.reached (omega arith)
-
-gain_next : (advert : Advertised) (weights : PathWeights) (kept paths : List Path) (table : List ℕ) (state : State) (taken : List Path) (decision : Decision) → Here advert weights kept paths table state taken → Contains (decisions_from advert weights kept state) decision → IsGain advert weights kept decision.end (gain_at table decision.end)
-gain_next advert weights kept paths table state taken decision is contains =
-    gain_in advert weights kept 0 table decision.end is.gains (reached_on advert weights kept state decision is.walked.reached contains) (omega arith)
-
 -- the plan weighs what it has taken, and all that can be gained
 whole : (advert : Advertised) (weights : PathWeights) (kept paths : List Path) (table : List ℕ) (state : State) (taken : List Path) → Here advert weights kept paths table state taken → plan_weight weights paths ≡ plan_weight weights taken + gain_at table state
 whole advert weights kept paths table state taken is =
-    let gain = gain_here advert weights kept paths table state taken is in
+    let knows = gains_known advert weights kept table state is.gains is.walked.reached is.below in
     let own = ahead_itself advert weights kept paths state taken is.best.admissible is.best.keeps is.walked in
-    let most = ahead_bounded advert weights kept state taken paths (gain_at table state) gain.greatest own in
-    let run = gain.gained in
+    let most = ahead_bounded advert weights kept state taken paths (gain_at table state) knows.here.greatest own in
+    let run = knows.here.gained in
     let grown = followed advert weights kept run.0 state taken is.kept_plan is.walked.grown run.1 in
     let least = is.best.heaviest grown.others grown.admissible grown.keeps in
     omega (arith, most, grown.weighs, run.2, least)
@@ -89,9 +80,9 @@ pub less_by_path : (advert : Advertised) (weights : PathWeights) (kept paths : L
 less_by_path advert weights kept paths table state taken path sum is begins can unused summed =
     let decision : Decision = path_decision advert weights state path in
     let contains = (listed_decisions advert weights kept state is.below).1 path begins can unused in
-    let gain = gain_here advert weights kept paths table state taken is in
-    let next = gain_next advert weights kept paths table state taken decision is contains in
-    let covers = covers_decision advert weights kept state (gain_at table state) (gain_at table decision.end) decision gain next contains in
+    let knows = gains_known advert weights kept table state is.gains is.walked.reached is.below in
+    let next = knows.after decision contains in
+    let covers = covers_decision advert weights kept state (gain_at table state) (gain_at table decision.end) decision knows.here next contains in
     let all = whole advert weights kept paths table state taken is in
     let more = weight_more advert weights taken path in
     let greatest : (others : List Path) → IsAlternative advert kept paths (state.boundary + 1) (Some path) others → plan_weight weights others + (gain_at table state - sum) ≤ plan_weight weights paths =
@@ -128,9 +119,9 @@ less_by_free advert weights kept paths table state taken sum is may summed =
     let lane : ℕ = state.boundary + 1 in
     let decision : Decision = free_decision state in
     let contains = (listed_decisions advert weights kept state is.below).0 may in
-    let gain = gain_here advert weights kept paths table state taken is in
-    let next = gain_next advert weights kept paths table state taken decision is contains in
-    let covers = covers_decision advert weights kept state (gain_at table state) (gain_at table decision.end) decision gain next contains in
+    let knows = gains_known advert weights kept table state is.gains is.walked.reached is.below in
+    let next = knows.after decision contains in
+    let covers = covers_decision advert weights kept state (gain_at table state) (gain_at table decision.end) decision knows.here next contains in
     let all = whole advert weights kept paths table state taken is in
     let greatest : (others : List Path) → IsAlternative advert kept paths lane None others → plan_weight weights others + (gain_at table state - sum) ≤ plan_weight weights paths =
     λ others other.
