@@ -1,7 +1,7 @@
 -- No path weighs more than four weights of 32 bits.
-use Rattle.std.proofs.Common.{◌≡◌, ℕ, ◌*◌, ◌-◌, ◌<◌, ◌≤◌, ◌==◌, ◌&&◌, nat_lt, List, cond, get_or, length, slice_index, true, false, arith, inl, inr}
+use Rattle.std.proofs.Common.{ℕ, ◌*◌, ◌-◌, ◌≤◌, ◌==◌, ◌&&◌, nat_lt, List, get_or, length, slice_index, arith, inl, inr}
 use Rattle.std.specs.List.{All}
-use Rattle.std.proofs.lemmas.Bool.{cases_lt}
+use Rattle.std.proofs.lemmas.Bool.{cases_lt, cond_both}
 use Rattle.std.proofs.lemmas.List.{get_or_past}
 use Rattle.applications.specs.AppWeights.{ArePathWeights, PathWeights, stay_at, weight_from}
 
@@ -14,10 +14,7 @@ app_light weights light number =
 
 pub stay_light : (weights : PathWeights) → ArePathWeights weights → (number host : ℕ) → stay_at weights number host ≤ 4294967295
 stay_light weights are number host =
-    elim (nat_lt 0 number && slice_index weights.active (host - 1) == number) as (λ b. cond b weights.stay 0 ≤ 4294967295) [
-      | true ↦ are.stay
-      | false ↦ omega arith
-    ]
+    cond_both (nat_lt 0 number && slice_index weights.active (host - 1) == number) weights.stay 0 (λ stay. stay ≤ 4294967295) (λ e. are.stay) (λ e. omega arith)
 
 pub path_light : (weights : PathWeights) → ArePathWeights weights → (number host : ℕ) → weight_from weights number host ≤ 4 * 4294967295
 unfolding weight_from

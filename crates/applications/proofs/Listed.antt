@@ -1,5 +1,5 @@
 -- The list of Applications, taken from the front: what is left of it, and that it is numbered in order.
-use Rattle.std.proofs.Common.{◌≡◌, ℕ, zero, suc, ◌+◌, Bool, true, false, cond, List, [], ◌∷◌, refl, sym, subst, ap, inl, inr, ◌∙◌, map, length}
+use Rattle.std.proofs.Common.{◌≡◌, ℕ, zero, suc, ◌+◌, true, false, cond, List, [], ◌∷◌, refl, sym, subst, inl, inr, ◌∙◌, map, length}
 use Rattle.std.proofs.lemmas.Bool.{cases_Bool}
 use Rattle.std.proofs.lemmas.List.Sums.{take_while-cons}
 use Rattle.std.specs.List.{range_with_len, take_while}
@@ -12,15 +12,14 @@ use Rattle.applications.specs.Descriptors.{app_at, apps_of, is_listed}
 abbrev pub apps_from : Memory → ℕ → ℕ → List App
 apps_from memory number left = take_while is_listed (map (app_at memory) (range_with_len number left))
 
+pub apps_from-next : (memory : Memory) (number left : ℕ) → apps_from memory number (suc left) ≡ cond (is_listed (app_at memory number)) (app_at memory number ∷ apps_from memory (number + 1) left) []
+apps_from-next memory number left = take_while-cons is_listed (app_at memory number) (map (app_at memory) (range_with_len (number + 1) left))
+
 pub apps_from-listed : (memory : Memory) (number left : ℕ) → is_listed (app_at memory number) ≡ true → apps_from memory number (suc left) ≡ app_at memory number ∷ apps_from memory (number + 1) left
-apps_from-listed memory number left listed =
-    let later = map (app_at memory) (range_with_len (number + 1) left) in
-    take_while-cons is_listed (app_at memory number) later ∙ ap (λ (b : Bool). cond b (app_at memory number ∷ take_while is_listed later) []) listed
+apps_from-listed memory number left listed = apps_from-next memory number left ∙ rw listed refl
 
 pub apps_from-ended : (memory : Memory) (number left : ℕ) → is_listed (app_at memory number) ≡ false → apps_from memory number (suc left) ≡ []
-apps_from-ended memory number left ended =
-    let later = map (app_at memory) (range_with_len (number + 1) left) in
-    take_while-cons is_listed (app_at memory number) later ∙ ap (λ (b : Bool). cond b (app_at memory number ∷ take_while is_listed later) []) ended
+apps_from-ended memory number left ended = apps_from-next memory number left ∙ rw ended refl
 
 number-app_at : (memory : Memory) (number : ℕ) → (app_at memory number).number ≡ number
 unfolding app_at

@@ -1,29 +1,16 @@
--- Lines of weights: where a byte cuts them, that each says one thing alone, and what a reader keeps of them.
-use Rattle.std.proofs.Common.{◌≡◌, ◌≢◌, ℕ, ◌+◌, ◌<◌, Bool, true, false, cond, not, List, [], ◌∷◌, ◌++◌, length, map, Some, None, unwrap_or, arith, refl, sym, subst, ap, inl, inr, ◌∙◌, append_assoc, append-nil, length-append}
-use Rattle.std.proofs.lemmas.Bool.{cases_lt, lt-ltb, le-ltb}
+-- Lines of weights: that each says one thing alone, and what a reader keeps of them.
+use Rattle.std.proofs.Common.{◌≡◌, ◌≢◌, ℕ, ◌+◌, Bool, true, false, List, [], ◌∷◌, ◌++◌, length, Some, None, arith, refl, sym, subst, ap, ◌∙◌, append_assoc, append-nil, length-append}
 use Rattle.std.proofs.lemmas.Fmt.{decimal_injective}
-use Rattle.std.proofs.lemmas.List.{ext_get_or, get_or-replicate}
-use Rattle.std.proofs.lemmas.List.FromFn.{get_or-map-range_with_len, length-map-range_with_len}
-use Rattle.std.proofs.lemmas.List.Sums.{prefix_len-le-length}
+use Rattle.std.proofs.lemmas.List.{get_or-replicate}
+use Rattle.std.proofs.lemmas.List.FromFn.{fill_by_all}
 use Rattle.std.proofs.Math.ListN.{length-replicate, replicate}
-use Rattle.std.specs.List.{position, position_or_len, range_with_len}
 use Rattle.applications.specs.declared.weights.lines.Draft.{Draft}
 use Rattle.applications.specs.declared.weights.lines.Said.{Said}
 use Rattle.applications.specs.declared.weights.lines.Said.TheVariants.{Nothing, Host, Weight}
 use Rattle.applications.specs.declared.weights.lines.WeightLinesFault.{WeightLinesFault}
 use Rattle.applications.specs.declared.weights.lines.WeightLinesFault.TheVariants.{BadLine, SameIdTwice, NoHost}
 use Rattle.applications.specs.WeightKeys.{id_of_key}
-use Rattle.applications.specs.WeightLines.{AreWeights, Drafts, IsFirstFault, IsLineFault, Say, Says, SaysIn, host_line, key_in, may_follow, trimmed, weight_said}
-
--- what a search finds is the place, or the length
-pub place_is : (p : ℕ → Bool) (xs : List ℕ) → unwrap_or (position p xs) (length xs) ≡ position_or_len p xs
-place_is p xs =
-    let place = position_or_len p xs in
-    elim (cases_lt place (length xs)) [
-      | inl within ↦ ap (λ b. unwrap_or (cond b (Some place) None) (length xs)) (lt-ltb _ _ within)
-      | inr past ↦
-          ap (λ b. unwrap_or (cond b (Some place) None) (length xs)) (le-ltb _ _ past) ∙ omega (arith, past, prefix_len-le-length (λ x. not (p x)) xs)
-    ]
+use Rattle.applications.specs.WeightLines.{AreWeights, Drafts, IsFirstFault, IsLineFault, Say, Says, SaysIn, Stops, host_line, key_in, may_follow, trimmed, weight_said}
 
 -- ---- what a line says
 
@@ -90,27 +77,23 @@ read_more lines left line draft new number read said says follows d = record {
   counted = ap (λ n. n + 1) read.counted ∙ sym (length-append read.before (line ∷ []));
 }
 
+first_stop : (lines : List (List ℕ)) (fault : WeightLinesFault) → Stops lines fault → IsFirstFault lines fault
+first_stop lines (BadLine n) stop = stop
+first_stop lines (SameIdTwice n) stop = stop
+first_stop lines NoHost stop = absurd stop.stops
+
 pub read_fault : (lines left : List (List ℕ)) (line : List ℕ) (draft : Draft) (number : ℕ) (fault : WeightLinesFault) (read : ReadTo lines (line ∷ left) draft number)
     → IsLineFault read.said line (number + 1) fault → IsFirstFault lines fault
-read_fault lines left line draft number (BadLine n) read stops = record {
-  said = read.said;
-  before = read.before;
-  line = line;
-  rest = left;
-  lines_are = read.lines_are;
-  say = read.say;
-  stops = (stops.0 ∙ ap (λ k. k + 1) read.counted, stops.1);
-}
-read_fault lines left line draft number (SameIdTwice n) read (counted, said, says, placed, again) = record {
-  said = read.said;
-  before = read.before;
-  line = line;
-  rest = left;
-  lines_are = read.lines_are;
-  say = read.say;
-  stops = (counted ∙ ap (λ k. k + 1) read.counted, said, says, placed, again);
-}
-read_fault lines left line draft number NoHost read stops = absurd stops
+read_fault lines left line draft number fault read stops =
+    first_stop lines fault (record {
+      said = read.said;
+      before = read.before;
+      line = line;
+      rest = left;
+      lines_are = read.lines_are;
+      say = read.say;
+      stops = subst (λ (n : ℕ). IsLineFault read.said line (n + 1) fault) read.counted stops;
+    })
 
 say_all : (lines : List (List ℕ)) (draft : Draft) (number : ℕ) (read : ReadTo lines [] draft number) → Say read.said lines
 say_all lines draft number read = subst (Say read.said) (sym (read.lines_are ∙ append-nil read.before)) read.say
@@ -123,9 +106,5 @@ read_all lines draft number read host = (
   read.said,
   say_all lines draft number read,
   sym read.drafts.host ∙ host,
-  let count = length-map-range_with_len (weight_said read.said) 0 256 in
-      ext_get_or 0 draft.by_host_id (map (weight_said read.said) (range_with_len 0 256)) (read.drafts.weights_room ∙ sym count)
-      (λ id within.
-      let below : id < 256 = rw read.drafts.weights_room at within in
-      read.drafts.weights id below ∙ sym (get_or-map-range_with_len (weight_said read.said) 0 256 id id 0 below (omega arith))),
+  fill_by_all (weight_said read.said) draft.by_host_id 256 0 read.drafts.weights_room read.drafts.weights,
 )

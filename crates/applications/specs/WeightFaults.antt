@@ -67,6 +67,11 @@ weights_faults document =
 unfoldable pub weights_fault : Option Members → Option WeightsFault
 weights_fault document = first_fault (weights_faults document)
 
+-- what reading members or tables answers: their first fault, or else this value
+abbrev pub AnswersWith : {A : Type 0} → Option WeightsFault → A → Result A WeightsFault → Type 0
+AnswersWith fault value (Ok read) = (fault ≡ None) × (read ≡ value)
+AnswersWith fault value (Err found) = fault ≡ Some found
+
 -- what reading a text may answer: memory may be wanting, unless the text isn't UTF-8 or has only white space and comments
 abbrev pub IsAnswer : List ℕ → Result ListedWeights WeightsFault → Type 0
 IsAnswer text (Ok weights) = (weights_fault (document_of text) ≡ None) × (weights ≡ weights_in (document_of text))

@@ -38,7 +38,7 @@ impl ActiveSet {
     pub(crate) fn app_sel_code(&self, lane: usize) -> u8
         ensures { result ≡ slice_index self.now.app_sel_codes (lane - 1) }
     {
-        number_of(&self.app_sel_codes, lane)
+        number_of_lane(&self.app_sel_codes, lane)
     }
 
     /// Whether the Application's path from a host lane on is among the active ones.
@@ -55,11 +55,12 @@ impl ActiveSet {
         ensures { result ≡ is_lane_of self.now app.now host lane }
     {
         self.app_sel_code(lane) == app.number
-            && usize::from(number_of(&self.data_path_ids, lane)) + 1 == host
+            && usize::from(number_of_lane(&self.data_path_ids, lane)) + 1 == host
     }
 }
 
-fn number_of(numbers: &[u8; 8], lane: usize) -> u8
+/// What numbers of the host lanes 1 to 8 have of a lane.
+pub(crate) fn number_of_lane(numbers: &[u8; 8], lane: usize) -> u8
     ensures { result ≡ slice_index numbers.now (lane - 1) }
 {
     match numbers.get(lane.saturating_sub(1)) {

@@ -1,12 +1,12 @@
 // How much data paths are wanted, by their Application, and by whether they are active.
-ghost use Rattle.std.specs.Prelude.{◌≡◌, ◌≤◌, ◌<◌, ◌-◌, ◌==◌, ℕ, find, map, option_copied, slice_index};
+ghost use Rattle.std.specs.Prelude.{◌≡◌, ◌≤◌, ◌<◌, ◌==◌, ℕ, find, map, option_copied, slice_index};
 ghost use Rattle.std.specs.List.{range_with_len};
 ghost use Rattle.applications.specs.declared.app.App.{App};
 ghost use Rattle.applications.specs.AppWeights.{active_app, is_active_from, weight_of_number};
 ghost use Rattle.applications.specs.Weights.{weight_at};
 
 use super::Weights;
-use super::table::WeightTable;
+use crate::active::number_of_lane;
 use crate::advert::Advert;
 use crate::app::App;
 use std::marker::Model;
@@ -40,12 +40,12 @@ impl AppWeights {
         AppWeights {
             by_number: weights_by_number(
                 advert,
-                weights.table(WeightTable::Host),
-                weights.table(WeightTable::Media),
-                weights.table(WeightTable::App),
+                &weights.by_host_id,
+                &weights.by_media_id,
+                &weights.by_app,
             ),
             active: active_apps(advert),
-            stay: weights.stay(),
+            stay: weights.stay,
         }
     }
 
@@ -93,20 +93,11 @@ impl AppWeights {
         ensures weight { result ≡ stay_at self.now number host }
         ensures small { result ≤ 4294967295 }
     {
-        if number != 0 && active_from(&self.active, host) == number {
+        if number != 0 && number_of_lane(&self.active, usize::from(host)) == number {
             u64::from(self.stay)
         } else {
             0
         }
-    }
-}
-
-fn active_from(active: &[u8; 8], host: u8) -> u8
-    ensures { result ≡ slice_index active.now (host - 1) }
-{
-    match active.get(usize::from(host).saturating_sub(1)) {
-        Some(number) => *number,
-        None => 0,
     }
 }
 

@@ -1,8 +1,8 @@
-ghost use Rattle.std.specs.Prelude.{◌≡◌, IsTrue, MatchOption, Some, is_some, option_map};
+ghost use Rattle.std.specs.Prelude.{◌≡◌, IsTrue, Some, is_none, is_some, option_map};
 ghost use Rattle.toml.specs.View.{table_view, view};
 ghost use Rattle.field_tables.specs.FirstFault.{first_fault};
 ghost use Rattle.applications.specs.WeightTables.{KeysRise, members_in, members_of, stay_in, stay_value, table_in, value_in, weights_in, weights_of};
-ghost use Rattle.applications.specs.WeightFaults.{faults_in, has_more, has_other_key, is_known, is_no_stay, is_no_table, judges_keys, names_table, weights_fault};
+ghost use Rattle.applications.specs.WeightFaults.{AnswersWith, faults_in, has_more, has_other_key, is_known, is_no_stay, is_no_table, judges_keys, names_table, weights_fault};
 ghost use Rattle.applications.specs.declared.weights.table.WeightTable.{WeightTable};
 
 use super::Weights;
@@ -17,10 +17,10 @@ const STAY: &str = "stay";
 /// The weights that the tables of a document list.
 pub fn read_document(document: &Table) -> Result<Weights, WeightsFault>
     ensures answer { let read = Some (table_view document.now) in
-        MatchOption (weights_fault read) (result ≡ Ok (weights_in read)) (λ fault. result ≡ Err fault) }
+        AnswersWith (weights_fault read) (weights_in read) result }
     ensures in_byte_order { IsTrue (judges_keys result) → (table : WeightTable) → KeysRise (members_in table (Some (table_view document.now))) }
 {
-    if table_in(document, WeightTable::Host).is_none() {
+    if has_no_table(document, WeightTable::Host) {
         return Err(WeightsFault::NoHostTable);
     }
     if has_more(document) {
@@ -40,7 +40,7 @@ pub fn read_document(document: &Table) -> Result<Weights, WeightsFault>
 /// Those of one table, which may be absent.
 fn read_table(document: &Table, table: WeightTable) -> Result<[u32; 256], WeightsFault>
     ensures answer { let read = Some (table_view document.now) in
-        MatchOption (first_fault (faults_in table read)) (result ≡ Ok (weights_of table (members_in table read))) (λ fault. result ≡ Err fault) }
+        AnswersWith (first_fault (faults_in table read)) (weights_of table (members_in table read)) result }
     ensures in_byte_order { KeysRise (members_in table (Some (table_view document.now))) }
 {
     match table_in(document, table) {
@@ -100,7 +100,13 @@ fn has_other_key(document: &Table) -> bool
 fn is_no_table(document: &Table, table: WeightTable) -> bool
     ensures { result ≡ is_no_table table (table_view document.now) }
 {
-    value_in(document, table).is_some() && table_in(document, table).is_none()
+    value_in(document, table).is_some() && has_no_table(document, table)
+}
+
+fn has_no_table(document: &Table, table: WeightTable) -> bool
+    ensures { result ≡ is_none (table_in table (table_view document.now)) }
+{
+    table_in(document, table).is_none()
 }
 
 // Whether what stands as the weight of staying is no weight.

@@ -1,5 +1,5 @@
 // What the keys of weights name.
-ghost use Rattle.std.specs.Prelude.{◌≡◌, Some, None, if◌then◌else◌};
+ghost use Rattle.std.specs.Prelude.{◌≡◌, ◌<◌, Some, None, if◌then◌else◌, unwrap_or};
 ghost use Rattle.std.specs.Char.{digit_value};
 ghost use Rattle.applications.specs.WeightKeys.{is_hexadecimal};
 ghost use Rattle.applications.specs.WeightKeys as spec;
@@ -10,7 +10,8 @@ use text_lines::read_decimal;
 impl WeightTable {
     /// What a key of the table names: an interface ID, or the number of an Application.
     pub fn named_by(self, key: &[u8]) -> Option<u8>
-        ensures { result ≡ spec.named_by self key.now }
+        ensures number { result ≡ spec.named_by self key.now }
+        ensures byte { unwrap_or (spec.named_by self key.now) 0 < 256 }
     {
         match self {
             WeightTable::Host | WeightTable::Media => id_of_key(key),

@@ -1,8 +1,8 @@
-ghost use Rattle.std.specs.Prelude.{◌≡◌, [], MatchOption, slice_index_or, false};
+ghost use Rattle.std.specs.Prelude.{◌≡◌, ◌<◌, [], slice_index_or, false};
 ghost use Rattle.toml.specs.View.{view, table_view};
 ghost use Rattle.applications.specs.WeightTables.{KeysRise, Member, members_of, number_of, weight_of, weights_of};
 ghost use Rattle.applications.specs.WeightTables as spec;
-ghost use Rattle.applications.specs.WeightFaults.{faults_after, member_faults};
+ghost use Rattle.applications.specs.WeightFaults.{AnswersWith, faults_after, member_faults};
 ghost use Rattle.field_tables.specs.FirstFault.{first_fault};
 
 use super::fault::WeightsFault;
@@ -12,7 +12,7 @@ use toml::{Table, Value};
 /// The weights that the members of a table list, by what their keys name.
 pub fn read_members(table: WeightTable, members: &Table) -> Result<[u32; 256], WeightsFault>
     ensures answer { let read = members_of (table_view members.now) in
-        MatchOption (first_fault (faults_after table [] read)) (result ≡ Ok (weights_of table read)) (λ fault. result ≡ Err fault) }
+        AnswersWith (first_fault (faults_after table [] read)) (weights_of table read) result }
     ensures in_byte_order { KeysRise (members_of (table_view members.now)) }
 {
     let mut weights = [0; 256];
@@ -32,9 +32,9 @@ fn read_member(
     value: &Value,
     listed: &[bool; 256],
 ) -> Result<(u8, u32), WeightsFault>
-    ensures { let member : Member = (key.now, view value.now) in
-        MatchOption (first_fault (member_faults table (λ number. slice_index_or listed.now number false) member))
-        (result ≡ Ok (number_of table member, weight_of member)) (λ fault. result ≡ Err fault) }
+    ensures answer { let member : Member = (key.now, view value.now) in
+        AnswersWith (first_fault (member_faults table (λ number. slice_index_or listed.now number false) member)) (number_of table member, weight_of member) result }
+    ensures byte { number_of table (key.now, view value.now) < 256 }
 {
     let Some(number) = table.named_by(key) else {
         return Err(WeightsFault::BadKey(table));
