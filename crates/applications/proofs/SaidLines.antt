@@ -45,15 +45,6 @@ same_said content (Weight id w) (Weight id' w') x y =
 
 -- ---- what a reader keeps
 
-pub drafts_none : (draft : Draft) → draft.has_host ≡ false → draft.listed ≡ replicate 256 false → draft.by_host_id ≡ replicate 256 0 → Drafts [] draft
-drafts_none draft host listed weights = record {
-  host = host;
-  listed = λ id below. rw listed (get_or-replicate 256 id false false below);
-  weights = λ id below. rw weights (get_or-replicate 256 id 0 0 below);
-  listed_room = rw listed (length-replicate {A = Bool} 256 false);
-  weights_room = rw weights (length-replicate {A = ℕ} 256 0);
-}
-
 -- these lines are read, and these are left
 pub record ReadTo (lines left : List (List ℕ)) (draft : Draft) (number : ℕ) : Type 0 where
   pub said : List Said
@@ -63,8 +54,21 @@ pub record ReadTo (lines left : List (List ℕ)) (draft : Draft) (number : ℕ) 
   pub drafts : Drafts said draft
   pub counted : number ≡ length before
 
-pub read_none : (lines : List (List ℕ)) (draft : Draft) → Drafts [] draft → ReadTo lines lines draft 0
-read_none lines draft d = record { said = []; before = []; lines_are = refl; say = refl; drafts = d; counted = refl }
+pub read_none : (lines : List (List ℕ)) → ReadTo lines lines (record { has_host = false; listed = replicate 256 false; by_host_id = replicate 256 0 }) 0
+read_none lines = record {
+  said = [];
+  before = [];
+  lines_are = refl;
+  say = refl;
+  drafts = record {
+    host = refl;
+    listed = λ id below. get_or-replicate 256 id false false below;
+    weights = λ id below. get_or-replicate 256 id 0 0 below;
+    listed_room = length-replicate {A = Bool} 256 false;
+    weights_room = length-replicate {A = ℕ} 256 0;
+  };
+  counted = refl;
+}
 
 pub read_more : (lines left : List (List ℕ)) (line : List ℕ) (draft new : Draft) (number : ℕ) (read : ReadTo lines (line ∷ left) draft number) (said : Said)
     → Says line said → may_follow read.said said ≡ true → Drafts (said ∷ read.said) new → ReadTo lines left new (number + 1)
@@ -95,16 +99,10 @@ read_fault lines left line draft number fault read stops =
       stops = subst (λ (n : ℕ). IsLineFault read.said line (n + 1) fault) read.counted stops;
     })
 
-say_all : (lines : List (List ℕ)) (draft : Draft) (number : ℕ) (read : ReadTo lines [] draft number) → Say read.said lines
-say_all lines draft number read = subst (Say read.said) (sym (read.lines_are ∙ append-nil read.before)) read.say
-
-pub read_no_host : (lines : List (List ℕ)) (draft : Draft) (number : ℕ) → ReadTo lines [] draft number → draft.has_host ≡ false → IsFirstFault lines NoHost
-read_no_host lines draft number read none = (read.said, say_all lines draft number read, sym read.drafts.host ∙ none)
-
 pub read_all : (lines : List (List ℕ)) (draft : Draft) (number : ℕ) → ReadTo lines [] draft number → draft.has_host ≡ true → AreWeights lines draft.by_host_id
 read_all lines draft number read host = (
   read.said,
-  say_all lines draft number read,
+  rw (read.lines_are, append-nil) read.say,
   sym read.drafts.host ∙ host,
   fill_by_all (weight_said read.said) draft.by_host_id 256 0 read.drafts.weights_room read.drafts.weights,
 )

@@ -25,18 +25,18 @@ Faults = List (Bool × WeightsFault)
 abbrev pub table_fault : WeightTable → Members → Option WeightsFault
 table_fault table document = first_fault (faults_in table (Some document))
 
-pub fault-no_host : (document : Members) → is_none (table_in Host document) ≡ true → weights_fault (Some document) ≡ Some NoHostTable
+pub fault_no_host : (document : Members) → is_none (table_in Host document) ≡ true → weights_fault (Some document) ≡ Some NoHostTable
 unfolding weights_fault
-fault-no_host document no_host = rw no_host refl
+fault_no_host document no_host = rw no_host refl
 
-pub fault-more : (document : Members) → is_none (table_in Host document) ≡ false → has_more document ≡ true → weights_fault (Some document) ≡ Some OtherKey
+pub fault_more : (document : Members) → is_none (table_in Host document) ≡ false → has_more document ≡ true → weights_fault (Some document) ≡ Some OtherKey
 unfolding weights_fault
-fault-more document has_host more = rw (has_host, more) refl
+fault_more document has_host more = rw (has_host, more) refl
 
-pub fault-tables : (document : Members) → is_none (table_in Host document) ≡ false → has_more document ≡ false
+pub fault_tables : (document : Members) → is_none (table_in Host document) ≡ false → has_more document ≡ false
     → weights_fault (Some document) ≡ option_or (table_fault Host document) (option_or (table_fault Media document) (table_fault App document))
 unfolding weights_fault
-fault-tables document has_host no_more =
+fault_tables document has_host no_more =
     rw (has_host, no_more) (first_fault-append (faults_in Host (Some document)) (faults_in Media (Some document) ++ faults_in App (Some document))
     ∙ ap (option_or (table_fault Host document)) (first_fault-append (faults_in Media (Some document)) (faults_in App (Some document))))
 

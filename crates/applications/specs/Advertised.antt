@@ -32,11 +32,11 @@ advertised_by memory = record { apps = apps_of memory; unsupported = lanes_in (n
 
 -- the same of a module that pairs first lanes, or does not
 abbrev pub with_pairing : Bool → Advertised → Advertised
-with_pairing paired advert = record { apps = advert.apps; unsupported = advert.unsupported; paired = paired; active = advert.active }
+with_pairing paired advert = record advert { paired = paired }
 
 -- the same with the lane counts that the interface IDs imply where an Application's own are 0, of a module of this media type
 abbrev pub with_counts_by_id : ℕ → Advertised → Advertised
-with_counts_by_id media_type advert = record { apps = map (counted media_type) advert.apps; unsupported = advert.unsupported; paired = advert.paired; active = advert.active }
+with_counts_by_id media_type advert = record advert { apps = map (counted media_type) advert.apps }
 
 -- the same, or what is advertised as it stands
 abbrev pub with_counts : Bool → ℕ → Advertised → Advertised
@@ -44,7 +44,7 @@ with_counts by_id media_type advert = if by_id then with_counts_by_id media_type
 
 -- the same with this Active Control Set
 abbrev pub with_active : ActiveSet → Advertised → Advertised
-with_active active advert = record { apps = advert.apps; unsupported = advert.unsupported; paired = advert.paired; active = active }
+with_active active advert = record advert { active = active }
 
 -- what the module advertises to a host that reads it by these conventions
 abbrev pub advertised_under : Conventions → Memory → Advertised

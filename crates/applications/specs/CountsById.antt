@@ -11,12 +11,7 @@ count_by implied count = if count == 0 then unwrap_or implied 0 else count
 
 -- an Application of a module of this media type
 abbrev pub counted : ℕ → App → App
-counted media_type app = record {
-  number = app.number;
-  host_id = app.host_id;
-  media_id = app.media_id;
+counted media_type app = record app {
   host_lanes = count_by (host_lanes_by_id app.host_id) app.host_lanes;
   media_lanes = count_by (media_lanes_by_id media_type app.media_id) app.media_lanes;
-  host_starts = app.host_starts;
-  media_starts = app.media_starts;
 }

@@ -1,7 +1,8 @@
 ghost use Rattle.std.specs.Prelude.{◌≡◌, IsTrue, Some, is_none, is_some, option_map};
+ghost use Rattle.toml.specs.Data.{get_member};
 ghost use Rattle.toml.specs.View.{table_view, view};
 ghost use Rattle.field_tables.specs.FirstFault.{first_fault};
-ghost use Rattle.applications.specs.WeightTables.{KeysRise, members_in, members_of, stay_in, stay_value, table_in, value_in, weights_in, weights_of};
+ghost use Rattle.applications.specs.WeightTables.{KeysRise, members_in, members_of, stay_in, table_in, weights_in, weights_of};
 ghost use Rattle.applications.specs.WeightFaults.{AnswersWith, faults_in, has_more, has_other_key, is_known, is_no_stay, is_no_table, judges_keys, names_table, weights_fault};
 ghost use Rattle.applications.specs.declared.weights.table.WeightTable.{WeightTable};
 
@@ -15,6 +16,7 @@ use toml::{Table, Value};
 const STAY: &str = "stay";
 
 /// The weights that the tables of a document list.
+#[tactic(auto, using(crate::proofs::WeightAnswers::fault_no_host, crate::proofs::WeightAnswers::fault_more))]
 pub fn read_document(document: &Table) -> Result<Weights, WeightsFault>
     ensures answer { let read = Some (table_view document.now) in
         AnswersWith (weights_fault read) (weights_in read) result }
@@ -52,32 +54,27 @@ fn read_table(document: &Table, table: WeightTable) -> Result<[u32; 256], Weight
 fn table_in(document: &Table, table: WeightTable) -> Option<&Table>
     ensures { option_map (λ members. table_view members.now) result ≡ table_in table (table_view document.now) }
 {
-    match value_in(document, table) {
+    match value_at(document, table.name()) {
         Some(value) => value.as_table(),
         None => None,
     }
 }
 
-fn value_in(document: &Table, table: WeightTable) -> Option<&Value>
-    ensures { option_map (λ value. view value.now) result ≡ value_in table (table_view document.now) }
+fn value_at<'a>(document: &'a Table, key: &str) -> Option<&'a Value>
+    ensures { option_map (λ value. view value.now) result ≡ get_member key.now (table_view document.now) }
 {
-    document.get(table.name())
+    document.get(key)
 }
 
 // The weight of staying, or 0 if there is none.
+#[tactic(auto, unfolding(crate::specs::WeightKeys::stay_name))]
 fn stay_in(document: &Table) -> u32
     ensures { result ≡ stay_in (table_view document.now) }
 {
-    match stay_value(document) {
+    match value_at(document, STAY) {
         Some(value) => weight_of_value(value).unwrap_or(0),
         None => 0,
     }
-}
-
-fn stay_value(document: &Table) -> Option<&Value>
-    ensures { option_map (λ value. view value.now) result ≡ stay_value (table_view document.now) }
-{
-    document.get(STAY)
 }
 
 // Whether a document has more than the three tables and the weight of staying.
@@ -100,7 +97,7 @@ fn has_other_key(document: &Table) -> bool
 fn is_no_table(document: &Table, table: WeightTable) -> bool
     ensures { result ≡ is_no_table table (table_view document.now) }
 {
-    value_in(document, table).is_some() && has_no_table(document, table)
+    value_at(document, table.name()).is_some() && has_no_table(document, table)
 }
 
 fn has_no_table(document: &Table, table: WeightTable) -> bool
@@ -110,10 +107,11 @@ fn has_no_table(document: &Table, table: WeightTable) -> bool
 }
 
 // Whether what stands as the weight of staying is no weight.
+#[tactic(auto, unfolding(crate::specs::WeightKeys::stay_name))]
 fn is_no_stay(document: &Table) -> bool
     ensures { result ≡ is_no_stay (table_view document.now) }
 {
-    match stay_value(document) {
+    match value_at(document, STAY) {
         Some(value) => weight_of_value(value).is_none(),
         None => false,
     }

@@ -45,6 +45,7 @@ fn hexadecimal_digit(digit: u8) -> Option<u8>
 }
 
 // The number of an Application, from 1 on, that a key writes in decimal.
+#[tactic(auto, using(crate::proofs::KeyLemmas::app_found, crate::proofs::KeyLemmas::app_none, crate::proofs::KeyLemmas::zero_none))]
 fn app_of_key(key: &[u8]) -> Option<u8>
     ensures { result ≡ spec.app_of_key key.now }
 {

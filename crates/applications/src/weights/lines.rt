@@ -205,6 +205,7 @@ fn cut(bytes: &[u8], at: u8) -> (&[u8], &[u8])
 }
 
 // How many bytes stand before it.
+#[tactic(auto, using(text_lines::proofs::LineEnds::place_or_length))]
 fn place_of(bytes: &[u8], at: u8) -> usize
     ensures within { result ≤ length bytes.now }
     ensures place { result ≡ position_or_len (λ byte. byte == at) bytes.now }

@@ -6,30 +6,24 @@ use Rattle.applications.specs.declared.weights.table.WeightTable.{WeightTable}
 use Rattle.applications.specs.declared.weights.table.WeightTable.TheVariants.{Host, Media, App}
 use Rattle.applications.specs.WeightTables.{KeysRise, members_in}
 use Rattle.applications.proofs.TableMembers.{weights_of-are}
-use Rattle.applications.proofs.WeightAnswers.{fault-more, fault-no_host, fault-tables}
+use Rattle.applications.proofs.WeightAnswers.{fault_more, fault_no_host, fault_tables}
 use Rattle.applications.proofs.weights.document.read_document.Goals as goal
-
-pub returns-then-has_no_table-clause-answer : goal.returns-then-has_no_table-clause-answer
-returns-then-has_no_table-clause-answer c = fault-no_host (table_view c.args.document.now) (sym c.if-has_no_table.ensures)
-
-pub returns-then-has_more-clause-answer : goal.returns-then-has_more-clause-answer
-returns-then-has_more-clause-answer c = fault-more (table_view c.args.document.now) (sym c.if-has_no_table.ensures) (sym c.if-has_more.ensures)
 
 pub returns-in_err-by_host_id-clause-answer : goal.returns-in_err-by_host_id-clause-answer
 returns-in_err-by_host_id-clause-answer c =
     let p = err_from_is_err_and c.from_residual.result c.from_residual.ensures.1 in
-    rw (p.1, p.2) (fault-tables (table_view c.args.document.now) (sym c.if-has_no_table.ensures) (sym c.if-has_more.ensures) ∙ rw c.in_err-by_host_id.ensures.answer refl)
+    rw (p.1, p.2) (fault_tables (table_view c.args.document.now) (sym c.if-has_no_table.ensures) (sym c.if-has_more.ensures) ∙ rw c.in_err-by_host_id.ensures.answer refl)
 
 pub returns-in_err-by_media_id-clause-answer : goal.returns-in_err-by_media_id-clause-answer
 returns-in_err-by_media_id-clause-answer c =
     let p = err_from_is_err_and c.from_residual-in_err-by_media_id.result c.from_residual-in_err-by_media_id.ensures.1 in
-    rw (p.1, p.2) (fault-tables (table_view c.args.document.now) (sym c.if-has_no_table.ensures) (sym c.if-has_more.ensures)
+    rw (p.1, p.2) (fault_tables (table_view c.args.document.now) (sym c.if-has_no_table.ensures) (sym c.if-has_more.ensures)
     ∙ rw (c.in_ok-by_host_id.ensures.answer.0, c.in_err-by_media_id.ensures.answer) refl)
 
 pub returns-in_err-by_app-clause-answer : goal.returns-in_err-by_app-clause-answer
 returns-in_err-by_app-clause-answer c =
     let p = err_from_is_err_and c.from_residual-in_err-by_app.result c.from_residual-in_err-by_app.ensures.1 in
-    rw (p.1, p.2) (fault-tables (table_view c.args.document.now) (sym c.if-has_no_table.ensures) (sym c.if-has_more.ensures)
+    rw (p.1, p.2) (fault_tables (table_view c.args.document.now) (sym c.if-has_no_table.ensures) (sym c.if-has_more.ensures)
     ∙ rw (c.in_ok-by_host_id.ensures.answer.0, c.in_ok-by_media_id.ensures.answer.0, c.in_err-by_app.ensures.answer) refl)
 
 pub invariant_of-result : goal.invariant_of-result
@@ -44,7 +38,7 @@ invariant_of-result c =
 
 pub returns-clause-answer : goal.returns-clause-answer
 returns-clause-answer c = (
-  fault-tables (table_view c.args.document.now) (sym c.if-has_no_table.ensures) (sym c.if-has_more.ensures)
+  fault_tables (table_view c.args.document.now) (sym c.if-has_no_table.ensures) (sym c.if-has_more.ensures)
       ∙ rw (c.in_ok-by_host_id.ensures.answer.0, c.in_ok-by_media_id.ensures.answer.0, c.in_ok-by_app.ensures.answer.0) refl,
   λ i. record {
     by_host = c.in_ok-by_host_id.ensures.answer.1 i;

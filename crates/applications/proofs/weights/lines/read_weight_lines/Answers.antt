@@ -1,10 +1,10 @@
 use Rattle.std.proofs.Common.{◌≡◌, [], refl, arith, rules}
 use Rattle.text_lines.specs.Lines.{lines_of}
-use Rattle.applications.proofs.SaidLines.{drafts_none, read_all, read_fault, read_more, read_none}
+use Rattle.applications.proofs.SaidLines.{read_all, read_fault, read_more, read_none}
 use Rattle.applications.proofs.weights.lines.read_weight_lines.Goals as goal
 
 pub loop-line-init : goal.loop-line-init
-loop-line-init c = record { read = read_none _ _ (drafts_none _ refl refl refl); bounded = omega arith }
+loop-line-init c = record { read = read_none _; bounded = omega arith }
 
 pub loop-line-preserved : goal.loop-line-preserved
 loop-line-preserved c =
