@@ -16,7 +16,7 @@ use toml::{Table, Value};
 const STAY: &str = "stay";
 
 /// The weights that the tables of a document list.
-#[tactic(auto, using(crate::proofs::WeightAnswers::fault_no_host, crate::proofs::WeightAnswers::fault_more))]
+#[tactic(auto, using(crate::proofs::WeightAnswers::fault_no_host, crate::proofs::WeightAnswers::fault_more, crate::proofs::WeightAnswers::fault_tables))]
 pub fn read_document(document: &Table) -> Result<Weights, WeightsFault>
     ensures answer { let read = Some (table_view document.now) in
         AnswersWith (weights_fault read) (weights_in read) result }

@@ -1,30 +1,11 @@
-use Rattle.std.proofs.Common.{Some, refl, sym, ◌∙◌}
-use Rattle.std.proofs.lemmas.Result.{err_from_is_err_and}
+use Rattle.std.proofs.Common.{Some}
 use Rattle.toml.specs.Data.{Members}
 use Rattle.toml.specs.View.{table_view}
 use Rattle.applications.specs.declared.weights.table.WeightTable.{WeightTable}
 use Rattle.applications.specs.declared.weights.table.WeightTable.TheVariants.{Host, Media, App}
 use Rattle.applications.specs.WeightTables.{KeysRise, members_in}
 use Rattle.applications.proofs.TableMembers.{weights_of-are}
-use Rattle.applications.proofs.WeightAnswers.{fault_more, fault_no_host, fault_tables}
 use Rattle.applications.proofs.weights.document.read_document.Goals as goal
-
-pub returns-in_err-by_host_id-clause-answer : goal.returns-in_err-by_host_id-clause-answer
-returns-in_err-by_host_id-clause-answer c =
-    let p = err_from_is_err_and c.from_residual.result c.from_residual.ensures.1 in
-    rw (p.1, p.2) (fault_tables (table_view c.args.document.now) (sym c.if-has_no_table.ensures) (sym c.if-has_more.ensures) ∙ rw c.in_err-by_host_id.ensures.answer refl)
-
-pub returns-in_err-by_media_id-clause-answer : goal.returns-in_err-by_media_id-clause-answer
-returns-in_err-by_media_id-clause-answer c =
-    let p = err_from_is_err_and c.from_residual-in_err-by_media_id.result c.from_residual-in_err-by_media_id.ensures.1 in
-    rw (p.1, p.2) (fault_tables (table_view c.args.document.now) (sym c.if-has_no_table.ensures) (sym c.if-has_more.ensures)
-    ∙ rw (c.in_ok-by_host_id.ensures.answer.0, c.in_err-by_media_id.ensures.answer) refl)
-
-pub returns-in_err-by_app-clause-answer : goal.returns-in_err-by_app-clause-answer
-returns-in_err-by_app-clause-answer c =
-    let p = err_from_is_err_and c.from_residual-in_err-by_app.result c.from_residual-in_err-by_app.ensures.1 in
-    rw (p.1, p.2) (fault_tables (table_view c.args.document.now) (sym c.if-has_no_table.ensures) (sym c.if-has_more.ensures)
-    ∙ rw (c.in_ok-by_host_id.ensures.answer.0, c.in_ok-by_media_id.ensures.answer.0, c.in_err-by_app.ensures.answer) refl)
 
 pub invariant_of-result : goal.invariant_of-result
 invariant_of-result c =
@@ -35,18 +16,6 @@ invariant_of-result c =
       by_app = rw c.in_ok-by_app.ensures.answer.1 (weights_of-are App (members_in App (Some document)));
       stay = c.stay_in.type_inv;
     }
-
-pub returns-clause-answer : goal.returns-clause-answer
-returns-clause-answer c = (
-  fault_tables (table_view c.args.document.now) (sym c.if-has_no_table.ensures) (sym c.if-has_more.ensures)
-      ∙ rw (c.in_ok-by_host_id.ensures.answer.0, c.in_ok-by_media_id.ensures.answer.0, c.in_ok-by_app.ensures.answer.0) refl,
-  λ i. record {
-    by_host = c.in_ok-by_host_id.ensures.answer.1 i;
-    by_media = c.in_ok-by_media_id.ensures.answer.1 i;
-    by_app = c.in_ok-by_app.ensures.answer.1 i;
-    stay = c.stay_in.ensures i;
-  },
-)
 
 -- the keys of each table rise
 each_table : (document : Members) → KeysRise (members_in Host (Some document)) → KeysRise (members_in Media (Some document)) → KeysRise (members_in App (Some document)) → (table : WeightTable) → KeysRise (members_in table (Some document))
