@@ -7,6 +7,6 @@ use Rattle.applications.specs.declared.app.App.{App}
 use Rattle.applications.specs.Advertised.{InOrder}
 use Rattle.applications.specs.CountsById.{counted}
 
-pub counted-in_order : (media_type : ℕ) (apps : List App) → InOrder apps → InOrder (map (counted media_type) apps)
-counted-in_order media_type apps order =
+pub counted_in_order : (media_type : ℕ) (apps : List App) → InOrder apps → InOrder (map (counted media_type) apps)
+counted_in_order media_type apps order =
     map-map (λ (app : App). app.number) (counted media_type) apps ∙ order ∙ ap (range_with_len 1) (sym (length-map apps (counted media_type)))

@@ -14,6 +14,10 @@ pub has_other_key-view : (entries : List (String Global × Value)) → has_other
 has_other_key-view [] = refl
 has_other_key-view (entry ∷ entries) = ap (λ (b : Bool). not (is_known (string_bytes entry.0)) || b) (has_other_key-view entries)
 
+pub rise_none : KeysRise []
+unfolding IsStrictlySortedBy
+rise_none = tt
+
 -- keys that rise in a map rise among its members
 all_below : (key : String Global) (entries : List (String Global × Value)) → AllByRecursion (λ y. string_cmp key y ≡ Less) (keys_of entries)
     → AllByRecursion (λ y. slice_cmp nat_cmp (string_bytes key) y ≡ Less) (map (λ (member : Member). member.0) (members_of (members_view entries)))

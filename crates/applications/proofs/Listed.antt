@@ -39,6 +39,6 @@ numbered_from memory number (suc left) =
       | inr ended ↦ subst IsNumbered (sym (apps_from-ended memory number left ended)) refl
     ]
 
-pub apps_of-in_order : (memory : Memory) → InOrder (apps_of memory)
+pub apps_of_in_order : (memory : Memory) → InOrder (apps_of memory)
 unfolding apps_of
-apps_of-in_order memory = numbered_from memory 1 15
+apps_of_in_order memory = numbered_from memory 1 15

@@ -151,8 +151,8 @@ Reads-weights table all weights listed reads =
     let whole : reads.before ≡ all = sym (reads.all_are ∙ append-nil reads.before) in
     fill_by_all (weight_in table reads.before) weights 256 0 reads.weights_room reads.weigh ∙ ap (weights_of table) whole
 
-pub weights_of-none : (table : WeightTable) → replicate 256 0 ≡ weights_of table []
-weights_of-none table = Reads-weights table [] (replicate 256 0) (replicate 256 false) (Reads-start table [])
+pub weights_of_none : (table : WeightTable) → replicate 256 0 ≡ weights_of table []
+weights_of_none table = Reads-weights table [] (replicate 256 0) (replicate 256 false) (Reads-start table [])
 
 -- ---- each weight is a number of 32 bits
 

@@ -65,17 +65,17 @@ weights_fault-memory document = first_fault-memory (weights_faults document) (si
 
 -- ---- the document of a text
 
-pub document-no_utf8 : (text : List ℕ) → ¬ IsUtf8 text → document_of text ≡ None
+pub document_no_utf8 : (text : List ℕ) → ¬ IsUtf8 text → document_of text ≡ None
 unfolding document_of
-document-no_utf8 text bad = rw (false_from_ne_true (is_utf8 text) (λ good. bad (IsUtf8-from_is_utf8 text good)))
+document_no_utf8 text bad = rw (false_from_ne_true (is_utf8 text) (λ good. bad (IsUtf8-from_is_utf8 text good)))
 
-pub document-utf8 : (text : List ℕ) → IsUtf8 text → document_of text ≡ parse_document text
+pub document_utf8 : (text : List ℕ) → IsUtf8 text → document_of text ≡ parse_document text
 unfolding document_of
-document-utf8 text good = rw (is_utf8-from_IsUtf8 text good)
+document_utf8 text good = rw (is_utf8-from_IsUtf8 text good)
 
-pub fault-no_document : weights_fault None ≡ Some NotToml
+pub fault_no_document : weights_fault None ≡ Some NotToml
 unfolding weights_fault
-fault-no_document = refl
+fault_no_document = refl
 
 -- what is answered of the document is the answer to its text
 pub answered : (text : List ℕ) (document : Members) (result : Result ListedWeights WeightsFault) → document_of text ≡ Some document

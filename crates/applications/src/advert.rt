@@ -66,6 +66,7 @@ impl Advert {
     }
 
     // The same, with the lane counts that the interface IDs imply, or as it stands.
+    #[tactic(auto, using(crate::proofs::CountedApps::counted_in_order))]
     fn with_counts(self, by_id: bool, media_type: u8) -> Advert
         ensures { result ≡ with_counts by_id media_type self }
     {
@@ -123,6 +124,7 @@ impl Advert {
 }
 
 // What the module of an image that is not refused advertises.
+#[tactic(auto, using(crate::proofs::Listed::apps_of_in_order))]
 fn advertised_by(image: &Image) -> Advert
     ensures { result ≡ advertised_by image.now }
 {

@@ -61,6 +61,7 @@ impl AppWeights {
     }
 
     /// None weighs more, since each is the sum of four weights of 32 bits at most.
+    #[tactic(auto, using(crate::proofs::LightWeights::path_light))]
     pub fn bound(&self) -> u64
         ensures value { result ≡ 17179869180 }
         ensures bound { (number host : ℕ) → weight_from self.now number host ≤ result }
@@ -119,6 +120,7 @@ fn weights_by_number(
 }
 
 // The Application of which an active path begins at each host lane.
+#[tactic(auto, using(std::proofs::lemmas::List::FromFn::fill_by_all))]
 fn active_apps(advert: &Advert) -> [u8; 8]
     ensures { result ≡ map (active_app advert.now) (range_with_len 1 8) }
 {

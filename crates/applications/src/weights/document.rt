@@ -40,6 +40,7 @@ pub fn read_document(document: &Table) -> Result<Weights, WeightsFault>
 }
 
 /// Those of one table, which may be absent.
+#[tactic(auto, using(crate::proofs::TableMembers::weights_of_none, crate::proofs::DocumentKeys::rise_none))]
 fn read_table(document: &Table, table: WeightTable) -> Result<[u32; 256], WeightsFault>
     ensures answer { let read = Some (table_view document.now) in
         AnswersWith (first_fault (faults_in table read)) (weights_of table (members_in table read)) result }

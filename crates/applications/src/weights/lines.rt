@@ -70,6 +70,7 @@ pub fn read_weight_lines(text: &[u8]) -> Result<[u32; 256], WeightLinesFault>
 
 impl Draft {
     // Takes the line of this number, which follows those so far.
+    #[tactic(auto, using(crate::proofs::SaidLines::same_said))]
     fn take(&mut self, line: &[u8], number: usize) -> Result<(), WeightLinesFault>
         ensures { (before : List Said) → Drafts before self.old →
             MatchResult result
