@@ -24,7 +24,7 @@ all_below : (key : String Global) (entries : List (String Global × Value)) → 
 all_below key [] below = tt
 all_below key (entry ∷ entries) below = (below.0, all_below key entries below.1)
 
-pub KeysRise-view : (entries : List (String Global × Value)) → IsStrictlySortedBy string_cmp (keys_of entries) → KeysRise (members_of (members_view entries))
+pub rise_view : (entries : List (String Global × Value)) → IsStrictlySortedBy string_cmp (keys_of entries) → KeysRise (members_of (members_view entries))
 unfolding IsStrictlySortedBy
-KeysRise-view [] rise = tt
-KeysRise-view (entry ∷ entries) rise = (all_below entry.0 entries rise.0, KeysRise-view entries rise.1)
+rise_view [] rise = tt
+rise_view (entry ∷ entries) rise = (all_below entry.0 entries rise.0, rise_view entries rise.1)

@@ -1,7 +1,8 @@
 -- Lines of weights: that each says one thing alone, and what a reader keeps of them.
-use Rattle.std.proofs.Common.{◌≡◌, ◌≢◌, ℕ, ◌+◌, Bool, true, false, List, [], ◌∷◌, ◌++◌, length, Some, None, arith, refl, sym, subst, ap, ◌∙◌, append_assoc, append-nil, length-append}
+use Rattle.std.proofs.Common.{◌≡◌, ◌≢◌, ℕ, ◌+◌, Bool, true, false, List, [], ◌∷◌, ◌++◌, length, None, arith, refl, sym, subst, ap, ◌∙◌, append_assoc, append-nil, length-append}
 use Rattle.std.proofs.lemmas.Fmt.{decimal_injective}
 use Rattle.std.proofs.lemmas.List.{get_or-replicate}
+use Rattle.std.proofs.lemmas.Option.{none-some}
 use Rattle.std.proofs.lemmas.List.FromFn.{fill_by_all}
 use Rattle.std.proofs.Math.ListN.{length-replicate, replicate}
 use Rattle.applications.specs.declared.weights.lines.Draft.{Draft}
@@ -26,18 +27,15 @@ nothing_no_host : [] ≢ host_line
 unfolding host_line
 nothing_no_host e = absurd cc
 
-no_some : (id : ℕ) → None ≢ Some id
-no_some id e = absurd cc
-
 pub same_said : (content : List ℕ) (a b : Said) → SaysIn content a → SaysIn content b → a ≡ b
 same_said content Nothing Nothing x y = refl
 same_said content Nothing Host x y = absurd (nothing_no_host (sym x ∙ y))
-same_said content Nothing (Weight id w) x y = absurd (no_some id (sym nothing_no_key ∙ ap (λ c. id_of_key (key_in c)) (sym x) ∙ y.0))
+same_said content Nothing (Weight id w) x y = absurd (none-some id (sym nothing_no_key ∙ ap (λ c. id_of_key (key_in c)) (sym x) ∙ y.0))
 same_said content Host Nothing x y = absurd (nothing_no_host (sym y ∙ x))
 same_said content Host Host x y = refl
-same_said content Host (Weight id w) x y = absurd (no_some id (sym host_no_key ∙ ap (λ c. id_of_key (key_in c)) (sym x) ∙ y.0))
-same_said content (Weight id w) Nothing x y = absurd (no_some id (sym nothing_no_key ∙ ap (λ c. id_of_key (key_in c)) (sym y) ∙ x.0))
-same_said content (Weight id w) Host x y = absurd (no_some id (sym host_no_key ∙ ap (λ c. id_of_key (key_in c)) (sym y) ∙ x.0))
+same_said content Host (Weight id w) x y = absurd (none-some id (sym host_no_key ∙ ap (λ c. id_of_key (key_in c)) (sym x) ∙ y.0))
+same_said content (Weight id w) Nothing x y = absurd (none-some id (sym nothing_no_key ∙ ap (λ c. id_of_key (key_in c)) (sym y) ∙ x.0))
+same_said content (Weight id w) Host x y = absurd (none-some id (sym host_no_key ∙ ap (λ c. id_of_key (key_in c)) (sym y) ∙ x.0))
 same_said content (Weight id w) (Weight id' w') x y =
     let same_id : id ≡ id' = let e = sym x.0 ∙ y.0 in cc in
     let same_weight : w ≡ w' = decimal_injective w w' (omega (arith, x.1)) (omega (arith, y.1)) (sym x.2 ∙ y.2) in

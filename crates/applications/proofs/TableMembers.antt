@@ -13,7 +13,6 @@ use Rattle.toml.specs.Data.{Data}
 use Rattle.toml.specs.Data as toml
 use Rattle.field_tables.specs.FirstFault.{first_fault}
 use Rattle.applications.specs.declared.weights.fault.WeightsFault.{WeightsFault}
-use Rattle.applications.specs.declared.weights.fault.WeightsFault.TheVariants.{BadKey, SameKeyTwice, BadWeight}
 use Rattle.applications.specs.Weights.{IsTableWeights}
 use Rattle.applications.specs.declared.weights.table.WeightTable.{WeightTable}
 use Rattle.applications.specs.WeightKeys.{named_by}
@@ -40,9 +39,6 @@ first_fault-append ((false, f) ∷ xs) ys = first_fault-append xs ys
 named_alone : (named : Option ℕ) (number : ℕ) → is_none named ≡ false → option_map_or (λ id. id == number) named false ≡ (unwrap_or named 0 == number)
 named_alone None number e = absurd (cc)
 named_alone (Some id) number e = refl
-
-is_of-number_of : (table : WeightTable) (member : Member) → is_none (named_by table member.0) ≡ false → is_of table (number_of table member) member ≡ true
-is_of-number_of table member e = named_alone (named_by table member.0) (number_of table member) e ∙ eq-eqb (number_of table member) (number_of table member) refl
 
 is_of-other : (table : WeightTable) (member : Member) (number : ℕ) → is_none (named_by table member.0) ≡ false → number ≢ number_of table member → is_of table number member ≡ false
 is_of-other table member number e other = named_alone (named_by table member.0) number e ∙ ne_eqb (number_of table member) number (λ same. other (sym same))
@@ -80,21 +76,13 @@ pub record Reads (table : WeightTable) (all rest : List Member) (weights : List 
   pub weights_room : length weights ≡ 256
   pub listed_room : length listed ≡ 256
 
--- the faults of the next member, by the list
-faults_by_list : (table : WeightTable) (all rest : List Member) (weights : List ℕ) (listed : List Bool) (reads : Reads table all rest weights listed) (member : Member) → number_of table member < 256
-    → member_faults table (is_listed table reads.before) member ≡ member_faults table (λ number. get_or listed number false) member
-faults_by_list table all rest weights listed reads member below =
-    ap (λ (b : Bool). (is_none (named_by table member.0), BadKey table) ∷ (b, SameKeyTwice table (number_of table member)) ∷ (is_none (weight_of_value member.1), BadWeight table (number_of table member)) ∷ [])
-    (sym (reads.list (number_of table member) below))
-
 -- the first fault is that of the next member, or of those after it
 next_fault : (table : WeightTable) (all rest : List Member) (weights : List ℕ) (listed : List Bool) (member : Member) (reads : Reads table all (member ∷ rest) weights listed) → number_of table member < 256
     → first_fault (faults_after table [] all)
     ≡ option_or (first_fault (member_faults table (λ number. get_or listed number false) member)) (first_fault (faults_after table (reads.before ++ member ∷ []) rest))
 next_fault table all rest weights listed member reads below =
-    let later = faults_after table (reads.before ++ member ∷ []) rest in
-    reads.fault_is ∙ first_fault-append (member_faults table (is_listed table reads.before) member) later
-    ∙ ap (λ (faults : List (Bool × WeightsFault)). option_or (first_fault faults) (first_fault later)) (faults_by_list table all (member ∷ rest) weights listed reads member below)
+    rw (reads.list (number_of table member) below)
+    (reads.fault_is ∙ first_fault-append (member_faults table (is_listed table reads.before) member) (faults_after table (reads.before ++ member ∷ []) rest))
 
 pub Reads-start : (table : WeightTable) (all : List Member) → Reads table all all (replicate 256 0) (replicate 256 false)
 unfolding weight_in
@@ -117,7 +105,7 @@ Reads-more table all rest weights listed member reads below none =
     let number = number_of table member in
     let parts = no_fault (is_none (named_by table member.0)) (get_or listed number false) (is_none (weight_of_value member.1)) _ _ _ none in
     let new : is_listed table before number ≡ false = sym (reads.list number below) ∙ parts.1 in
-    let here = is_of-number_of table member parts.0 in
+    let here : is_of table number member ≡ true = named_alone (named_by table member.0) number parts.0 ∙ eq-eqb number number refl in
     record {
       before = before ++ member ∷ [];
       all_are = reads.all_are ∙ sym (append_assoc before (member ∷ []) rest);
@@ -165,9 +153,9 @@ unfolding weight_in
 weight_in-below table members number =
     elim (find (is_of table number) members) as (λ (found : Option Member). option_map_or weight_of found 0 < 2 ^ 32) [ None ↦ omega arith | Some member ↦ below_word member.1 ]
 
-pub weights_of-are : (table : WeightTable) (members : List Member) → IsTableWeights (weights_of table members)
+pub weights_of_are : (table : WeightTable) (members : List Member) → IsTableWeights (weights_of table members)
 unfolding weights_of
-weights_of-are table members = (
+weights_of_are table members = (
   length-map-range_with_len (weight_in table members) 0 256,
   All-map (λ weight. weight < 2 ^ 32) (weight_in table members) (range_with_len 0 256) (λ k d within. weight_in-below table members (get_or (range_with_len 0 256) k d)),
 )

@@ -42,12 +42,9 @@ with_counts_by_id media_type advert = record advert { apps = map (counted media_
 abbrev pub with_counts : Bool → ℕ → Advertised → Advertised
 with_counts by_id media_type advert = if by_id then with_counts_by_id media_type advert else advert
 
--- the same with this Active Control Set
-abbrev pub with_active : ActiveSet → Advertised → Advertised
-with_active active advert = record advert { active = active }
-
 -- what the module advertises to a host that reads it by these conventions
 abbrev pub advertised_under : Conventions → Memory → Advertised
 advertised_under conventions memory =
-    with_active (if conventions.now then active_in memory else nothing_active)
-    (with_pairing conventions.paired (with_counts conventions.counts_by_id (number memory CMediaType) (advertised_by memory)))
+    record (with_pairing conventions.paired (with_counts conventions.counts_by_id (number memory CMediaType) (advertised_by memory))) {
+      active = if conventions.now then active_in memory else nothing_active;
+    }

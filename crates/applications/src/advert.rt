@@ -39,7 +39,7 @@ impl Model for Advert {
 
 impl Advert {
     ghost use Rattle.std.specs.Prelude.{◌≡◌, ◌≤◌, MatchOption, length};
-    ghost use Rattle.applications.specs.Advertised.{InOrder, advertised_under, with_active, with_counts, with_pairing};
+    ghost use Rattle.applications.specs.Advertised.{InOrder, advertised_under, with_counts, with_pairing};
     ghost use Rattle.applications.specs.Refusals.{advert_fault, advert_fault_under};
 
     /// What the module of an image advertises, with the lane counts that its descriptors say and no pairing.
@@ -61,8 +61,10 @@ impl Advert {
             return Err(fault);
         }
         let counted = advertised_by(image).with_counts(conventions.counts_by_id, media_type);
-        let advert = counted.with_pairing(conventions.paired);
-        Ok(advert.with_active(active_if(conventions.now, image)))
+        Ok(Advert {
+            active: active_if(conventions.now, image),
+            ..counted.with_pairing(conventions.paired)
+        })
     }
 
     // The same, with the lane counts that the interface IDs imply, or as it stands.
@@ -83,13 +85,6 @@ impl Advert {
         ensures { result ≡ with_pairing paired self }
     {
         Advert { paired, ..self }
-    }
-
-    // The same with this Active Control Set.
-    fn with_active(self, active: ActiveSet) -> Advert
-        ensures { result ≡ with_active active self }
-    {
-        Advert { active, ..self }
     }
 
     /// The Applications by rising number.

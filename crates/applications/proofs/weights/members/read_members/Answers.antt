@@ -2,7 +2,6 @@ use Rattle.std.proofs.Common.{string_bytes, ap}
 use Rattle.std.proofs.lemmas.Result.{err_from_is_err_and}
 use Rattle.toml.specs.View.{view, members_view, table_view}
 use Rattle.applications.specs.WeightTables.{Member, members_of}
-use Rattle.applications.proofs.DocumentKeys.{KeysRise-view}
 use Rattle.applications.proofs.TableMembers.{Reads-fault, Reads-start, Reads-more, Reads-weights}
 use Rattle.applications.proofs.weights.members.read_members.Goals as goal
 
@@ -22,12 +21,6 @@ pub returns-clause-answer : goal.returns-clause-answer
 returns-clause-answer c =
     let reads = rw c.in-None.ensures.steps.0 at c.loop-key.invariant in
     (reads.fault_is, Reads-weights c.args.table (members_of (table_view c.args.members.now)) _ _ reads)
-
-pub returns-in_err-number-clause-in_byte_order : goal.returns-in_err-number-clause-in_byte_order
-returns-in_err-number-clause-in_byte_order c = KeysRise-view c.args.members.now.entries c.into_iter-key-iterator.ensures.into_iter_gives.5
-
-pub returns-clause-in_byte_order : goal.returns-clause-in_byte_order
-returns-clause-in_byte_order c = KeysRise-view c.args.members.now.entries c.into_iter-key-iterator.ensures.into_iter_gives.5
 
 pub returns-in_err-number-clause-answer : goal.returns-in_err-number-clause-answer
 returns-in_err-number-clause-answer c =
