@@ -25,10 +25,7 @@ or_none (Some member) = refl
 
 -- where there is no fault, each test fails
 no_fault : (a b c : Bool) (f g h : WeightsFault) → first_fault ((a, f) ∷ (b, g) ∷ (c, h) ∷ []) ≡ None → (a ≡ false) × (b ≡ false) × (c ≡ false)
-no_fault false false false f g h e = (refl, refl, refl)
-no_fault false false true f g h e = absurd (cc)
-no_fault false true c f g h e = absurd (cc)
-no_fault true b c f g h e = absurd (cc)
+no_fault a b c f g h e = grind arith
 
 pub first_fault-append : (xs ys : List (Bool × WeightsFault)) → first_fault (xs ++ ys) ≡ option_or (first_fault xs) (first_fault ys)
 first_fault-append [] ys = refl

@@ -65,13 +65,19 @@ weights_fault-memory document = first_fault-memory (weights_faults document) (si
 
 -- ---- the document of a text
 
+pub no_text : (bytes : List ℕ) → ¬ IsUtf8 bytes → is_utf8 bytes ≡ false
+no_text bytes bad = false_from_ne_true (is_utf8 bytes) (λ good. bad (IsUtf8-from_is_utf8 bytes good))
+
+pub is_text : (bytes : List ℕ) → IsUtf8 bytes → is_utf8 bytes ≡ true
+is_text = is_utf8-from_IsUtf8
+
 pub document_no_utf8 : (text : List ℕ) → ¬ IsUtf8 text → document_of text ≡ None
 unfolding document_of
-document_no_utf8 text bad = rw (false_from_ne_true (is_utf8 text) (λ good. bad (IsUtf8-from_is_utf8 text good)))
+document_no_utf8 text bad = rw (no_text text bad)
 
 pub document_utf8 : (text : List ℕ) → IsUtf8 text → document_of text ≡ parse_document text
 unfolding document_of
-document_utf8 text good = rw (is_utf8-from_IsUtf8 text good)
+document_utf8 text good = rw (is_text text good)
 
 pub fault_no_document : weights_fault None ≡ Some NotToml
 unfolding weights_fault

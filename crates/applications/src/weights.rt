@@ -44,7 +44,7 @@ impl Weights {
     ghost use Rattle.applications.specs.declared.weights.table.WeightTable.{WeightTable};
 
     /// The weights that a TOML document lists in its tables, and that of staying.
-    #[tactic(auto, using(crate::proofs::WeightAnswers::answered, crate::proofs::WeightAnswers::document_no_utf8, crate::proofs::WeightAnswers::document_utf8, crate::proofs::WeightAnswers::fault_no_document))]
+    #[tactic(auto, using(crate::proofs::WeightAnswers::answered, crate::proofs::WeightAnswers::document_no_utf8, crate::proofs::WeightAnswers::document_utf8, crate::proofs::WeightAnswers::fault_no_document, crate::proofs::WeightAnswers::is_text))]
     pub fn read(alloc: Global, text: &[u8]) -> Result<Weights, WeightsFault>
         ensures answer { IsAnswer text.now result }
         ensures in_byte_order { IsTrue (judges_keys result) → (table : WeightTable) → KeysRise (members_in table (document_of text.now)) }

@@ -168,6 +168,7 @@ fn is_plain(line: &[u8]) -> bool
     is_text(line) && has_plain_bytes(line)
 }
 
+#[tactic(auto, using(crate::proofs::WeightAnswers::is_text, crate::proofs::WeightAnswers::no_text))]
 fn is_text(line: &[u8]) -> bool
     ensures { result ≡ is_utf8 line.now }
 {
