@@ -1,16 +1,12 @@
 -- No path weighs more than four weights of 32 bits.
-use Rattle.std.proofs.Common.{ℕ, ◌*◌, ◌-◌, ◌≤◌, ◌==◌, ◌&&◌, nat_lt, List, get_or, length, slice_index, arith, inl, inr}
+use Rattle.std.proofs.Common.{ℕ, ◌*◌, ◌-◌, ◌≤◌, ◌==◌, ◌&&◌, nat_lt, List, get_or, slice_index, arith}
 use Rattle.std.specs.List.{All}
-use Rattle.std.proofs.lemmas.Bool.{cases_lt, cond_both}
+use Rattle.std.proofs.lemmas.Bool.{cond_both}
 use Rattle.std.proofs.lemmas.List.{get_or_past}
 use Rattle.applications.specs.AppWeights.{ArePathWeights, PathWeights, stay_at, weight_from}
 
 app_light : (weights : List ℕ) → All (λ weight. weight ≤ 3 * 4294967295) weights → (number : ℕ) → get_or weights number 0 ≤ 3 * 4294967295
-app_light weights light number =
-    elim (cases_lt number (length weights)) [
-      | inl within ↦ light number 0 within
-      | inr past ↦ omega (arith, get_or_past weights number 0 past)
-    ]
+app_light weights light number = grind (arith, light number 0, get_or_past)
 
 pub stay_light : (weights : PathWeights) → ArePathWeights weights → (number host : ℕ) → stay_at weights number host ≤ 4294967295
 stay_light weights are number host =

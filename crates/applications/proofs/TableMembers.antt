@@ -81,9 +81,9 @@ next_fault table all rest weights listed member reads below =
     rw (reads.list (number_of table member) below)
     (reads.fault_is ∙ first_fault-append (member_faults table (is_listed table reads.before) member) (faults_after table (reads.before ++ member ∷ []) rest))
 
-pub Reads-start : (table : WeightTable) (all : List Member) → Reads table all all (replicate 256 0) (replicate 256 false)
+pub reads_start : (table : WeightTable) (all : List Member) → Reads table all all (replicate 256 0) (replicate 256 false)
 unfolding weight_in
-Reads-start table all = record {
+reads_start table all = record {
   before = [];
   all_are = refl;
   fault_is = refl;
@@ -94,10 +94,10 @@ Reads-start table all = record {
 }
 
 -- a member that is read
-pub Reads-more : (table : WeightTable) (all rest : List Member) (weights : List ℕ) (listed : List Bool) (member : Member) → Reads table all (member ∷ rest) weights listed → number_of table member < 256
+pub reads_more : (table : WeightTable) (all rest : List Member) (weights : List ℕ) (listed : List Bool) (member : Member) → Reads table all (member ∷ rest) weights listed → number_of table member < 256
     → first_fault (member_faults table (λ number. get_or listed number false) member) ≡ None
     → Reads table all rest (set weights (number_of table member) (weight_of member)) (set listed (number_of table member) true)
-Reads-more table all rest weights listed member reads below none =
+reads_more table all rest weights listed member reads below none =
     let before = reads.before in
     let number = number_of table member in
     let parts = no_fault (is_none (named_by table member.0)) (get_or listed number false) (is_none (weight_of_value member.1)) _ _ _ none in
@@ -125,19 +125,19 @@ Reads-more table all rest weights listed member reads below none =
     }
 
 -- a member that has a fault
-pub Reads-fault : (table : WeightTable) (all rest : List Member) (weights : List ℕ) (listed : List Bool) (member : Member) (fault : WeightsFault) → Reads table all (member ∷ rest) weights listed → number_of table member < 256
+pub reads_fault : (table : WeightTable) (all rest : List Member) (weights : List ℕ) (listed : List Bool) (member : Member) (fault : WeightsFault) → Reads table all (member ∷ rest) weights listed → number_of table member < 256
     → first_fault (member_faults table (λ number. get_or listed number false) member) ≡ Some fault → first_fault (faults_after table [] all) ≡ Some fault
-Reads-fault table all rest weights listed member fault reads below some = next_fault table all rest weights listed member reads below ∙ rw some refl
+reads_fault table all rest weights listed member fault reads below some = next_fault table all rest weights listed member reads below ∙ rw some refl
 
 -- all members are read
-pub Reads-weights : (table : WeightTable) (all : List Member) (weights : List ℕ) (listed : List Bool) → Reads table all [] weights listed → weights ≡ weights_of table all
+pub reads_weights : (table : WeightTable) (all : List Member) (weights : List ℕ) (listed : List Bool) → Reads table all [] weights listed → weights ≡ weights_of table all
 unfolding weights_of
-Reads-weights table all weights listed reads =
+reads_weights table all weights listed reads =
     let whole : reads.before ≡ all = sym (reads.all_are ∙ append-nil reads.before) in
     fill_by_all (weight_in table reads.before) weights 256 0 reads.weights_room reads.weigh ∙ ap (weights_of table) whole
 
 pub weights_of_none : (table : WeightTable) → replicate 256 0 ≡ weights_of table []
-weights_of_none table = Reads-weights table [] (replicate 256 0) (replicate 256 false) (Reads-start table [])
+weights_of_none table = reads_weights table [] (replicate 256 0) (replicate 256 false) (reads_start table [])
 
 -- ---- each weight is a number of 32 bits
 

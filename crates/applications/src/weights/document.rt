@@ -61,6 +61,7 @@ fn table_in(document: &Table, table: WeightTable) -> Option<&Table>
     }
 }
 
+#[tactic(auto, using(toml::proofs::Views::table_get))]
 fn value_at<'a>(document: &'a Table, key: &str) -> Option<&'a Value>
     ensures { option_map (λ value. view value.now) result ≡ get_member key.now (table_view document.now) }
 {

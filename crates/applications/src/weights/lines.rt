@@ -44,6 +44,7 @@ struct Draft {
 }
 
 /// The weights by HostInterfaceID that lines list after a line `[host]`. Such lines are a TOML document with the same weights.
+#[tactic(auto, using(crate::proofs::SaidLines::read_fault))]
 pub fn read_weight_lines(text: &[u8]) -> Result<[u32; 256], WeightLinesFault>
     ensures { IsAnswer (lines_of text.now) result }
 {

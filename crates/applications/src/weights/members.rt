@@ -10,7 +10,7 @@ use super::table::WeightTable;
 use toml::{Table, Value};
 
 /// The weights that the members of a table list, by what their keys name.
-#[tactic(auto, using(crate::proofs::DocumentKeys::rise_view))]
+#[tactic(auto, using(crate::proofs::DocumentKeys::rise_view, crate::proofs::TableMembers::reads_fault))]
 pub fn read_members(table: WeightTable, members: &Table) -> Result<[u32; 256], WeightsFault>
     ensures answer { let read = members_of (table_view members.now) in
         AnswersWith (first_fault (faults_after table [] read)) (weights_of table read) result }

@@ -1,6 +1,6 @@
 use Rattle.std.proofs.Common.{◌≡◌, [], refl, arith, rules}
 use Rattle.text_lines.specs.Lines.{lines_of}
-use Rattle.applications.proofs.SaidLines.{read_all, read_fault, read_more, read_none}
+use Rattle.applications.proofs.SaidLines.{read_all, read_more, read_none}
 use Rattle.applications.proofs.weights.lines.read_weight_lines.Goals as goal
 
 pub loop-line-init : goal.loop-line-init
@@ -15,12 +15,6 @@ loop-line-preserved c =
       read = read_more (lines_of c.args.text.now) (lines_of c.in-Some.after.now) c.in-Some.line.now l.draft c.take.new.self l.number read more.0 more.1 more.2 more.3;
       bounded = omega (arith, l.invariant.bounded, c.in-Some.ensures.shorter);
     }
-
-pub returns-in-Err : goal.returns-in-Err
-returns-in-Err c =
-    let l = c.loop-line in
-    let read = rw c.in-Some.ensures.lines at l.invariant.read in
-    read_fault (lines_of c.args.text.now) (lines_of c.in-Some.after.now) c.in-Some.line.now l.draft l.number c.in-Err.fault read (c.in-Err.ensures read.said read.drafts)
 
 pub returns : goal.returns
 returns c =

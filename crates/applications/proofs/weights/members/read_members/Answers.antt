@@ -1,12 +1,11 @@
 use Rattle.std.proofs.Common.{string_bytes, ap}
-use Rattle.std.proofs.lemmas.Result.{err_from_is_err_and}
 use Rattle.toml.specs.View.{view, members_view, table_view}
 use Rattle.applications.specs.WeightTables.{Member, members_of}
-use Rattle.applications.proofs.TableMembers.{Reads-fault, Reads-start, Reads-more, Reads-weights}
+use Rattle.applications.proofs.TableMembers.{reads_start, reads_more, reads_weights}
 use Rattle.applications.proofs.weights.members.read_members.Goals as goal
 
 pub loop-key-init : goal.loop-key-init
-loop-key-init c = rw c.into_iter-key-iterator.ensures.into_iter_gives.0 (Reads-start c.args.table (members_of (table_view c.args.members.now)))
+loop-key-init c = rw c.into_iter-key-iterator.ensures.into_iter_gives.0 (reads_start c.args.table (members_of (table_view c.args.members.now)))
 
 pub loop-key-preserved : goal.loop-key-preserved
 loop-key-preserved c =
@@ -15,19 +14,9 @@ loop-key-preserved c =
     let reads = rw c.in-Some.ensures.steps at c.loop-key.invariant in
     let said = rw c.as_bytes.ensures.value at c.in_ok-number.ensures.answer in
     let byte = rw c.as_bytes.ensures.value at c.in_ok-number.ensures.byte in
-    rw (c.from.ensures, c.from-in-loop-key.ensures, ap (λ p. p.0) said.1, ap (λ p. p.1) said.1) (Reads-more c.args.table all (members_of (members_view c.next.new.self)) _ _ member reads byte said.0)
+    rw (c.from.ensures, c.from-in-loop-key.ensures, ap (λ p. p.0) said.1, ap (λ p. p.1) said.1) (reads_more c.args.table all (members_of (members_view c.next.new.self)) _ _ member reads byte said.0)
 
 pub returns-clause-answer : goal.returns-clause-answer
 returns-clause-answer c =
     let reads = rw c.in-None.ensures.steps.0 at c.loop-key.invariant in
-    (reads.fault_is, Reads-weights c.args.table (members_of (table_view c.args.members.now)) _ _ reads)
-
-pub returns-in_err-number-clause-answer : goal.returns-in_err-number-clause-answer
-returns-in_err-number-clause-answer c =
-    let all = members_of (table_view c.args.members.now) in
-    let member : Member = (string_bytes c.in-Some.key.now, view c.in-Some.value.now) in
-    let reads = rw c.in-Some.ensures.steps at c.loop-key.invariant in
-    let found = rw c.as_bytes.ensures.value at c.in_err-number.ensures.answer in
-    let byte = rw c.as_bytes.ensures.value at c.in_err-number.ensures.byte in
-    let p = err_from_is_err_and c.from_residual.result c.from_residual.ensures.1 in
-    rw (p.1, p.2) (Reads-fault c.args.table all (members_of (members_view c.next.new.self)) _ _ member c.in_err-number.field-0.0 reads byte found)
+    (reads.fault_is, reads_weights c.args.table (members_of (table_view c.args.members.now)) _ _ reads)
