@@ -1,7 +1,9 @@
 -- What `check` answers where the third part is the certificate that `plan` wrote.
-use Rattle.std.proofs.Common.{◌≡◌, ◌≢◌, ℕ, ◌≤◌, Bool, true, false, List, [], ◌∷◌, ◌++◌, length, get_or, map, codes, Option, None, Some, Ok, Err, refl, sym, ap, subst, ◌∙◌, arith}
+use Rattle.std.proofs.Common.{◌≡◌, ◌≢◌, ℕ, ◌≤◌, Bool, true, false, List, [], ◌∷◌, ◌++◌, length, get_or, map, codes, Option, None, Some, Ok, Err, refl, sym, ap, ap₂, subst, ◌∙◌, arith}
 use Rattle.std.specs.List.{All, before_first}
+use Rattle.std.proofs.lemmas.List.{length-append}
 use Rattle.std.proofs.lemmas.List.Elements.{All-cons, All-nil}
+use Rattle.std.proofs.lemmas.Option.{MatchOption-at_none}
 use Rattle.text_lines.specs.Lines.{is_lf, ended_lines, lines_of}
 use Rattle.paged_memory.specs.Images.{Memory}
 use Rattle.paged_memory.specs.ImageText.{IsTextOf as IsImageText}
@@ -39,6 +41,7 @@ use Rattle.command_line.specs.Runs.{Answer}
 use Rattle.command_line.specs.declared.choice.commands.CommandName.TheVariants.{Check, Plan}
 use Rattle.command_line.specs.declared.choice.options.Options.{Options}
 use Rattle.command_line.specs.declared.fault.Fault.TheVariants as fault
+use Rattle.command_line.proofs.OwnAnswers.{judged, not_cut}
 use Rattle.command_line.proofs.TextBehind.{is_one_part, is_plain, parts_behind}
 
 -- ---- no line of a certificate's text is a separator
@@ -178,9 +181,7 @@ module _ (conventions : Conventions) (inputs : Inputs) (text : List ℕ) (planne
         let same_advert = the_advert Good is.judged in
         let weights = the_path_weights Good is.judged in
         let same_certificate = the_certificate Good is.judged in
-        let said = says_so options.first is.told.is_first (subst (λ (c : Claim). SaysFirst options.first advert path_weights c is.told.is_first) same_certificate
-        (subst (λ (w : PathWeights). SaysFirst options.first advert w is.judged.certificate is.told.is_first) weights
-        (subst (λ (a : Advertised). SaysFirst options.first a (app_weights is.judged.advert is.judged.weights) is.judged.certificate is.told.is_first) same_advert is.told.says_first))) in
+        let said = says_so options.first is.told.is_first (rw (weights, same_certificate, same_advert) at is.told.says_first) in
         is.told.told ∙ (λ i. good_output options.json (said i) (same_advert i) (weights i) (same_certificate i))
 
     alone : (answer : Answer) → IsCheckAnswer ours checked answer → answer ≡ Ok (good_text options planned, None)
@@ -210,46 +211,38 @@ module _ (conventions : Conventions) (inputs : Inputs) (text : List ℕ) (planne
 
     alone_to : (options : Options) (answer : Answer) → IsAnswerOf (check_request conventions options) input answer → answer ≢ Err fault.Memory → answer ≢ Err fault.Io
         → answer ≡ Ok (good_text options planned, None)
-    alone_to options (Ok told) is memory read = alone options (Ok told) (subst (λ l. IsCheckTo (ours options) l (Ok told)) cut is.2)
-    alone_to options (Err fault.Memory) is memory read = absurd (memory refl)
-    alone_to options (Err fault.Io) is memory read = absurd (read refl)
-    alone_to options (Err fault.TooLong) is memory read = absurd (omega arith)
-    alone_to options (Err (fault.Parts number)) is memory read = absurd (is.2 (is.1 ∙ counted))
-    alone_to options (Err f) is memory read = alone options (Err f) (subst (λ l. IsCheckTo (ours options) l (Err f)) cut is.2)
+    alone_to options answer is memory read =
+        let told = judged (parts_read Check options.keep) (IsCheckAnswer (ours options)) input answer is memory read in
+        let mine = MatchOption-at_none _ _ (not_cut (parts_read Check options.keep) input within counted) told in
+        alone options answer (subst (λ l. IsCheckTo (ours options) l answer) cut mine)
 
     called_good : IsCalledGood planned input
     called_good = record { good = good_to; alone = alone_to }
 
 -- ---- the two commands
 
-record Planned (conventions : Conventions) (input text : List ℕ) : Type 0 where
-  image : List ℕ
-  weights : List ℕ
-  parts : parts_of input ≡ image ∷ weights ∷ []
-  planned : IsPlanned false conventions (plan_inputs image weights []) text
+abbrev part_in : List ℕ → ℕ → List ℕ
+part_in input number = get_or (parts_of input) number []
 
-planned_from : (options : Options) (input text : List ℕ) (parts : List (List ℕ)) → parts_of input ≡ parts → length parts ≡ 2 → IsPlanTo false options parts (Ok (text, None))
-    → Planned options.conventions input text
-planned_from options input text [] cut two is = absurd (omega (arith, two))
-planned_from options input text (image ∷ []) cut two is = absurd (omega (arith, two))
-planned_from options input text (image ∷ listed ∷ []) cut two is = record { image = image; weights = listed; parts = cut; planned = is }
-planned_from options input text (image ∷ listed ∷ more ∷ rest) cut two is = absurd (omega (arith, two))
+one_part : (parts : List (List ℕ)) → length parts ≡ 1 → parts ≡ get_or parts 0 [] ∷ []
+one_part (part ∷ []) one = refl
+one_part parts one = absurd (omega arith)
 
-pub good_behind_input : (options : Options) (input text : List ℕ) → IsEnded input → IsAnswerOf (plan_request false options) input (Ok (text, None))
-    → length (input_with input text) ≤ input_limit → IsGoodBehindInput options.conventions input text
-good_behind_input options input text (before, ends) is within =
-    let from = planned_from options input text (parts_of input) refl is.1 is.2 in
-    let cut : parts_of (input_with input text) ≡ from.image ∷ from.weights ∷ text ∷ [] =
-    rw ends (parts_behind before text)
-    ∙ ap (λ l. l ++ parts_of text) (ap parts_of (sym ends) ∙ from.parts)
-    ∙ ap (λ l. from.image ∷ from.weights ∷ l) (certificate_is_one_part text from.planned.told.certificate from.planned.told.read_back) in
-    record {
-      image = from.image;
-      weights = from.weights;
-      planned = from.planned;
-      parts = cut;
-      good = called_good options.conventions (plan_inputs from.image from.weights []) text from.planned (input_with input text) cut within;
-    }
+two_parts : (parts : List (List ℕ)) → length parts ≡ 2 → parts ≡ get_or parts 0 [] ∷ get_or parts 1 [] ∷ []
+two_parts (first ∷ second ∷ []) two = refl
+two_parts parts two = absurd (omega arith)
+
+parts_with : (input text : List ℕ) → IsEnded input → parts_of (input_with input text) ≡ parts_of input ++ parts_of text
+parts_with input text (before, ends) = rw ends (parts_behind before text)
+
+-- an input of two parts, and one part after it
+third_part : (input text : List ℕ) → IsEnded input → length (parts_of input) ≡ 2 → (part : List ℕ) → parts_of text ≡ part ∷ []
+    → parts_of (input_with input text) ≡ part_in input 0 ∷ part_in input 1 ∷ part ∷ []
+third_part input text ended two part one = parts_with input text ended ∙ ap₂ (λ (own more : List (List ℕ)). own ++ more) (two_parts (parts_of input) two) one
+
+certificate_behind : (input text : List ℕ) → IsEnded input → length (parts_of input) ≡ 2 → (certificate : Claim) → IsTextOf most_states (lines_of text) certificate
+    → parts_of (input_with input text) ≡ part_in input 0 ∷ part_in input 1 ∷ text ∷ []
+certificate_behind input text ended two certificate is = third_part input text ended two text (certificate_is_one_part text certificate is)
 
 pub good_behind : (options : Options) (image listed kept text input : List ℕ) → parts_of input ≡ image ∷ listed ∷ kept ∷ []
     → IsAnswerOf (plan_request true options) input (Ok (text, None)) → IsGoodBehind options.conventions image listed kept text
@@ -257,46 +250,38 @@ good_behind options image listed kept text input cut is =
     let planned : IsPlanned false options.conventions (plan_inputs image listed kept) text = subst (λ l. IsPlanTo true options l (Ok (text, None))) cut is.2 in
     record { planned = planned; good = λ other within parts. called_good options.conventions (plan_inputs image listed kept) text planned other parts within }
 
--- ---- kept paths, and the certificate in their place
+pub good_behind_input : (options : Options) (input text : List ℕ) → IsEnded input → IsAnswerOf (plan_request false options) input (Ok (text, None))
+    → length (input_with input text) ≤ input_limit → IsGoodBehindInput options.conventions input text
+good_behind_input options input text ended is within =
+    let inputs : Inputs = plan_inputs (part_in input 0) (part_in input 1) [] in
+    let planned : IsPlanned false options.conventions inputs text =
+    subst (λ l. IsPlanTo false options l (Ok (text, None))) (two_parts (parts_of input) is.1) is.2 in
+    let cut = certificate_behind input text ended is.1 planned.told.certificate planned.told.read_back in
+    record {
+      image = part_in input 0;
+      weights = part_in input 1;
+      planned = planned;
+      parts = cut;
+      good = called_good options.conventions inputs text planned (input_with input text) cut within;
+    }
 
-record Kept (conventions : Conventions) (input kept text : List ℕ) : Type 0 where
-  image : List ℕ
-  weights : List ℕ
-  kept_text : List ℕ
-  own : parts_of input ≡ image ∷ weights ∷ []
-  last : parts_of kept ≡ kept_text ∷ []
-  planned : IsPlanned false conventions (plan_inputs image weights kept_text) text
-
-kept_from : (options : Options) (input kept text : List ℕ) (own last : List (List ℕ)) → parts_of input ≡ own → parts_of kept ≡ last → length own ≡ 2 → length (own ++ last) ≡ 3
-    → IsPlanTo true options (own ++ last) (Ok (text, None)) → Kept options.conventions input kept text
-kept_from options input kept text [] last cut behind two three is = absurd (omega (arith, two))
-kept_from options input kept text (image ∷ []) last cut behind two three is = absurd (omega (arith, two))
-kept_from options input kept text (image ∷ listed ∷ []) [] cut behind two three is = absurd (omega (arith, three))
-kept_from options input kept text (image ∷ listed ∷ []) (own ∷ []) cut behind two three is =
-    record { image = image; weights = listed; kept_text = own; own = cut; last = behind; planned = is }
-kept_from options input kept text (image ∷ listed ∷ []) (own ∷ more ∷ rest) cut behind two three is = absurd (omega (arith, three))
-kept_from options input kept text (image ∷ listed ∷ more ∷ rest) last cut behind two three is = absurd (omega (arith, two))
-
-parts_with : (input text : List ℕ) → IsEnded input → parts_of (input_with input text) ≡ parts_of input ++ parts_of text
-parts_with input text (before, ends) = rw ends (parts_behind before text)
-
+-- kept paths, and the certificate in their place
 pub good_in_place : (options : Options) (input kept text : List ℕ) → IsEnded input → length (parts_of input) ≡ 2
     → IsAnswerOf (plan_request true options) (input_with input kept) (Ok (text, None))
     → length (input_with input text) ≤ input_limit → IsGoodInPlace options.conventions input kept text
 good_in_place options input kept text ended two is within =
-    let three = ap (λ (l : List (List ℕ)). length l) (sym (parts_with input kept ended)) ∙ is.1 in
-    let from = kept_from options input kept text (parts_of input) (parts_of kept) refl refl two three
-    (subst (λ l. IsPlanTo true options l (Ok (text, None))) (parts_with input kept ended) is.2) in
-    let cut : parts_of (input_with input text) ≡ from.image ∷ from.weights ∷ text ∷ [] =
-    parts_with input text ended
-    ∙ ap (λ l. l ++ parts_of text) from.own
-    ∙ ap (λ l. from.image ∷ from.weights ∷ l) (certificate_is_one_part text from.planned.told.certificate from.planned.told.read_back) in
+    let three : length (parts_of (input_with input kept)) ≡ 3 = is.1 in
+    let counted = ap (λ (l : List (List ℕ)). length l) (parts_with input kept ended) in
+    let own = one_part (parts_of kept) (omega (arith, three, counted, length-append (parts_of input) (parts_of kept))) in
+    let kept_behind = third_part input kept ended two (part_in kept 0) own in
+    let behind = good_behind options (part_in input 0) (part_in input 1) (part_in kept 0) text (input_with input kept) kept_behind is in
+    let cut = certificate_behind input text ended two behind.planned.told.certificate behind.planned.told.read_back in
     record {
-      image = from.image;
-      weights = from.weights;
-      kept_text = from.kept_text;
-      planned = from.planned;
-      parts_planned = parts_with input kept ended ∙ ap (λ l. l ++ parts_of kept) from.own ∙ ap (λ l. from.image ∷ from.weights ∷ l) from.last;
+      image = part_in input 0;
+      weights = part_in input 1;
+      kept_text = part_in kept 0;
+      planned = behind.planned;
+      parts_planned = kept_behind;
       parts = cut;
-      good = called_good options.conventions (plan_inputs from.image from.weights from.kept_text) text from.planned (input_with input text) cut within;
+      good = behind.good (input_with input text) within cut;
     }

@@ -1,7 +1,6 @@
 -- What is answered to words that `clap` takes: what they ask for, or that a word of a flag is wrong.
 use Rattle.std.proofs.Common.{◌≡◌, ◌∙◌, ◌+◌, ◌<◌, ℕ, suc, arith, length, drop, drop-cons, get_or, subst, Bor, true, List, [], ◌∷◌, Option, Some, None, IfSome, Result, Ok, Err, IfOk, IfErr, is_some, map, ap, sym, refl, inl, inr}
 use Rattle.std.specs.Prelude.{MatchOption}
-use Rattle.std.specs.Result.{result_ok}
 use Rattle.clap.specs.Words.{Text}
 use Rattle.module_metrics.specs.CommonLabels.{Adds, IsAdded, label_fault}
 use Rattle.module_metrics.specs.Exposition.{Label}
@@ -70,15 +69,6 @@ module _ (old new : List Label) (words : List (Bor Text)) (i : ℕ) (d : Bor Tex
       (label_refused old new (get_or words i d).now (map (λ word. word.now) (drop (i + 1) words)) r fault same adds)
 
 -- ---- what words ask for
-
-pub given_alone : (asked : Option (Result Request WordFault)) (told : Result Request WordFault) (r : Result Request ChoiceFault) (o : Option Request)
-    → asked ≡ Some told → Gives told r → o ≡ result_ok r → IfSome o (λ request. asked ≡ Some (Ok request))
-given_alone asked told (Ok request) o is gives same = rw same (is ∙ ap Some gives)
-given_alone asked told (Err e) o is gives same = rw same tt
-
-pub if_any : {T : Type 0} (o : Option T) (P : Type 0) → P → IfSome o (λ _. P)
-if_any None P p = tt
-if_any (Some x) P p = p
 
 pub if_ok : {T E : Type 0} (r : Result T E) (P : Type 0) → P → IfOk r (λ _. P)
 if_ok (Ok x) P p = p

@@ -1,6 +1,7 @@
 -- What a command answers to the texts of its parts is among its answers to the input.
-use Rattle.std.proofs.Common.{refl, not, ◌||◌, ◌≡◌, ℕ, ◌≤◌, Bool, List, length, Option, Some, None, IfSome, Ok, Err, arith}
-use Rattle.std.proofs.lemmas.List.Filters.{length-filter_both}
+use Rattle.std.proofs.Common.{refl, ap, ◌≡◌, ◌≢◌, ◌∙◌, ℕ, ◌≤◌, Bool, true, if◌then◌else◌, eqb, ltb, List, length, Option, Some, None, IfSome, Ok, Err, arith}
+use Rattle.std.specs.Prelude.{MatchOption}
+use Rattle.std.proofs.lemmas.Bool.{eq-eqb, le-ltb, lt-ltb, ne_eqb}
 use Rattle.applications.specs.WeightFaults.{IsAnswer}
 use Rattle.applications.specs.declared.weights.fault.WeightsFault.{WeightsFault}
 use Rattle.applications.specs.declared.weights.fault.WeightsFault.TheVariants as weights
@@ -8,14 +9,13 @@ use Rattle.command_line.specs.CheckCommand.{IsCheckAnswer}
 use Rattle.command_line.specs.Faults.{fault_of_weights}
 use Rattle.command_line.specs.Limits.{input_limit}
 use Rattle.command_line.specs.Parts.{most_parts, parts_of}
-use Rattle.command_line.specs.Inputs.{Inputs, inputs_in, is_part, parts_of_command, parts_read}
+use Rattle.command_line.specs.Inputs.{Inputs, inputs_in, parts_read}
 use Rattle.command_line.specs.PlanningInputs.{Advertises}
 use Rattle.command_line.specs.Runs.{Answer, IsAnswerTo, IsOwnAnswer}
 use Rattle.command_line.specs.declared.choice.commands.CommandName.{CommandName}
-use Rattle.command_line.specs.declared.choice.commands.CommandName.TheVariants.{Report, Observables, Metrics, Plan, Draw, Check, Provision, Trace}
+use Rattle.command_line.specs.declared.choice.commands.CommandName.TheVariants.{Draw, Plan, Provision, Trace}
 use Rattle.command_line.specs.declared.choice.options.Options.{Options}
 use Rattle.command_line.specs.declared.choice.part.Part.{Part}
-use Rattle.command_line.specs.declared.choice.part.Part.TheVariants.{Kept}
 use Rattle.command_line.specs.declared.fault.Fault.{Fault}
 use Rattle.command_line.specs.declared.fault.Fault.TheVariants as fault
 
@@ -28,6 +28,25 @@ own_answer parts IsMine input (Err fault.TooLong) within is own = absurd own
 own_answer parts IsMine input (Err (fault.Parts n)) within is own = absurd own
 own_answer parts IsMine input (Err f) within is own = (within, is, own)
 
+-- why an input is refused before a command that reads these parts answers it
+abbrev pub cut_fault : List Part → List ℕ → Option Fault
+cut_fault parts input = if ltb input_limit (length input) then Some fault.TooLong
+    else if eqb (length (parts_of input)) (length parts) then None
+    else Some (fault.Parts (length (parts_of input)))
+
+pub not_cut : (parts : List Part) (input : List ℕ) → length input ≤ input_limit → length (parts_of input) ≡ length parts → cut_fault parts input ≡ None
+not_cut parts input within counted = rw (le-ltb _ _ within, eq-eqb _ _ counted) refl
+
+-- an answer is that refusal or the command's own, if no allocation and no read was refused
+pub judged : (parts : List Part) (IsMine : Inputs → Answer → Type 0) (input : List ℕ) (a : Answer) → IsAnswerTo parts IsMine input a → a ≢ Err fault.Memory → a ≢ Err fault.Io
+    → MatchOption (cut_fault parts input) (IsMine (inputs_in parts (parts_of input)) a) (λ f. a ≡ Err f)
+judged parts IsMine input (Err fault.Memory) is memory read = absurd (memory refl)
+judged parts IsMine input (Err fault.Io) is memory read = absurd (read refl)
+judged parts IsMine input (Err fault.TooLong) is memory read = rw (lt-ltb _ _ is) refl
+judged parts IsMine input (Err (fault.Parts n)) is memory read =
+    rw (le-ltb _ _ is.0, ne_eqb _ _ (λ same. is.2 (is.1 ∙ same))) (ap (λ (m : ℕ). Err (fault.Parts m)) is.1)
+judged parts IsMine input a is memory read = rw (not_cut parts input is.0 is.1) is.2
+
 -- a refusal of what a command reads is its own, since cutting the input is none
 pub own_refusal : (Refuses : Fault → Type 0) (IsMine : Answer → Type 0) → ¬ (Refuses fault.Io) → ¬ (Refuses fault.TooLong) → ((n : ℕ) → ¬ (Refuses (fault.Parts n)))
     → ((f : Fault) → Refuses f → IsMine (Err f)) → (f : Fault) → Refuses f → IsOwnAnswer IsMine (Err f)
@@ -38,20 +57,12 @@ own_refusal Refuses IsMine io long parts mine (fault.Parts n) is = absurd (parts
 own_refusal Refuses IsMine io long parts mine f is = mine f is
 
 -- no command reads more parts than are cut
-few_of_command : (command : CommandName) → length (parts_of_command command) ≤ most_parts
-few_of_command (Report report) = omega arith
-few_of_command Observables = omega arith
-few_of_command Metrics = omega arith
-few_of_command Plan = omega arith
-few_of_command Draw = omega arith
-few_of_command Check = omega arith
-few_of_command Provision = omega arith
-few_of_command Trace = omega arith
-
 pub few_parts : (command : CommandName) (keep : Bool) → length (parts_read command keep) ≤ most_parts
-few_parts command keep =
-    let read : Part → Bool = λ part. not (is_part part Kept) || keep in
-    omega (arith, length-filter_both read (λ part. not (read part)) (λ part. refl) (parts_of_command command), few_of_command command)
+few_parts Plan true = omega arith
+few_parts Draw true = omega arith
+few_parts Provision true = omega arith
+few_parts Trace true = omega arith
+few_parts command keep = omega arith
 
 -- what follows of the input holds of it, where it is known
 pub if_known : {T : Type 0} (o : Option T) (P Q : T → Type 0) → ((x : T) → P x → Q x) → IfSome o P → IfSome o Q

@@ -10,9 +10,6 @@ use Rattle.std.proofs.Math.Seq.{take-add}
 use Rattle.text_lines.specs.Lines.{is_lf, ended_lines}
 use Rattle.command_line.specs.Parts.{is_separator_line, parts_of}
 
-abbrev IsPlain : List ℕ → Type 0
-IsPlain line = is_separator_line line ≡ false
-
 -- so many bytes of the text are lines that are no separators, and the rest is behind them
 pub record Passed (text rest : List ℕ) (len : ℕ) : Type 0 where
   pub front : List (List ℕ)

@@ -1,6 +1,5 @@
 -- Metrics of what is read over a bus are those of the image, but for VDM.
 use Rattle.std.proofs.Common.{◌≡◌, ◌≢◌, ◌∙◌, ℕ, Bool, true, false, List, [], ◌∷◌, ◌++◌, append-nil, Option, Some, None, Ok, Err, refl, sym, ap, ap₂, inl, inr}
-use Rattle.std.proofs.lemmas.Bool.{false≢true}
 use Rattle.std.proofs.lemmas.Grind.{flat_map-append}
 use Rattle.std.specs.Prelude.{option_map}
 use Rattle.std.specs.Option.{option_or}
@@ -18,10 +17,9 @@ use Rattle.reports.specs.declared.fault.ReportFault.{ReportFault}
 use Rattle.command_line.specs.Faults.{fault_of_told}
 use Rattle.command_line.specs.MetricsCommand.{IsMetricsAnswer}
 use Rattle.command_line.specs.Runs.{Answer}
-use Rattle.command_line.specs.SameOverBus.{AreToldBefore, IsFollowedAnswer, IsGivenUp, IsPlainAnswer, image_of, over_bus}
+use Rattle.command_line.specs.SameOverBus.{AreToldBefore, IsGivenUp, IsPlainAnswer, image_of, over_bus}
 use Rattle.command_line.specs.declared.choice.commands.CommandName.TheVariants as name
 use Rattle.command_line.specs.declared.choice.options.Options.{Options}
-use Rattle.command_line.specs.declared.fault.Fault.{Fault}
 use Rattle.command_line.specs.declared.fault.Fault.TheVariants as fault
 use Rattle.command_line.specs.declared.told_fault.ToldFault.{ToldFault}
 use Rattle.command_line.specs.declared.told_fault.ToldFault.TheVariants.{Metrics}
@@ -78,13 +76,6 @@ followed : (all : Bool) (labels : List Label) (memory : Memory) → exposition l
 unfolding metrics_of
 followed all labels memory = followed_in labels (reported all memory) (vdm_metrics (vdm_seen memory))
 
-abbrev is_fault : Answer → Bool
-is_fault (Ok told) = false
-is_fault (Err f) = true
-
-never_both : (told : List ℕ × Option ToldFault) (f : Fault) → Ok told ≢ Err f
-never_both told f same = false≢true (ap is_fault same)
-
 module _ (options : Options) where
   abbrev IsMine : Bool → List ℕ → Answer → Type 0
   IsMine bus = IsMetricsAnswer (record options { bus = bus })
@@ -127,28 +118,17 @@ module _ (options : Options) where
       let gave_up = reading_fault unread.memory f unread.fetched in
       absurd (ended (ap (option_map fault_of_told) alone.fault_is ∙ ap (λ (g : ReportFault). Some (fault_of_told (Metrics g))) gave_up))
 
-  abbrev IsFollowedBy : List ℕ → Answer → Type 0
-  IsFollowedBy input a = IsFollowedAnswer options.labels (over_bus name.Metrics options) input a
-
-  followed_by : (input : List ℕ) (a : Answer) → IsAnswerOver IsMine true input a → ¬ (IsGivenUp a) → a ≢ Err fault.Memory → a ≢ Err fault.Io → IsFollowedBy input a
-  followed_by input (Ok (t, told)) is ended memory read =
-      let found = plain (image_of input) t told is.2 ended in
-      let more : List ℕ × Option ToldFault = (t ++ vdm_text options.labels found.0, told) in
-      let without : IsAnswerOver IsMine false input (Ok more) = (is.0, is.1, found.2) in
-      let whole : IsPlainAnswer (over_bus name.Metrics options) input (Ok more) = record {
-        plain = without;
-        alone = λ other. alone IsMine one_answer input (Ok more) other without (never_both more fault.Memory) (never_both more fault.Io);
-      } in
-      record { memory = found.0; is_image = found.1; whole = whole }
-  followed_by input (Err fault.Memory) is ended memory read = absurd (memory refl)
-  followed_by input (Err fault.Io) is ended memory read = absurd (read refl)
-  followed_by input (Err fault.TooLong) is ended memory read =
-      record { plain = is; alone = λ other. alone IsMine one_answer input (Err fault.TooLong) other is memory read }
-  followed_by input (Err (fault.Parts n)) is ended memory read =
-      record { plain = is; alone = λ other. alone IsMine one_answer input (Err (fault.Parts n)) other is memory read }
-  followed_by input (Err (fault.Image f)) is ended memory read =
-      record { plain = is; alone = λ other. alone IsMine one_answer input (Err (fault.Image f)) other is memory read }
-  followed_by input (Err f) is ended memory read = absurd is.2
+  whole : (input : List ℕ) (a : Answer) → IsAnswerOver IsMine false input a → a ≢ Err fault.Memory → a ≢ Err fault.Io → IsPlainAnswer (over_bus name.Metrics options) input a
+  whole input a is memory read = record { plain = is; alone = λ other. alone IsMine one_answer input a other is memory read }
 
   pub metrics_told_before : AreToldBefore options.labels (over_bus name.Metrics options)
-  metrics_told_before input a is ended memory read = followed_by input a is ended memory read
+  metrics_told_before input (Ok (t, told)) is ended memory read =
+      let found = plain (image_of input) t told is.2 ended in
+      let more : List ℕ × Option ToldFault = (t ++ vdm_text options.labels found.0, told) in
+      record { memory = found.0; is_image = found.1; whole = whole input (Ok more) (is.0, is.1, found.2) (λ same. cc) (λ same. cc) }
+  metrics_told_before input (Err fault.Memory) is ended memory read = absurd (memory refl)
+  metrics_told_before input (Err fault.Io) is ended memory read = absurd (read refl)
+  metrics_told_before input (Err fault.TooLong) is ended memory read = whole input (Err fault.TooLong) is memory read
+  metrics_told_before input (Err (fault.Parts n)) is ended memory read = whole input (Err (fault.Parts n)) is memory read
+  metrics_told_before input (Err (fault.Image f)) is ended memory read = whole input (Err (fault.Image f)) is memory read
+  metrics_told_before input (Err f) is ended memory read = absurd is.2

@@ -1,5 +1,6 @@
 -- A report over a bus is the one without, where what is read over it has the reports of the image.
-use Rattle.std.proofs.Common.{◌≡◌, ◌≢◌, ◌∙◌, ◌⊎◌, ℕ, ◌≤◌, ◌<◌, Bool, true, false, List, [], ◌∷◌, Option, Some, None, Result, Ok, Err, refl, sym, ap, inl, inr, length, arith}
+use Rattle.std.proofs.Common.{◌≡◌, ◌≢◌, ◌∙◌, ◌⊎◌, ℕ, Bool, true, false, List, [], ◌∷◌, Option, Some, None, Result, Ok, Err, refl, sym, ap, inl, inr, length, arith}
+use Rattle.std.specs.Prelude.{MatchOption}
 use Rattle.std.proofs.lemmas.List.{length-reverse}
 use Rattle.text_lines.specs.Lines.{lines_of}
 use Rattle.bus_model.specs.declared.bus.BusFault.{BusFault}
@@ -15,10 +16,8 @@ use Rattle.reports.specs.declared.fault.ReportFault.{ReportFault}
 use Rattle.reports.specs.declared.fault.ReportFault.TheVariants as report
 use Rattle.report_entries.specs.Entries.{Entry}
 use Rattle.command_line.specs.Coloring.{shown_as}
-use Rattle.command_line.specs.Limits.{input_limit}
 use Rattle.command_line.specs.OverBus.{IsFetchedFrom, window_at_start}
 use Rattle.command_line.specs.ReportCommands.{IsReported, entries_of, printed, refusal_of}
-use Rattle.command_line.specs.Parts.{parts_of}
 use Rattle.command_line.specs.Runs.{Answer, IsAnswerTo}
 use Rattle.command_line.specs.SameOverBus.{IsGivenUp, IsToldAlike, image_of, over_bus}
 use Rattle.command_line.specs.declared.choice.commands.CommandName.TheVariants.{Report}
@@ -26,7 +25,9 @@ use Rattle.command_line.specs.declared.choice.commands.ReportName.{ReportName}
 use Rattle.command_line.specs.declared.choice.commands.ReportName.TheVariants.{Inventory, Apps, Monitors, Flags, Details}
 use Rattle.command_line.specs.declared.choice.options.Options.{Options}
 use Rattle.command_line.specs.declared.choice.part.Part.TheVariants.{Image}
+use Rattle.command_line.specs.declared.fault.Fault.{Fault}
 use Rattle.command_line.specs.declared.fault.Fault.TheVariants as fault
+use Rattle.command_line.proofs.OwnAnswers.{cut_fault, judged}
 
 -- the bus has room for all steps of a reading
 never_full : (memory : Memory) (g : BusFault) → ¬ (IsFetchedFrom memory (Err (report.Bus g)))
@@ -48,44 +49,16 @@ abbrev pub IsAnswerOver : (Bool → List ℕ → Answer → Type 0) → Bool →
 IsAnswerOver IsMine over = IsAnswerTo (Image ∷ []) (λ inputs. IsMine over inputs.image)
 
 module _ (IsMine : Bool → List ℕ → Answer → Type 0) (one_answer : (text : List ℕ) (a b : Answer) → IsMine false text a → IsMine false text b → a ≡ b) where
-  -- by what is the first to be judged of an input
-  abbrev image_in : List ℕ → List ℕ
-  image_in input = image_of input
-
-  abbrev IsCut : List ℕ → Answer → Type 0
-  IsCut input a = ((length input ≤ input_limit) × (length (parts_of input) ≡ 1)) × IsMine false (image_in input) a
-
-  abbrev IsMiscounted : List ℕ → Answer → Type 0
-  IsMiscounted input a = ((length input ≤ input_limit) × (length (parts_of input) ≢ 1)) × (a ≡ Err (fault.Parts (length (parts_of input))))
-
-  abbrev IsJudged : List ℕ → Answer → Type 0
-  IsJudged input a = ((input_limit < length input) × (a ≡ Err fault.TooLong)) ⊎ (IsMiscounted input a ⊎ IsCut input a)
-
-  judged : (input : List ℕ) (a : Answer) → IsAnswerOver IsMine false input a → a ≢ Err fault.Memory → a ≢ Err fault.Io → IsJudged input a
-  judged input (Ok told) is memory read = inr (inr ((is.0, is.1), is.2))
-  judged input (Err fault.Memory) is memory read = absurd (memory refl)
-  judged input (Err fault.Io) is memory read = absurd (read refl)
-  judged input (Err fault.TooLong) is memory read = inl (is, refl)
-  judged input (Err (fault.Parts n)) is memory read =
-      inr (inl ((is.0, λ one. is.2 (is.1 ∙ one)), ap (λ (m : ℕ). Err (fault.Parts m)) is.1))
-  judged input (Err f) is memory read = inr (inr ((is.0, is.1), is.2))
-
-  agree : (input : List ℕ) (a b : Answer) → IsJudged input a → IsJudged input b → a ≡ b
-  agree input a b (inl p) (inl q) = p.1 ∙ sym q.1
-  agree input a b (inl p) (inr (inl q)) = let long = p.0 in let short = q.0.0 in absurd (omega arith)
-  agree input a b (inl p) (inr (inr q)) = let long = p.0 in let short = q.0.0 in absurd (omega arith)
-  agree input a b (inr (inl p)) (inl q) = let long = q.0 in let short = p.0.0 in absurd (omega arith)
-  agree input a b (inr (inr p)) (inl q) = let long = q.0 in let short = p.0.0 in absurd (omega arith)
-  agree input a b (inr (inl p)) (inr (inl q)) = p.1 ∙ sym q.1
-  agree input a b (inr (inl p)) (inr (inr q)) = absurd (p.0.1 q.0.1)
-  agree input a b (inr (inr p)) (inr (inl q)) = absurd (q.0.1 p.0.1)
-  agree input a b (inr (inr p)) (inr (inr q)) = one_answer (image_in input) a b p.1 q.1
+  agree : (o : Option Fault) (text : List ℕ) (a b : Answer) → MatchOption o (IsMine false text a) (λ f. a ≡ Err f) → MatchOption o (IsMine false text b) (λ f. b ≡ Err f) → a ≡ b
+  agree None text a b p q = one_answer text a b p q
+  agree (Some f) text a b p q = p ∙ sym q
 
   -- two answers without the flag are the same
   pub alone : (input : List ℕ) (a other : Answer) → IsAnswerOver IsMine false input a → a ≢ Err fault.Memory → a ≢ Err fault.Io
       → IsAnswerOver IsMine false input other → other ≢ Err fault.Memory → other ≢ Err fault.Io → other ≡ a
   alone input a other is memory read is_too memory_too read_too =
-      agree input other a (judged input other is_too memory_too read_too) (judged input a is memory read)
+      let by = judged (Image ∷ []) (λ inputs. IsMine false inputs.image) input in
+      agree (cut_fault (Image ∷ []) input) (image_of input) other a (by other is_too memory_too read_too) (by a is memory read)
 
 module _ (IsMine : Bool → List ℕ → Answer → Type 0) (one_answer : (text : List ℕ) (a b : Answer) → IsMine false text a → IsMine false text b → a ≡ b)
     (plain : (text : List ℕ) (a : Answer) → IsMine true text a → ¬ (IsGivenUp a) → IsMine false text a) where
