@@ -4,6 +4,7 @@ use Rattle.std.specs.Prelude.{◌&&◌, ◌||◌, codes, slice_get, option_and_t
 use Rattle.std.specs.List.{IsFirstAndRest, list_all, list_any}
 use Rattle.std.specs.Option.{option_map_or}
 use Rattle.std.specs.Str.{bytes_eq}
+use Rattle.std.proofs.lemmas.Bool.{and_parts}
 use Rattle.std.proofs.lemmas.List.{take_all}
 use Rattle.std.proofs.lemmas.Slice.Eq.{bytes_eq-Decides}
 use Rattle.clap.specs.Faults.{built_fault, check_fault, defaults_fault, entered_fault, level_fault, settle_fault, turn_fault, walk_fault}
@@ -26,17 +27,10 @@ use Rattle.command_line.specs.declared.choice.coloring.Coloring.TheVariants.{Aut
 use Rattle.command_line.specs.declared.choice.commands.Request.{Request}
 use Rattle.command_line.specs.declared.choice.options.Options.{Options}
 use Rattle.command_line.specs.declared.choice.word_fault.WordFault.{WordFault}
-use Rattle.command_line.proofs.PlainWalks.{IsPlainLeaf, IsSwitch, Walked, apart_none, at, both, default_passes, found, given_by_words, is_harmless, is_worded, leaf_passes, leaf_rows, negated, not_worded, switch_rule, walked_all}
+use Rattle.control_sets.proofs.Finding as finding
+use Rattle.command_line.proofs.PlainWalks.{IsPlainLeaf, IsSwitch, LeafTests, Walked, apart_none, at, found, given_by_words, is_worded, leaf_passes, leaf_rows, leaf_tests, not_worded, plain_leaf, switch_rule, walked_all}
 
 -- ---- what holds of an element of a list that was found
-
--- what is found passes the test
-found_passes : {X : Type 0} (p : X → Bool) (xs : List X) (x : X) → find p xs ≡ Some x → p x ≡ true
-found_passes p [] x met = cc
-found_passes p (y ∷ ys) x met = elim (p y) as (λ b. p y ≡ b → cond b (Some y) (find p ys) ≡ Some x → p x ≡ true) [
-  | true ↦ λ is here. cc
-  | false ↦ λ is rest. found_passes p ys x rest
-] refl met
 
 -- two functions that agree on each element of a list agree on what is found in it
 same_at_found : {X Y : Type 0} (f g : X → Y) (p : X → Bool) (xs : List X) (x : X) → map f xs ≡ map g xs → find p xs ≡ Some x → f x ≡ g x
@@ -47,7 +41,7 @@ same_at_found f g p (y ∷ ys) x same met = elim (p y) as (λ b. cond b (Some y)
 ] met
 
 its_name : (name : Text) (entry : Entry) → entry_named name ≡ Some entry → name ≡ entry.name
-its_name name entry met = sym ((bytes_eq-Decides entry.name name).0 (found_passes (λ (e : Entry). bytes_eq e.name name) commands entry met))
+its_name name entry met = sym ((bytes_eq-Decides entry.name name).0 (finding.found (λ (e : Entry). bytes_eq e.name name) commands entry met).1)
 
 -- ---- the table, computed
 
@@ -60,28 +54,6 @@ start = walk_from nothing_held
 
 abbrev stopped_at : Text → List Text → Walk
 stopped_at name words = record start { stopped = Some (name, words) }
-
--- what its name is, after the program's
-pub record NameTests : Type 0 where
-  pub walk : Walk
-  pub fault : Kinds
-  pub met : Option Shape
-  pub name : Text
-
-abbrev name_tests : Entry → NameTests
-name_tests entry = record {
-  walk = walked (built program).top.rules (names_of (built program)) start entry.name;
-  fault = turn_fault (built program).top (names_of (built program)) start entry.name;
-  met = find (λ s. answers_to entry.name (label_of s)) (built program).subs;
-  name = (leaf entry).name;
-}
-
-abbrev names_wanted : Entry → NameTests
-names_wanted entry = record { walk = stopped_at entry.name []; fault = []; met = Some (leaf entry); name = entry.name }
-
-names_are : map name_tests commands ≡ map names_wanted commands
-unfolding clap_on_literals program commands
-names_are = refl
 
 -- what each of its flags is
 pub record FlagTests : Type 0 where
@@ -111,34 +83,38 @@ tests_alone entry flag = if_alone flag (flag_tests entry flag)
 abbrev wanted_alone : FlagEntry → Option FlagTests
 wanted_alone flag = if_alone flag (flag_wanted flag)
 
-flags_are : map (λ (entry : Entry). map (tests_alone entry) entry.flags) commands ≡ map (λ (entry : Entry). map wanted_alone entry.flags) commands
-unfolding clap_on_literals program commands
-flags_are = refl
+-- what `clap` makes of its name, after the program's, of its flags that take no word, and of what flags there are
+pub record EntryTests : Type 0 where
+  pub walk : Walk
+  pub fault : Kinds
+  pub met : Option Shape
+  pub name : Text
+  pub alone : List (Option FlagTests)
+  pub leaf : LeafTests
 
-pub record LeafTests : Type 0 where
-  pub harmless : Bool
-  pub defaults : Bool
-  pub optional : Bool
-  pub help : Bool
-  pub subcommand : Bool
-  pub negation : Bool
-
-abbrev leaf_tests : Entry → LeafTests
-leaf_tests entry = record {
-  harmless = list_all is_harmless (leaf entry).rules;
-  defaults = list_all default_passes (leaf entry).rules;
-  optional = list_all (λ a. not a.required) (leaf entry).rules;
-  help = (leaf entry).arg_required_else_help;
-  subcommand = (leaf entry).subcommand_required;
-  negation = (leaf entry).subcommand_negates_reqs;
+abbrev entry_tests : Entry → EntryTests
+entry_tests entry = record {
+  walk = walked (built program).top.rules (names_of (built program)) start entry.name;
+  fault = turn_fault (built program).top (names_of (built program)) start entry.name;
+  met = find (λ s. answers_to entry.name (label_of s)) (built program).subs;
+  name = (leaf entry).name;
+  alone = map (tests_alone entry) entry.flags;
+  leaf = leaf_tests (leaf entry);
 }
 
-abbrev leaf_wanted : Entry → LeafTests
-leaf_wanted entry = record { harmless = true; defaults = true; optional = true; help = false; subcommand = false; negation = false }
+abbrev entry_wanted : Entry → EntryTests
+entry_wanted entry = record {
+  walk = stopped_at entry.name [];
+  fault = [];
+  met = Some (leaf entry);
+  name = entry.name;
+  alone = map wanted_alone entry.flags;
+  leaf = plain_leaf;
+}
 
-leaves_are : map leaf_tests commands ≡ map leaf_wanted commands
+entries_are : map entry_tests commands ≡ map entry_wanted commands
 unfolding clap_on_literals program commands
-leaves_are = refl
+entries_are = refl
 
 top_passes : or_else (settle_fault (built program).top.rules (built program).top.args_override_self nothing_held)
     (or_else (defaults_fault [] (built program).top.rules) (check_fault (built program).top (finished (built program).top.rules nothing_held) true)) ≡ []
@@ -177,7 +153,7 @@ each_switch entry (flag ∷ flags) same word is =
     elim (takes_nothing flag.takes && bytes_eq word (flag_word flag.name))
     as (λ b. (takes_nothing flag.takes && bytes_eq word (flag_word flag.name)) ≡ b → (b || is_switch flags word) ≡ true → IsSwitch (leaf entry).rules word) [
       | true ↦ λ this _.
-          let tests = both (takes_nothing flag.takes) (bytes_eq word (flag_word flag.name)) this in
+          let tests = and_parts (takes_nothing flag.takes) (bytes_eq word (flag_word flag.name)) this in
           of_flag entry flag word tests.0 tests.1 head
       | false ↦ λ other later. each_switch entry flags rest word later
     ] refl is
@@ -214,39 +190,19 @@ module _ (a : App) (s : Shape) (name : Text) (words : List Text) (walks : walked
       ∙ end
 
 module _ (first name : Text) (entry : Entry) (met : entry_named name ≡ Some entry) (words : List Text) (are : are_switches entry.flags words ≡ true) where
-  tests : name_tests entry ≡ names_wanted entry
-  tests = same_at_found name_tests names_wanted (λ (e : Entry). bytes_eq e.name name) commands entry names_are met
-
-  leaf_is : leaf_tests entry ≡ leaf_wanted entry
-  leaf_is = same_at_found leaf_tests leaf_wanted (λ (e : Entry). bytes_eq e.name name) commands entry leaves_are met
+  tests : entry_tests entry ≡ entry_wanted entry
+  tests = same_at_found entry_tests entry_wanted (λ (e : Entry). bytes_eq e.name name) commands entry entries_are met
 
   plain : IsPlainLeaf (leaf entry)
-  plain = record {
-    harmless = ap (λ (t : LeafTests). t.harmless) leaf_is;
-    defaults = ap (λ (t : LeafTests). t.defaults) leaf_is;
-    optional = ap (λ (t : LeafTests). t.optional) leaf_is;
-    no_help = ap (λ (t : LeafTests). t.help) leaf_is;
-    no_subcommand = ap (λ (t : LeafTests). t.subcommand) leaf_is;
-    no_negation = ap (λ (t : LeafTests). t.negation) leaf_is;
-  }
-
-  flags : map (tests_alone entry) entry.flags ≡ map wanted_alone entry.flags
-  flags = same_at_found (λ (entry : Entry). map (tests_alone entry) entry.flags) (λ (entry : Entry). map wanted_alone entry.flags)
-      (λ (e : Entry). bytes_eq e.name name) commands entry flags_are met
+  plain = ap (λ (t : EntryTests). t.leaf) tests
 
   way : Walked (leaf entry) [] words
-  way = walked_all (leaf entry) entry.flags (each_switch entry entry.flags flags) [] words are (apart_none words)
-
-  walks : walked (built program).top.rules (names_of (built program)) start entry.name ≡ stopped_at entry.name []
-  walks = ap (λ (t : NameTests). t.walk) tests
-
-  finds : find (λ s. answers_to entry.name (label_of s)) (built program).subs ≡ Some (leaf entry)
-  finds = ap (λ (t : NameTests). t.met) tests
+  way = walked_all (leaf entry) entry.flags (each_switch entry entry.flags (ap (λ (t : EntryTests). t.alone) tests)) [] words are (apart_none words)
 
   pub taken : faults_of (first ∷ name ∷ words) ≡ []
   taken = ap (λ (n : Text). faults_of (first ∷ n ∷ words)) (its_name name entry met)
       ∙ ap (built_fault (built program) nothing_held) (after_program first (entry.name ∷ words))
-      ∙ passes_both (built program) (leaf entry) entry.name words walks finds (ap (λ (t : NameTests). t.fault) tests)
+      ∙ passes_both (built program) (leaf entry) entry.name words (ap (λ (t : EntryTests). t.walk) tests) (ap (λ (t : EntryTests). t.met) tests) (ap (λ (t : EntryTests). t.fault) tests)
       (leaf_passes (leaf entry) words plain way) top_passes
 
   abbrev rows : List Row
@@ -273,12 +229,12 @@ module _ (first name : Text) (entry : Entry) (met : entry_named name ≡ Some en
       ∙ ap (λ (given : Text → Bool). options_found None None None given) (λ i q. same_given q i)
 
   named_leaf : entry_named (leaf entry).name ≡ Some entry
-  named_leaf = ap entry_named (ap (λ (t : NameTests). t.name) tests ∙ sym (its_name name entry met)) ∙ met
+  named_leaf = ap entry_named (ap (λ (t : EntryTests). t.name) tests ∙ sym (its_name name entry met)) ∙ met
 
   pub chosen : request_of (first ∷ name ∷ words) ≡ Some (Ok (record { command = entry.command; options = options_by (gives words) Auto [] false }))
   chosen = ap (λ (n : Text). request_of (first ∷ n ∷ words)) (its_name name entry met)
       ∙ ap (λ (ws : List Text). request_in (entered (built program) (stop_after (built program).top.rules (names_of (built program)) ws))) (after_program first (entry.name ∷ words))
-      ∙ ap request_in (enters (built program) (leaf entry) entry.name words walks finds)
+      ∙ ap request_in (enters (built program) (leaf entry) entry.name words (ap (λ (t : EntryTests). t.walk) tests) (ap (λ (t : EntryTests). t.met) tests))
       ∙ ap (option_map (λ (e : Entry). request_with e.command rows)) named_leaf
       ∙ ap (λ (o : Result Options WordFault). Some (then_with (λ options. Ok record { command = entry.command; options = options }) o)) options
 

@@ -4,7 +4,9 @@ use Rattle.std.specs.Prelude.{⊤, ◌&&◌, ◌||◌, codes, slice_get, option_
 use Rattle.std.specs.List.{list_all, list_any}
 use Rattle.std.specs.Str.{bytes_eq}
 use Rattle.std.specs.Option.{option_map_or}
+use Rattle.std.proofs.lemmas.Bool.{and_parts, both_ways, false_from_ne_true, not-true, or_parts}
 use Rattle.std.proofs.lemmas.List.{append-nil, append_assoc, map-append}
+use Rattle.std.proofs.lemmas.List.Folds.{find-append, list_any-append}
 use Rattle.std.proofs.lemmas.Slice.Eq.{bytes_eq-Decides}
 use Rattle.clap.specs.Lexer.{long_of}
 use Rattle.clap.specs.Faults.{check_fault, default_fault, defaults_fault, flag_word_fault, given_default_fault, level_fault, long_fault, other_fault, settle_fault, step_fault, turn_fault, values_fault, walk_fault}
@@ -18,28 +20,6 @@ use Rattle.clap.specs.declared.parser.matches.ValueSource.{ValueSource}
 use Rattle.clap.specs.declared.parser.matches.ValueSource.TheVariants.{CommandLine, DefaultValue}
 use Rattle.command_line.specs.GivenFlags.{FlagEntry, color_flag, flag_rule, flags_flag, is_given, label_flag, switch}
 use Rattle.command_line.specs.PlainFlags.{are_switches, flag_word, gives, has_word, is_switch, takes_nothing}
-
--- ---- tests
-
-pub both : (a b : Bool) → (a && b) ≡ true → (a ≡ true) × (b ≡ true)
-both true true is = (refl, refl)
-both true false is = cc
-both false b is = cc
-
-neither : (a b : Bool) → (a || b) ≡ false → (a ≡ false) × (b ≡ false)
-neither false false is = (refl, refl)
-neither false true is = cc
-neither true b is = cc
-
-pub negated : (a : Bool) → not a ≡ true → a ≡ false
-negated false is = refl
-negated true is = cc
-
-any_append : {X : Type 0} (p : X → Bool) (xs : List X) (y : X) → list_any p xs ≡ false → p y ≡ false → list_any p (xs ++ y ∷ []) ≡ false
-any_append p [] y none is = rw is refl
-any_append p (x ∷ xs) y none is =
-    let head = (neither (p x) (list_any p xs) none).0 in
-    rw head (any_append p xs y (neither (p x) (list_any p xs) none).1 is)
 
 -- ---- the rows
 
@@ -57,19 +37,23 @@ given_rows names = map given_row names
 last_row : (id : Text) (change : Row → List Row) (missing rows : List Row) → has_row id rows ≡ false → at_row id change missing rows ≡ rows ++ missing
 last_row id change missing [] none = refl
 last_row id change missing (r ∷ rows) none =
-    let parts = neither (bytes_eq r.id id) (has_row id rows) none in
+    let parts = or_parts (bytes_eq r.id id) (has_row id rows) none in
     rw parts.0 (ap (λ more. r ∷ more) (last_row id change missing rows parts.1))
 
 not_there : (id : Text) (names : List Text) → list_any (λ m. bytes_eq (flag_word m) (flag_word id)) names ≡ false → has_row id (given_rows names) ≡ false
 not_there id [] none = refl
 not_there id (m ∷ names) none =
-    let parts = neither (bytes_eq m id) (list_any (λ m. bytes_eq (flag_word m) (flag_word id)) names) none in
+    let parts = or_parts (bytes_eq m id) (list_any (λ m. bytes_eq (flag_word m) (flag_word id)) names) none in
     rw parts.0 (not_there id names parts.1)
 
 no_change : (id : Text) (rows : List Row) → has_row id rows ≡ false → at_row id (λ _. []) [] rows ≡ rows
 no_change id rows none = last_row id (λ _. []) [] rows none ∙ append-nil rows
 
 -- ---- a word
+
+-- the flags that take one
+abbrev pub is_worded : Text → Bool
+is_worded name = bytes_eq name color_flag || (bytes_eq name label_flag || bytes_eq name flags_flag)
 
 -- what is known of a flag of these rules that takes no word
 pub record IsSwitch (rules : List Rule) (word : Text) : Type 0 where
@@ -78,7 +62,7 @@ pub record IsSwitch (rules : List Rule) (word : Text) : Type 0 where
   pub long : long_of (flag_word name) ≡ Some (name, None)
   pub dashes : bytes_eq (flag_word name) (45 ∷ 45 ∷ []) ≡ false
   pub arg : arg_by_long rules name ≡ Some (switch_rule name)
-  pub alone : (bytes_eq name color_flag || (bytes_eq name label_flag || bytes_eq name flags_flag)) ≡ false
+  pub alone : is_worded name ≡ false
 
 -- where the walk stands after these flags
 abbrev with_rows : List Row → Walk
@@ -150,12 +134,8 @@ apart_none (w ∷ ws) = (refl, apart_none ws)
 apart_more : (names : List Text) (n : Text) (ws : List Text) → Apart names ws → has_word ws (flag_word n) ≡ false → Apart (names ++ n ∷ []) ws
 apart_more names n [] apart none = tt
 apart_more names n (w ∷ ws) apart none =
-    let parts = neither (bytes_eq (flag_word n) w) (has_word ws (flag_word n)) none in
-    (any_append (λ m. bytes_eq (flag_word m) w) names n apart.0 parts.0, apart_more names n ws apart.1 parts.1)
-
--- the flags that take a word
-abbrev pub is_worded : Text → Bool
-is_worded name = bytes_eq name color_flag || (bytes_eq name label_flag || bytes_eq name flags_flag)
+    let parts = or_parts (bytes_eq (flag_word n) w) (has_word ws (flag_word n)) none in
+    (rw (list_any-append (λ m. bytes_eq (flag_word m) w) names (n ∷ []), apart.0, parts.0) refl, apart_more names n ws apart.1 parts.1)
 
 pub record Walked (s : Shape) (names words : List Text) : Type 0 where
   pub given : List Text
@@ -169,12 +149,12 @@ module _ (s : Shape) (flags : List FlagEntry) (each : (word : Text) → is_switc
   unfolding walk_fault
   walked_all names [] are apart = record { given = []; are = refl; end = ap at (sym (append-nil names)); fault = refl; alone = refl }
   walked_all names (w ∷ ws) are apart =
-      let tests = both (is_switch flags w && not (has_word ws w)) (are_switches flags ws) are in
-      let first = both (is_switch flags w) (not (has_word ws w)) tests.0 in
+      let tests = and_parts (is_switch flags w && not (has_word ws w)) (are_switches flags ws) are in
+      let first = and_parts (is_switch flags w) (not (has_word ws w)) tests.0 in
       let one = each w first.0 in
       let new : list_any (λ m. bytes_eq (flag_word m) (flag_word one.name)) names ≡ false =
       ap (λ (x : Text). list_any (λ m. bytes_eq (flag_word m) x) names) (sym one.is) ∙ apart.0 in
-      let none : has_word ws (flag_word one.name) ≡ false = ap (has_word ws) (sym one.is) ∙ negated (has_word ws w) first.1 in
+      let none : has_word ws (flag_word one.name) ≡ false = ap (has_word ws) (sym one.is) ∙ not-true (has_word ws w) first.1 in
       let rest = walked_all (names ++ one.name ∷ []) ws tests.1 (apart_more names one.name ws apart.1 none) in
       let step : walked s.rules [] (at names) w ≡ at (names ++ one.name ∷ []) = ap (walked s.rules [] (at names)) one.is ∙ one_step s names w one new in
       let turn : turn_fault s [] (at names) w ≡ [] = ap (turn_fault s [] (at names)) one.is ∙ passes s names w one new in
@@ -220,33 +200,22 @@ one_more_given q row (r ∷ rows) not =
     elim (bytes_eq r.id q) as (λ b. given_in (cond b (Some r) (found q (rows ++ row ∷ []))) ≡ given_in (cond b (Some r) (found q rows))) [ true ↦ refl | false ↦ rest ]
 
 one_more_worded : (q : Text) (row : Row) (rows : List Row) → bytes_eq row.id q ≡ false → found q rows ≡ None → found q (rows ++ row ∷ []) ≡ None
-one_more_worded q row [] other none = rw other refl
-one_more_worded q row (r ∷ rows) other none =
-    elim (bytes_eq r.id q) as (λ b. cond b (Some r) (found q rows) ≡ None → cond b (Some r) (found q (rows ++ row ∷ [])) ≡ None) [
-      | true ↦ λ is. cc
-      | false ↦ λ rest. one_more_worded q row rows other rest
-    ] none
+one_more_worded q row rows other none = rw (find-append (λ (r : Row). bytes_eq r.id q) rows (row ∷ []), none, other) refl
 
 -- what has another id than one that takes a word
 other_id : (id q : Text) → is_worded id ≡ false → is_worded q ≡ true → bytes_eq id q ≡ false
-other_id id q is_not is = elim (bytes_eq id q) as (λ b. bytes_eq id q ≡ b → b ≡ false) [
-  | true ↦ λ same.
-      let equal : id ≡ q = (bytes_eq-Decides id q).0 same in
-      let both : is_worded id ≡ true = ap is_worded equal ∙ is in
-      cc
-  | false ↦ λ different. refl
-] refl
+other_id id q is_not is = false_from_ne_true (bytes_eq id q) (λ same. both_ways (is_worded id) is_not (ap is_worded ((bytes_eq-Decides id q).0 same) ∙ is))
 
 by_values : (rows : List Row) (id : Text) (how : Reading) (values : List Text) → harmless_values id values ≡ true → has_row id rows ≡ false
     → SameGiven rows (default_rows id how values rows)
 by_values rows id how [] harmless none = record { given = λ q. refl; worded = λ q is not. not }
 by_values rows id how (v ∷ vs) harmless none =
     let row : Row = record { id = id; values = v ∷ vs; count = None; source = Some DefaultValue; reading = how } in
-    let tests = both (not (is_worded id)) (not (is_true v)) harmless in
+    let tests = and_parts (not (is_worded id)) (not (is_true v)) harmless in
     let last = last_row id (more_values DefaultValue (v ∷ vs)) (row ∷ []) rows none in
     subst (λ (all : List Row). SameGiven rows all) (sym last) (record {
-      given = λ q. one_more_given q row rows (negated (is_true v) tests.1);
-      worded = λ q is not. one_more_worded q row rows (other_id id q (negated (is_worded id) tests.0) is) not;
+      given = λ q. one_more_given q row rows (not-true (is_true v) tests.1);
+      worded = λ q is not. one_more_worded q row rows (other_id id q (not-true (is_worded id) tests.0) is) not;
     })
 
 with_one : (rows : List Row) (a : Rule) → is_harmless a ≡ true → SameGiven rows (with_default rows a)
@@ -259,7 +228,7 @@ with_one rows a harmless =
 pub with_all : (rules : List Rule) (rows : List Row) → list_all is_harmless rules ≡ true → SameGiven rows (fold with_default rows rules)
 with_all [] rows harmless = record { given = λ q. refl; worded = λ q is not. not }
 with_all (a ∷ rules) rows harmless =
-    let tests = both (is_harmless a) (list_all is_harmless rules) harmless in
+    let tests = and_parts (is_harmless a) (list_all is_harmless rules) harmless in
     let one = with_one rows a tests.0 in
     let rest = with_all rules (with_default rows a) tests.1 in
     record { given = λ q. rest.given q ∙ one.given q; worded = λ q is not. rest.worded q is (one.worded q is not) }
@@ -288,29 +257,44 @@ no_default_fault : (rules : List Rule) (rows : List Row) → list_all default_pa
 unfolding defaults_fault
 no_default_fault [] rows all = refl
 no_default_fault (a ∷ rules) rows all =
-    let tests = both (default_passes a) (list_all default_passes rules) all in
+    let tests = and_parts (default_passes a) (list_all default_passes rules) all in
     ap₂ or_else (one_default rows a tests.0) (no_default_fault rules (with_default rows a) tests.1)
 
 none_required : (rules : List Rule) (rows : List Row) → list_all (λ a. not a.required) rules ≡ true → list_any (λ a. a.required && not (is_present a.id rows)) rules ≡ false
 none_required [] rows optional = refl
 none_required (a ∷ rules) rows optional =
-    let tests = both (not a.required) (list_all (λ a. not a.required) rules) optional in
-    rw (negated a.required tests.0) (none_required rules rows tests.1)
+    let tests = and_parts (not a.required) (list_all (λ a. not a.required) rules) optional in
+    rw (not-true a.required tests.0) (none_required rules rows tests.1)
+
+pub record LeafTests : Type 0 where
+  pub harmless : Bool
+  pub defaults : Bool
+  pub optional : Bool
+  pub help : Bool
+  pub subcommand : Bool
+  pub negation : Bool
+
+abbrev pub leaf_tests : Shape → LeafTests
+leaf_tests s = record {
+  harmless = list_all is_harmless s.rules;
+  defaults = list_all default_passes s.rules;
+  optional = list_all (λ a. not a.required) s.rules;
+  help = s.arg_required_else_help;
+  subcommand = s.subcommand_required;
+  negation = s.subcommand_negates_reqs;
+}
 
 -- a command whose flags may be left out, of which none is given by default
-pub record IsPlainLeaf (s : Shape) : Type 0 where
-  pub harmless : list_all is_harmless s.rules ≡ true
-  pub defaults : list_all default_passes s.rules ≡ true
-  pub optional : list_all (λ a. not a.required) s.rules ≡ true
-  pub no_help : s.arg_required_else_help ≡ false
-  pub no_subcommand : s.subcommand_required ≡ false
-  pub no_negation : s.subcommand_negates_reqs ≡ false
+abbrev pub plain_leaf : LeafTests
+plain_leaf = record { harmless = true; defaults = true; optional = true; help = false; subcommand = false; negation = false }
 
-abbrev check_by : Bool → Bool → Bool → Bool → Bool → Kinds
-check_by help source wants negates required = check_kinds (not false && (help && not source)) (not false && wants) (not (negates && false) && required)
+abbrev pub IsPlainLeaf : Shape → Type 0
+IsPlainLeaf s = leaf_tests s ≡ plain_leaf
 
 no_check : (s : Shape) (rows : List Row) → IsPlainLeaf s → check_fault s rows false ≡ []
-no_check s rows is = rw (is.no_help, is.no_subcommand, is.no_negation, none_required s.rules rows is.optional) refl
+no_check s rows is =
+    let optional = none_required s.rules rows (ap (λ (t : LeafTests). t.optional) is) in
+    rw (ap (λ (t : LeafTests). t.help) is, ap (λ (t : LeafTests). t.subcommand) is, ap (λ (t : LeafTests). t.negation) is, optional) refl
 
 -- what is refused at the end of a walk
 abbrev refused_at : Shape → Walk → Kinds → Kinds
@@ -320,12 +304,12 @@ refused_at s end walk = or_else walk (or_else [] (or_else (settle_fault s.rules 
 pub leaf_passes : (s : Shape) (words : List Text) → IsPlainLeaf s → Walked s [] words → level_fault s [] nothing_held words false [] ≡ []
 leaf_passes s words is walk =
     ap₂ (refused_at s) walk.end walk.fault
-    ∙ ap₂ or_else (no_default_fault s.rules (given_rows walk.given) is.defaults) (no_check s (fold with_default (given_rows walk.given) s.rules) is)
+    ∙ ap₂ or_else (no_default_fault s.rules (given_rows walk.given) (ap (λ (t : LeafTests). t.defaults) is)) (no_check s (fold with_default (given_rows walk.given) s.rules) is)
 
 pub leaf_rows : (s : Shape) (words : List Text) → IsPlainLeaf s → (walk : Walked s [] words)
     → SameGiven (given_rows walk.given) (rows_after s.rules [] words)
 leaf_rows s words is walk =
-    subst (λ (end : Walk). SameGiven (given_rows walk.given) (finished s.rules end.held)) (sym walk.end) (with_all s.rules (given_rows walk.given) is.harmless)
+    subst (λ (end : Walk). SameGiven (given_rows walk.given) (finished s.rules end.held)) (sym walk.end) (with_all s.rules (given_rows walk.given) (ap (λ (t : LeafTests). t.harmless) is))
 
 -- ---- which are given
 
@@ -338,5 +322,5 @@ given_by_words q (m ∷ names) =
 pub not_worded : (q : Text) (names : List Text) → is_worded q ≡ true → list_any is_worded names ≡ false → found q (given_rows names) ≡ None
 not_worded q [] is none = refl
 not_worded q (m ∷ names) is none =
-    let parts = neither (is_worded m) (list_any is_worded names) none in
+    let parts = or_parts (is_worded m) (list_any is_worded names) none in
     rw (other_id m q parts.0 is) (not_worded q names is parts.1)

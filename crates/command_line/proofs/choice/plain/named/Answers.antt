@@ -6,14 +6,12 @@ use Rattle.command_line.specs.declared.choice.options.Options.{Options}
 use Rattle.command_line.proofs.PlainChoices.{chosen, plain_options, taken}
 use Rattle.command_line.proofs.choice.plain.named.Goals as goal
 
-pub returns-clause-answer : goal.returns-clause-answer
-returns-clause-answer c = λ program_name.
+pub returns : goal.returns
+returns c =
     let are : are_switches (entry_of c.in_ok-entry.entry.now).flags (map string_bytes c.args.flags.now) ≡ true = sym c.are_switches.ensures ∙ search rules in
-    chosen program_name _ _ (sym c.in_ok-entry.ensures) _ are
-    ∙ ap (λ (options : Options). Some (Ok record { command = c.in_ok-entry.entry.now.command; options = options }))
-    (plain_options c.args.flags.now c.new.result c.new.ensures ∙ sym c.with.ensures)
-
-pub returns-clause-taken : goal.returns-clause-taken
-returns-clause-taken c = λ program_name.
-    let are : are_switches (entry_of c.in_ok-entry.entry.now).flags (map string_bytes c.args.flags.now) ≡ true = sym c.are_switches.ensures ∙ search rules in
-    taken program_name _ _ (sym c.in_ok-entry.ensures) _ are
+    record {
+      answer = λ program_name. chosen program_name _ _ (sym c.in_ok-entry.ensures) _ are
+          ∙ ap (λ (options : Options). Some (Ok record { command = c.in_ok-entry.entry.now.command; options = options }))
+          (plain_options c.args.flags.now c.new.result c.new.ensures ∙ sym c.with.ensures);
+      taken = λ program_name. taken program_name _ _ (sym c.in_ok-entry.ensures) _ are;
+    }
