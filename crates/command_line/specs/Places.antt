@@ -4,11 +4,8 @@ use Rattle.std.specs.Prelude.{ℕ, List, [], ◌∷◌, ◌++◌, ◌/◌, ◌%�
 use Rattle.std.specs.Fmt.{decimal}
 use Rattle.hex.specs.Hex.{upper_digits}
 use Rattle.paged_memory.specs.ImageText.{key_text}
-use Rattle.paged_memory.specs.declared.fault.ImageFault.{ImageFault}
 use Rattle.paged_memory.specs.declared.fault.ImageFault.TheVariants as image
-use Rattle.bus_model.specs.declared.fault.ScriptFault.{ScriptFault}
 use Rattle.bus_model.specs.declared.fault.ScriptFault.TheVariants as script
-use Rattle.field_tables.specs.declared.sff_fault.SffFault.{SffFault}
 use Rattle.field_tables.specs.declared.sff_fault.SffFault.TheVariants as sff
 use Rattle.applications.specs.declared.fault.AdvertFault.{AdvertFault}
 use Rattle.applications.specs.declared.fault.AdvertFault.TheVariants as advert
@@ -16,17 +13,11 @@ use Rattle.applications.specs.declared.weights.fault.WeightsFault.{WeightsFault}
 use Rattle.applications.specs.declared.weights.table.WeightTable.{WeightTable}
 use Rattle.applications.specs.declared.weights.table.WeightTable.TheVariants as table
 use Rattle.applications.specs.declared.weights.fault.WeightsFault.TheVariants as weights
-use Rattle.plan_certificate.specs.declared.fault.CertificateFault.{CertificateFault}
 use Rattle.plan_certificate.specs.declared.fault.CertificateFault.TheVariants as certificate
-use Rattle.plan_certificate.specs.declared.fault.KeptFault.{KeptFault}
 use Rattle.plan_certificate.specs.declared.fault.KeptFault.TheVariants as kept
-use Rattle.plan_certificate.specs.declared.verdict.Reason.{Reason}
 use Rattle.plan_certificate.specs.declared.verdict.Reason.TheVariants as reason
-use Rattle.control_sets.specs.declared.fault.ProvisionFault.{ProvisionFault}
 use Rattle.control_sets.specs.declared.fault.ProvisionFault.TheVariants as provision
-use Rattle.sim_module.specs.declared.fault.SimFault.{SimFault}
 use Rattle.sim_module.specs.declared.fault.SimFault.TheVariants as sim
-use Rattle.reports.specs.declared.fault.ReportFault.{ReportFault}
 use Rattle.reports.specs.declared.fault.ReportFault.TheVariants as report
 use Rattle.command_line.specs.declared.fault.Fault.{Fault}
 use Rattle.command_line.specs.declared.fault.Fault.TheVariants as fault
@@ -37,16 +28,7 @@ use Rattle.command_line.specs.declared.remark.place.Place.TheVariants.{Nowhere, 
 abbrev pub first_word : List (List ℕ) → List ℕ
 first_word words = get_or words 0 []
 
-abbrev pub place_of_image : ImageFault → Place
-place_of_image (image.BadLine line) = ImageLine line
-place_of_image (image.OutOfOrder line) = ImageLine line
-place_of_image _ = Nowhere
-
-abbrev pub place_of_sff : SffFault → Place
-place_of_sff (sff.WrongIdentifier identifier) = Identifier identifier
-place_of_sff (sff.Absent key) = Half key
-place_of_sff _ = Nowhere
-
+-- of one that comes alone and in reports
 abbrev pub place_of_advert : AdvertFault → Place
 place_of_advert (advert.NotCmis identifier) = Identifier identifier
 place_of_advert (advert.Revision revision) = Revision revision
@@ -54,14 +36,6 @@ place_of_advert (advert.Absent key) = Half key
 place_of_advert (advert.BadSum page) = Page page
 place_of_advert (advert.NotEightLanes identifier) = Identifier identifier
 place_of_advert advert.FlatMemory = Nowhere
-
-abbrev pub place_of_report : ReportFault → Place
-place_of_report (report.Unknown identifier) = Identifier identifier
-place_of_report (report.Revision revision) = Revision revision
-place_of_report (report.Absent key) = Half key
-place_of_report (report.Sff f) = place_of_sff f
-place_of_report (report.Advert f) = place_of_advert f
-place_of_report _ = Nowhere
 
 -- the line of the weights, if one is told
 abbrev pub line_of_weights : Option ℕ → Place
@@ -81,56 +55,42 @@ place_of_weights (weights.BadWeight table number) line = key_of table number
 place_of_weights weights.Memory line = Nowhere
 place_of_weights _ line = line_of_weights line
 
-abbrev pub place_of_kept : KeptFault → Place
-place_of_kept (kept.BadLine line) = KeptLine line
-place_of_kept (kept.NotAdmissible number) = KeptPath number
-place_of_kept kept.TooMany = Nowhere
-
-abbrev pub place_of_certificate : CertificateFault → Place
-place_of_certificate (certificate.BadLine line) = CertificateLine line
-place_of_certificate (certificate.OutOfOrder line) = CertificateLine line
-place_of_certificate _ = Nowhere
-
-abbrev pub place_of_reason : Reason → ℕ → Place
-place_of_reason reason.PathNotAllowed number = Path number
-place_of_reason reason.LaneTwice number = Path number
-place_of_reason reason.NotClosed number = Entry number
-place_of_reason reason.TooLow number = Entry number
-place_of_reason reason.KeptNotAdmissible number = KeptPath number
-place_of_reason reason.KeptMissing number = KeptPath number
-place_of_reason _ number = Nowhere
-
-abbrev pub place_of_script : ScriptFault → Place
-place_of_script (script.BadLine line) = ScriptLine line
-place_of_script script.TooLong = Nowhere
-
-abbrev pub place_of_module : SimFault → Place
-place_of_module (sim.Absent key) = Half key
-place_of_module (sim.ActiveNotPaths lane) = Lane lane
-place_of_module _ = Nowhere
-
-abbrev pub place_of_provision : ProvisionFault → Place
-place_of_provision (provision.Rejected lane status) = LaneStatus lane status
-place_of_provision (provision.StagedDiffers lane) = Lane lane
-place_of_provision (provision.ActiveDiffers lane) = Lane lane
-place_of_provision (provision.ModuleState code) = State code
-place_of_provision (provision.Reserved code) = Code code
-place_of_provision _ = Nowhere
+-- where a fault is that is none of weights
+abbrev pub own_place : Fault → Place
+own_place (fault.Parts count) = Parts count
+own_place (fault.Image (image.BadLine line)) = ImageLine line
+own_place (fault.Image (image.OutOfOrder line)) = ImageLine line
+own_place (fault.Report (report.Unknown identifier)) = Identifier identifier
+own_place (fault.Report (report.Revision revision)) = Revision revision
+own_place (fault.Report (report.Absent key)) = Half key
+own_place (fault.Report (report.Sff (sff.WrongIdentifier identifier))) = Identifier identifier
+own_place (fault.Report (report.Sff (sff.Absent key))) = Half key
+own_place (fault.Report (report.Advert f)) = place_of_advert f
+own_place (fault.Advert f) = place_of_advert f
+own_place (fault.Kept (kept.BadLine line)) = KeptLine line
+own_place (fault.Kept (kept.NotAdmissible number)) = KeptPath number
+own_place (fault.Certificate (certificate.BadLine line)) = CertificateLine line
+own_place (fault.Certificate (certificate.OutOfOrder line)) = CertificateLine line
+own_place (fault.Bad reason.PathNotAllowed number) = Path number
+own_place (fault.Bad reason.LaneTwice number) = Path number
+own_place (fault.Bad reason.NotClosed number) = Entry number
+own_place (fault.Bad reason.TooLow number) = Entry number
+own_place (fault.Bad reason.KeptNotAdmissible number) = KeptPath number
+own_place (fault.Bad reason.KeptMissing number) = KeptPath number
+own_place (fault.Script (script.BadLine line)) = ScriptLine line
+own_place (fault.Module (sim.Absent key)) = Half key
+own_place (fault.Module (sim.ActiveNotPaths lane)) = Lane lane
+own_place (fault.Provision (provision.Rejected lane status)) = LaneStatus lane status
+own_place (fault.Provision (provision.StagedDiffers lane)) = Lane lane
+own_place (fault.Provision (provision.ActiveDiffers lane)) = Lane lane
+own_place (fault.Provision (provision.ModuleState code)) = State code
+own_place (fault.Provision (provision.Reserved code)) = Code code
+own_place _ = Nowhere
 
 -- where a fault is, and of weights this line, if the fault names none
 abbrev pub place_of : Fault → Option ℕ → Place
-place_of (fault.Parts count) line = Parts count
-place_of (fault.Image f) line = place_of_image f
-place_of (fault.Report f) line = place_of_report f
-place_of (fault.Advert f) line = place_of_advert f
 place_of (fault.Weights f) line = place_of_weights f line
-place_of (fault.Kept f) line = place_of_kept f
-place_of (fault.Certificate f) line = place_of_certificate f
-place_of (fault.Bad r number) line = place_of_reason r number
-place_of (fault.Script f) line = place_of_script f
-place_of (fault.Module f) line = place_of_module f
-place_of (fault.Provision f) line = place_of_provision f
-place_of _ line = Nowhere
+place_of f line = own_place f
 
 -- two upper-case digits and `h`
 unfoldable pub byte_text : ℕ → List ℕ

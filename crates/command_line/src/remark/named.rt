@@ -1,14 +1,8 @@
 ghost use Rattle.std.specs.Prelude.{◌≡◌};
-ghost use Rattle.paged_memory.specs.FaultWords.{image_fault_words};
-ghost use Rattle.bus_model.specs.FaultWords.{script_fault_words};
-ghost use Rattle.field_tables.specs.SffFaultWords.{sff_fault_words};
-ghost use Rattle.applications.specs.FaultWords.{advert_fault_words, weights_fault_words};
-ghost use Rattle.plan_certificate.specs.FaultWords.{certificate_fault_words, kept_fault_words, reason_words};
-ghost use Rattle.control_sets.specs.FaultWords.{provision_fault_words};
-ghost use Rattle.sim_module.specs.FaultWords.{sim_fault_words};
-ghost use Rattle.reports.specs.FaultWords.{report_fault_words};
+ghost use Rattle.applications.specs.FaultWords.{advert_fault_words};
+ghost use Rattle.plan_certificate.specs.FaultWords.{reason_words};
 ghost use Rattle.command_line.specs.Faults.{fault_words};
-ghost use Rattle.command_line.specs.Places.{first_word, place_of};
+ghost use Rattle.command_line.specs.Places.{first_word, own_place, place_of};
 ghost use Rattle.command_line.specs.Places as spec;
 
 use super::place::Place;
@@ -69,8 +63,8 @@ fn nowhere(code: &'static str) -> Named
 }
 
 fn of_image(fault: ImageFault) -> Named
-    ensures code { result.code.now ≡ first_word (image_fault_words fault) }
-    ensures place { result.place ≡ spec.place_of_image fault }
+    ensures code { result.code.now ≡ first_word (fault_words (Fault.Image fault)) }
+    ensures place { result.place ≡ own_place (Fault.Image fault) }
 {
     match fault {
         ImageFault::BadHeader => nowhere("IM1"),
@@ -83,8 +77,8 @@ fn of_image(fault: ImageFault) -> Named
 }
 
 fn of_report(fault: ReportFault) -> Named
-    ensures code { result.code.now ≡ first_word (report_fault_words fault) }
-    ensures place { result.place ≡ spec.place_of_report fault }
+    ensures code { result.code.now ≡ first_word (fault_words (Fault.Report fault)) }
+    ensures place { result.place ≡ own_place (Fault.Report fault) }
 {
     match fault {
         ReportFault::Memory => nowhere("memory"),
@@ -99,8 +93,8 @@ fn of_report(fault: ReportFault) -> Named
 }
 
 fn of_sff(fault: SffFault) -> Named
-    ensures code { result.code.now ≡ first_word (sff_fault_words fault) }
-    ensures place { result.place ≡ spec.place_of_sff fault }
+    ensures code { result.code.now ≡ first_word (fault_words (Fault.Report (ReportFault.Sff fault))) }
+    ensures place { result.place ≡ own_place (Fault.Report (ReportFault.Sff fault)) }
 {
     match fault {
         SffFault::WrongIdentifier(identifier) => at("SF1", Place::Identifier(identifier)),
@@ -127,7 +121,7 @@ fn of_advert(fault: AdvertFault) -> Named
 }
 
 fn of_weights(fault: WeightsFault, line: Option<usize>) -> Named
-    ensures code { result.code.now ≡ first_word (weights_fault_words fault) }
+    ensures code { result.code.now ≡ first_word (fault_words (Fault.Weights fault)) }
     ensures place { result.place ≡ spec.place_of_weights fault line }
 {
     let place = match line {
@@ -156,8 +150,8 @@ fn key_of(table: WeightTable, number: u8) -> Place
 }
 
 fn of_kept(fault: KeptFault) -> Named
-    ensures code { result.code.now ≡ first_word (kept_fault_words fault) }
-    ensures place { result.place ≡ spec.place_of_kept fault }
+    ensures code { result.code.now ≡ first_word (fault_words (Fault.Kept fault)) }
+    ensures place { result.place ≡ own_place (Fault.Kept fault) }
 {
     match fault {
         KeptFault::BadLine(line) => at("KP1", Place::KeptLine(line)),
@@ -167,8 +161,8 @@ fn of_kept(fault: KeptFault) -> Named
 }
 
 fn of_certificate(fault: CertificateFault) -> Named
-    ensures code { result.code.now ≡ first_word (certificate_fault_words fault) }
-    ensures place { result.place ≡ spec.place_of_certificate fault }
+    ensures code { result.code.now ≡ first_word (fault_words (Fault.Certificate fault)) }
+    ensures place { result.place ≡ own_place (Fault.Certificate fault) }
 {
     match fault {
         CertificateFault::BadLine(line) => at("CT1", Place::CertificateLine(line)),
@@ -180,7 +174,7 @@ fn of_certificate(fault: CertificateFault) -> Named
 
 fn of_reason(reason: Reason, number: usize) -> Named
     ensures code { result.code.now ≡ first_word (reason_words reason) }
-    ensures place { result.place ≡ spec.place_of_reason reason number }
+    ensures place { result.place ≡ own_place (Fault.Bad reason number) }
 {
     match reason {
         Reason::PathNotAllowed => at("VR1", Place::Path(number)),
@@ -197,8 +191,8 @@ fn of_reason(reason: Reason, number: usize) -> Named
 }
 
 fn of_script(fault: ScriptFault) -> Named
-    ensures code { result.code.now ≡ first_word (script_fault_words fault) }
-    ensures place { result.place ≡ spec.place_of_script fault }
+    ensures code { result.code.now ≡ first_word (fault_words (Fault.Script fault)) }
+    ensures place { result.place ≡ own_place (Fault.Script fault) }
 {
     match fault {
         ScriptFault::BadLine(line) => at("BU3", Place::ScriptLine(line)),
@@ -207,8 +201,8 @@ fn of_script(fault: ScriptFault) -> Named
 }
 
 fn of_module(fault: SimFault) -> Named
-    ensures code { result.code.now ≡ first_word (sim_fault_words fault) }
-    ensures place { result.place ≡ spec.place_of_module fault }
+    ensures code { result.code.now ≡ first_word (fault_words (Fault.Module fault)) }
+    ensures place { result.place ≡ own_place (Fault.Module fault) }
 {
     match fault {
         SimFault::Absent(key) => at("SM1", Place::Half(key)),
@@ -219,8 +213,8 @@ fn of_module(fault: SimFault) -> Named
 }
 
 fn of_provision(fault: ProvisionFault) -> Named
-    ensures code { result.code.now ≡ first_word (provision_fault_words fault) }
-    ensures place { result.place ≡ spec.place_of_provision fault }
+    ensures code { result.code.now ≡ first_word (fault_words (Fault.Provision fault)) }
+    ensures place { result.place ≡ own_place (Fault.Provision fault) }
 {
     match fault {
         ProvisionFault::Rejected(lane, status) => at("PV1", Place::LaneStatus(lane, status)),
