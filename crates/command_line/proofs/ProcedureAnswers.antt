@@ -32,7 +32,7 @@ use Rattle.sim_module.proofs.SoundRuns.{runs_leave_sound}
 use Rattle.command_line.specs.Inputs.{Inputs}
 use Rattle.command_line.specs.PlanningInputs.{IsPlanningRefusal}
 use Rattle.command_line.specs.declared.choice.options.Options.{Options}
-use Rattle.command_line.specs.ProvisionCommand.{Activates, BusProcedure, CarriesOut, IsCarriedOut, IsSetUpRefusal, MakesIf, ModuleBus, Provisions, StepsOrFault, Wakes, control_words, delays, fault_of, line_if, outcome_fault, outcome_lines, outcome_of, active_line, activated_line, provisioned_line, steps_of, told_output, woken_line}
+use Rattle.command_line.specs.ProvisionCommand.{Activates, BusProcedure, CarriesOut, IsCarriedOut, IsSetUpRefusal, MakesIf, ModuleBus, Provisions, StepsOrFault, Wakes, control_words, delays, fault_of, outcome_fault, outcome_of, steps_of, told_output}
 use Rattle.plan_reports.specs.declared.json_procedure.Outcome.{Outcome}
 use Rattle.command_line.proofs.OwnAnswers.{if_known}
 use Rattle.command_line.specs.Sessions.{IsSessionOf}
@@ -69,22 +69,13 @@ bus_with script module' = record { steps = []; room = 3 * most_steps; state = (s
 pub eight_words : (bytes : List ℕ) → length bytes ≡ 8 → control_words bytes
     ≡ encode_lower (slice_index bytes 0 ∷ []) ∷ encode_lower (slice_index bytes 1 ∷ []) ∷ encode_lower (slice_index bytes 2 ∷ []) ∷ encode_lower (slice_index bytes 3 ∷ [])
     ∷ encode_lower (slice_index bytes 4 ∷ []) ∷ encode_lower (slice_index bytes 5 ∷ []) ∷ encode_lower (slice_index bytes 6 ∷ []) ∷ encode_lower (slice_index bytes 7 ∷ []) ∷ []
-eight_words [] is = absurd (omega arith)
-eight_words (a ∷ []) is = absurd (omega arith)
-eight_words (a ∷ b ∷ []) is = absurd (omega arith)
-eight_words (a ∷ b ∷ c ∷ []) is = absurd (omega arith)
-eight_words (a ∷ b ∷ c ∷ d ∷ []) is = absurd (omega arith)
-eight_words (a ∷ b ∷ c ∷ d ∷ e ∷ []) is = absurd (omega arith)
-eight_words (a ∷ b ∷ c ∷ d ∷ e ∷ f ∷ []) is = absurd (omega arith)
-eight_words (a ∷ b ∷ c ∷ d ∷ e ∷ f ∷ g ∷ []) is = absurd (omega arith)
 eight_words (a ∷ b ∷ c ∷ d ∷ e ∷ f ∷ g ∷ h ∷ []) is = refl
-eight_words (a ∷ b ∷ c ∷ d ∷ e ∷ f ∷ g ∷ h ∷ i ∷ rest) is = absurd (omega arith)
+eight_words bytes is = absurd (omega arith)
 
--- the lines one after the other
-pub outcome_text : (old : List ℕ) (outcome : Outcome)
-    → (((old ++ text_of (line_if woken_line outcome.woken)) ++ text_of (line_if provisioned_line outcome.provisioned)) ++ text_of (line_if activated_line outcome.activated)) ++ text_of (line_if active_line outcome.active)
-    ≡ old ++ text_of (outcome_lines outcome)
-outcome_text old outcome = grind (arith, common_steps)
+-- lines one after the other
+pub pushed : (old a b c d : List ℕ) (woken provisioned activated active : List (List ℕ)) → a ≡ old ++ text_of woken → b ≡ a ++ text_of provisioned → c ≡ b ++ text_of activated → d ≡ c ++ text_of active
+    → d ≡ old ++ text_of (woken ++ provisioned ++ activated ++ active)
+pushed old a b c d woken provisioned activated active first second third last = grind (arith, common_steps)
 
 -- what is told, by what the bus has
 pub told_as : (json traced : Bool) (bus : ModuleBus) (results : ProcedureResults) (text active : List ℕ) (steps : List Step) (outcome : Outcome) (ended : Option ProvisionFault)

@@ -120,14 +120,9 @@ pub record CarriesOut (wake activate : Bool) (advert : Advertised) (paths kept :
   pub active : IfSome (steps_of results.provisioned) (λ steps. active_bytes provisioned.state.1 ≡ control_bytes advert paths)
   pub still_active : IfSome (steps_of results.provisioned) (λ steps. active_bytes after.state.1 ≡ control_bytes advert paths)
 
-unfoldable pub woken_line : ℕ → List ℕ
-woken_line steps = spaced (codes "woken" ∷ decimal steps ∷ [])
-
-unfoldable pub provisioned_line : ℕ → List ℕ
-provisioned_line steps = spaced (codes "provisioned" ∷ decimal steps ∷ [])
-
-unfoldable pub activated_line : ℕ → List ℕ
-activated_line steps = spaced (codes "activated" ∷ decimal steps ∷ [])
+-- what was done, and in how many steps
+unfoldable pub steps_line : List ℕ → ℕ → List ℕ
+steps_line done steps = spaced (done ∷ decimal steps ∷ [])
 
 -- the control bytes in lower-case hexadecimal, lane 1 first
 abbrev pub control_words : List ℕ → List (List ℕ)
@@ -160,7 +155,9 @@ line_if line None = []
 line_if line (Some told) = line told ∷ []
 
 abbrev pub outcome_lines : Outcome → List (List ℕ)
-outcome_lines outcome = line_if woken_line outcome.woken ++ line_if provisioned_line outcome.provisioned ++ line_if activated_line outcome.activated ++ line_if active_line outcome.active
+outcome_lines outcome =
+    line_if (steps_line (codes "woken")) outcome.woken ++ line_if (steps_line (codes "provisioned")) outcome.provisioned
+    ++ line_if (steps_line (codes "activated")) outcome.activated ++ line_if active_line outcome.active
 
 -- the steps stand first, if they are shown
 abbrev pub steps_lines : Bool → List Step → List (List ℕ)

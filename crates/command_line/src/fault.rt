@@ -162,14 +162,6 @@ impl From<KeptFault> for Fault {
     }
 }
 
-impl From<CertificateFault> for Fault {
-    ghost from_gives = { λ refused given. given ≡ fault.Certificate refused };
-
-    fn from(fault: CertificateFault) -> Fault {
-        Fault::Certificate(fault)
-    }
-}
-
 impl From<ScriptFault> for Fault {
     ghost from_gives = { λ refused given. given ≡ fault.Script refused };
 

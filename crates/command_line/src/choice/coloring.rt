@@ -1,6 +1,6 @@
 //! Whether a report is printed in colors.
 ghost use Rattle.std.specs.Prelude.{◌≡◌, option_map, MatchResult};
-ghost use Rattle.command_line.specs.Coloring.{coloring_by, coloring_named, on_screen, shown_as};
+ghost use Rattle.command_line.specs.Coloring.{coloring_by, on_screen, shown_as};
 ghost use Rattle.terminal_text.specs.Colors.{colored};
 
 use super::word_fault::WordFault;
@@ -40,15 +40,8 @@ impl Coloring {
         ensures { MatchResult result (λ shown. shown.items ≡ shown_as self is_json text.items) (λ f. f ≡ ReportFault.Memory) }
     {
         match self {
-            Coloring::Always => {
-                if is_json {
-                    Ok(text)
-                } else {
-                    in_colors(alloc, &text)
-                }
-            }
-            Coloring::Auto => Ok(text),
-            Coloring::Never => Ok(text),
+            Coloring::Always if !is_json => in_colors(alloc, &text),
+            _ => Ok(text),
         }
     }
 }
@@ -64,21 +57,10 @@ pub fn coloring_by(word: Option<&str>) -> Result<Coloring, WordFault>
     ensures { result ≡ coloring_by (option_map (λ word. word.now) word.entry) }
 {
     match word {
-        Some(word) => coloring_named(word),
         None => Ok(Coloring::Auto),
-    }
-}
-
-fn coloring_named(word: &str) -> Result<Coloring, WordFault>
-    ensures { result ≡ coloring_named word.now }
-{
-    if word == "auto" {
-        Ok(Coloring::Auto)
-    } else if word == "always" {
-        Ok(Coloring::Always)
-    } else if word == "never" {
-        Ok(Coloring::Never)
-    } else {
-        Err(WordFault::Color)
+        Some("auto") => Ok(Coloring::Auto),
+        Some("always") => Ok(Coloring::Always),
+        Some("never") => Ok(Coloring::Never),
+        Some(_) => Err(WordFault::Color),
     }
 }

@@ -26,10 +26,7 @@ impl GivenFlags for ArgMatches<'_> {
     ghost gives = { λ given flag. is_given flag (rows_of (found_of given)) };
 
     fn is_given(&self, flag: &str) -> bool {
-        match word_after(self, flag) {
-            Some(value) => value == "true",
-            None => false,
-        }
+        word_after(self, flag).is_some_and(|value| value == "true")
     }
 }
 
@@ -118,13 +115,8 @@ fn all_by(word: Option<&str>) -> Result<bool, WordFault>
     ensures { result ≡ all_by (option_map (λ word. word.now) word.entry) }
 {
     match word {
-        Some(word) => {
-            if word == "all" {
-                Ok(true)
-            } else {
-                Err(WordFault::Flags)
-            }
-        }
+        Some("all") => Ok(true),
+        Some(_) => Err(WordFault::Flags),
         None => Ok(false),
     }
 }

@@ -72,10 +72,7 @@ fn is_switch(flags: &[Flag], word: &str) -> bool
 fn takes_nothing(takes: Takes) -> bool
     ensures { result ≡ spec.takes_nothing takes }
 {
-    match takes {
-        Takes::Nothing => true,
-        Takes::Word | Takes::Words => false,
-    }
+    matches!(takes, Takes::Nothing)
 }
 
 fn has_word(words: &[String], word: &str) -> bool

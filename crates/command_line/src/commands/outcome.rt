@@ -1,9 +1,7 @@
 // How procedures ended, and what is told of that.
-ghost use Rattle.std.specs.Prelude.{◌≡◌, ◌++◌, ◌∷◌, [], OnOk, map, length, ◌≤◌};
-ghost use Rattle.std.specs.Fmt.{decimal};
+ghost use Rattle.std.specs.Prelude.{◌≡◌, ◌++◌, OnOk, length, ◌≤◌};
 ghost use Rattle.text_lines.specs.Lines.{text_of};
-ghost use Rattle.text_lines.specs.Words.{spaced};
-ghost use Rattle.command_line.specs.ProvisionCommand.{active_line, active_unless, activated_line, fault_of, line_if, outcome_fault, outcome_lines, outcome_of, provisioned_line, steps_of, woken_line};
+ghost use Rattle.command_line.specs.ProvisionCommand.{active_line, active_unless, fault_of, line_if, outcome_fault, outcome_lines, outcome_of, steps_line, steps_of};
 
 use control_sets::{ControlSet, ProvisionFault};
 use plan_reports::Outcome;
@@ -22,20 +20,14 @@ pub struct ProcedureResults {
 pub fn steps_of(ended: Option<Result<u16, ProvisionFault>>) -> Option<u16>
     ensures { result ≡ steps_of ended }
 {
-    match ended {
-        Some(Ok(steps)) => Some(steps),
-        Some(Err(_)) | None => None,
-    }
+    ended?.ok()
 }
 
 /// The fault of one that was made and failed.
 pub fn fault_of(ended: Option<Result<u16, ProvisionFault>>) -> Option<ProvisionFault>
     ensures { result ≡ fault_of ended }
 {
-    match ended {
-        Some(Err(fault)) => Some(fault),
-        Some(Ok(_)) | None => None,
-    }
+    ended?.err()
 }
 
 /// The fault of the one that failed, after which none is made.
@@ -72,48 +64,21 @@ fn active_unless(fault: Option<ProvisionFault>, active: ControlSet) -> Option<Co
 pub fn push_outcome(text: &mut Vec<u8>, outcome: Outcome) -> Result<(), AllocError>
     ensures { OnOk result (text.new.items ≡ text.old.items ++ text_of (outcome_lines outcome)) }
 {
-    push_woken(text, outcome.woken)?;
-    push_provisioned(text, outcome.provisioned)?;
-    push_activated(text, outcome.activated)?;
+    push_steps(text, "woken", outcome.woken)?;
+    push_steps(text, "provisioned", outcome.provisioned)?;
+    push_steps(text, "activated", outcome.activated)?;
     push_active(text, outcome.active)?;
     Ok(())
 }
 
-#[tactic(auto, unfolding(crate::specs::ProvisionCommand::woken_line))]
-fn push_woken(text: &mut Vec<u8>, steps: Option<u16>) -> Result<(), AllocError>
-    ensures { OnOk result (text.new.items ≡ text.old.items ++ text_of (line_if woken_line steps)) }
-{
-    match steps {
-        Some(steps) => push_steps(text, "woken", steps),
-        None => Ok(()),
-    }
-}
-
-#[tactic(auto, unfolding(crate::specs::ProvisionCommand::provisioned_line))]
-fn push_provisioned(text: &mut Vec<u8>, steps: Option<u16>) -> Result<(), AllocError>
-    ensures { OnOk result (text.new.items ≡ text.old.items ++ text_of (line_if provisioned_line steps)) }
-{
-    match steps {
-        Some(steps) => push_steps(text, "provisioned", steps),
-        None => Ok(()),
-    }
-}
-
-#[tactic(auto, unfolding(crate::specs::ProvisionCommand::activated_line))]
-fn push_activated(text: &mut Vec<u8>, steps: Option<u16>) -> Result<(), AllocError>
-    ensures { OnOk result (text.new.items ≡ text.old.items ++ text_of (line_if activated_line steps)) }
-{
-    match steps {
-        Some(steps) => push_steps(text, "activated", steps),
-        None => Ok(()),
-    }
-}
-
-fn push_steps(text: &mut Vec<u8>, word: &str, steps: u16) -> Result<(), AllocError>
+#[tactic(auto, unfolding(crate::specs::ProvisionCommand::steps_line))]
+fn push_steps(text: &mut Vec<u8>, word: &str, steps: Option<u16>) -> Result<(), AllocError>
     requires { length word.now ≤ 20 }
-    ensures { OnOk result (text.new.items
-        ≡ text.old.items ++ text_of (spaced (word.now ∷ decimal steps ∷ []) ∷ [])) }
+    ensures { OnOk result (text.new.items ≡ text.old.items ++ text_of (line_if (steps_line word.now) steps)) }
 {
+    let Some(steps) = steps else {
+        return Ok(());
+    };
     let line = usize::from(steps).to_words().line_after(word);
     text.extend_from_slice(line.as_slice())
 }
