@@ -18,6 +18,7 @@ pub mod OwnPatience
 pub mod OwnLanes
 pub mod OwnWaking
 pub mod OwnLower
+pub mod ShownAdverts
 pub mod OwnAdverts
 pub mod OwnHalves
 pub mod OwnFetches

@@ -29,7 +29,8 @@ use Rattle.applications.specs.declared.conventions.Conventions.{Conventions}
 use Rattle.applications.specs.declared.fault.AdvertFault.{AdvertFault}
 use Rattle.applications.specs.declared.fault.AdvertFault.TheVariants.{Absent, NotCmis, Revision, NotEightLanes, FlatMemory, BadSum}
 use Rattle.applications.specs.ActiveSets.{active_in, nothing_active}
-use Rattle.applications.specs.Advertised.{advertised_under, with_active, with_counts, with_pairing}
+use Rattle.applications.specs.Advertised.{advertised_under, with_counts, with_pairing}
+use Rattle.managed_module.proofs.ShownAdverts.{with_active}
 use Rattle.applications.specs.Descriptors.{app_at, apps_of, described, is_listed}
 use Rattle.applications.specs.Refusals.{active_reasons, advert_fault, advert_fault_under, is_read_revision, module_reasons, page_reasons}
 use Rattle.managed_module.proofs.OwnLower.{HasLower, lower_number, plain_in, same_half}

@@ -10,7 +10,8 @@ use Rattle.field_tables.specs.Readings.{number}
 use Rattle.field_tables.proofs.TrueTests.{range_passes}
 use Rattle.paged_memory.specs.Images.{Memory}
 use Rattle.applications.specs.ActiveSets.{active_in}
-use Rattle.applications.specs.Advertised.{Advertised, with_active}
+use Rattle.applications.specs.Advertised.{Advertised}
+use Rattle.managed_module.proofs.ShownAdverts.{with_active}
 use Rattle.applications.specs.declared.fault.AdvertFault.{AdvertFault}
 use Rattle.control_sets.specs.Durations.{lasts, limit_after, longest_of, patience_for, pause_after, states_of}
 use Rattle.port_manager.specs.declared.deciding.Decision.{Decision}

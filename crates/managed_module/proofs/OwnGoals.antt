@@ -8,7 +8,8 @@ use Rattle.std.proofs.lemmas.List.Folds.{Any-from_list_any}
 use Rattle.field_tables.specs.LaneSets.{IsLane, Lanes}
 use Rattle.field_tables.proofs.TrueTests.{in_range}
 use Rattle.applications.specs.declared.active.ActiveSet.{ActiveSet}
-use Rattle.applications.specs.Advertised.{Advertised, with_active}
+use Rattle.applications.specs.Advertised.{Advertised}
+use Rattle.managed_module.proofs.ShownAdverts.{with_active}
 use Rattle.plan_certificate.specs.declared.path.Path.{Path}
 use Rattle.plan_certificate.specs.Paths.{app_of, host_lanes, is_allowed}
 use Rattle.plan_certificate.specs.Plans.{IsAdmissible, are_apart}

@@ -1,7 +1,8 @@
 -- On a module that suits what is wanted no reading fails, the module isn't woken up in vain, and it isn't left alone: what follows each
 -- operation.
 use Rattle.applications.specs.ActiveSets.{active_in}
-use Rattle.applications.specs.Advertised.{Advertised, with_active, advertised_under}
+use Rattle.applications.specs.Advertised.{Advertised, advertised_under}
+use Rattle.managed_module.proofs.ShownAdverts.{with_active}
 use Rattle.plan_certificate.specs.Plans.{IsAdmissible}
 use Rattle.control_sets.specs.ControlBytes.{control_bytes}
 use Rattle.port_manager.specs.declared.turn.Note.TheVariants as notes

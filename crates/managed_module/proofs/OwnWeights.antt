@@ -14,7 +14,8 @@ use Rattle.field_tables.specs.LaneBytes.{contains-run_of}
 use Rattle.field_tables.specs.LaneSets.{IsLane, Lanes, every_lane, is_disjoint, is_empty}
 use Rattle.applications.specs.declared.active.ActiveSet.{ActiveSet}
 use Rattle.applications.specs.declared.app.App.{App}
-use Rattle.applications.specs.Advertised.{Advertised, with_active}
+use Rattle.applications.specs.Advertised.{Advertised}
+use Rattle.managed_module.proofs.ShownAdverts.{with_active}
 use Rattle.applications.specs.AppWeights.{PathWeights, app_weight, app_weights, weight_from, weight_of_number}
 use Rattle.applications.specs.Weights.{ListedWeights, weight_at, weights_of_hosts}
 use Rattle.plan_certificate.specs.declared.path.Path.{Path}
