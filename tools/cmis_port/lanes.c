@@ -4,7 +4,7 @@
 #include <string.h>
 
 /* By what the words on the command line permit. Lanes that came up by waking may go down again. */
-struct dovecounter_effect judge(const struct port *port) {
+struct dovecounter_effect judge_control(const struct port *port) {
     bool may_go_down = port->force || port->ensure || port->steps[WAKE] != 0;
     struct dovecounter_effect effect = {.hindrance = DOVECOUNTER_OTHER_STATE}; /* if there was nothing to judge */
     struct dovecounter_change change = {.lanes = port->plan.lanes,
@@ -17,6 +17,13 @@ struct dovecounter_effect judge(const struct port *port) {
                                         .may_have_no_path = port->force};
     memcpy(change.control, port->plan.control, sizeof change.control);
     dovecounter_judge(port->halves, port->half_count, &change, &effect);
+    return effect;
+}
+
+/* With settings, neither is the plan active nor is all done before these are active too. */
+struct dovecounter_effect judge(const struct port *port) {
+    struct dovecounter_effect effect = judge_control(port);
+    if (port->is_tuned && !has_tuned(port)) effect.is_active = effect.is_done = 0;
     return effect;
 }
 

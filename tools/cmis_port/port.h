@@ -141,6 +141,7 @@ bool has_tuned(const struct port *port);
 unsigned provision_tuned(struct port *port);
 
 /* lanes.c */
+struct dovecounter_effect judge_control(const struct port *port);
 struct dovecounter_effect judge(const struct port *port);
 enum status status_by(const struct dovecounter_effect *effect);
 void say_lanes(FILE *out, const char *before, unsigned lanes, const char *after);

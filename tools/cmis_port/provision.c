@@ -139,8 +139,7 @@ static bool put_in(struct port *port) {
         if (port->ending != GOES_ON || !read_lanes(port)) return false;
         struct dovecounter_effect effect = judge(port);
         if (status_by(&effect) != DONE) return false;
-        if (effect.is_active && (!port->is_tuned || has_tuned(port)))
-            return warnx("%s: the plan is active now", port->bus.name), true;
+        if (effect.is_active) return warnx("%s: the plan is active now", port->bus.name), true;
         if (times < 2) warnx("%s: provisioning begins again", port->bus.name);
     }
     return false;
@@ -151,7 +150,7 @@ static bool put_in(struct port *port) {
 static enum status say_what_is_held(struct port *port, bool done) {
     bool known = port->ending != SILENT && read_lanes(port), ready = known && state_of(port) == READY;
     struct dovecounter_effect effect = known ? judge(port) : (struct dovecounter_effect){0};
-    bool finished = ready && effect.is_done && (!port->is_tuned || has_tuned(port));
+    bool finished = ready && effect.is_done;
     if (effect.is_active && port->steps[PROVISION] != 0) printf("provisioned %u\n", port->steps[PROVISION]);
     if (finished && port->steps[ACTIVATE] != 0) printf("activated %u\n", port->steps[ACTIVATE]);
     if (known)
@@ -171,15 +170,14 @@ enum status provision(struct port *port) {
     print_plan(port);
     struct dovecounter_effect effect = judge(port);
     enum status status = status_by(&effect);
-    bool is_done = effect.is_done && (!port->is_tuned || has_tuned(port));
-    if (status != DONE || is_done) {
+    if (status != DONE || effect.is_done) {
         if (status == DONE) puts("provision has nothing to do");
         print_held(port);
         if (status != DONE) say_hindrance(stderr, "cmis-port:", &effect);
         return status;
     }
     print_now(port);
-    bool done = wake_up(port) && ((judge(port).is_active && (!port->is_tuned || has_tuned(port))) || put_in(port));
-    done = done && (!port->activate || judge(port).is_done || carry_out(port, ACTIVATE) == 0);
+    bool done = wake_up(port) && (judge(port).is_active || put_in(port));
+    done = done && (!port->activate || judge_control(port).is_done || carry_out(port, ACTIVATE) == 0);
     return say_what_is_held(port, done);
 }

@@ -266,7 +266,7 @@ bool has_tuned(const struct port *port) {
 
 /* The lanes that are taken. If the plan's control bytes are active, settings are applied to those that are down, which stay so. */
 static uint8_t taken_lanes(const struct port *port) {
-    const struct dovecounter_effect effect = judge(port);
+    const struct dovecounter_effect effect = judge_control(port);
     return effect.is_active ? (uint8_t)lanes_in(port, DEACTIVATED) : effect.taken;
 }
 
