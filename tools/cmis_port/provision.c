@@ -178,6 +178,7 @@ enum status provision(struct port *port) {
     }
     print_now(port);
     bool done = wake_up(port) && (judge(port).is_active || put_in(port));
+    /* lanes that were up with the plan's control bytes need no activation, whatever settings they had */
     done = done && (!port->activate || judge_control(port).is_done || carry_out(port, ACTIVATE) == 0);
     return say_what_is_held(port, done);
 }
