@@ -15,7 +15,8 @@ PARTS = ("src", "specs", "proofs")
 RUNNING = set()
 PROOF_FILES = ("Invariants.antt", "Answers.antt", "Proof.antt")
 # where a check keeps what it has checked, for the next one; and where it can't: then it doesn't prove a second time what failed, to offer
-# the lines of proof files, which nobody reads here and which takes a sixth of a round
+# the lines of proof files, which nobody reads here and which takes a sixth of a round. Over a library that was built over kept work, as by
+# `rt lib`, a check that can keep nothing can't take the library's modules
 KEPT, NOWHERE = "out/incremental", "/proc/nowhere"
 OPEN_PROOF = """use Rattle.{crate}.proofs.{path}.Statement.{{statement}}
 
@@ -55,6 +56,10 @@ class Libraries:
         """Keeps a library, by links, if there is one."""
         if os.path.isdir(built_library(name)) and not os.path.isdir(self.path(name)):
             shutil.copytree(built_library(name), self.path(name), copy_function=link)
+
+    def is_over_kept(self, name):
+        """Whether a library was built over kept work."""
+        return re.search("^incremental$", read(f"{self.path(name)}/format"), re.M)
 
     def functions(self, name):
         """The functions of a library, by their paths, as it has them for what is linked; none of a crate that has no library."""
@@ -188,7 +193,8 @@ class Copy:
         own = {path: read(f"{self.folder}/{path}") for path in texts}
         self.write(texts)
         # most crates have one round; those that follow it are of few edits, over what the first of them keeps
-        said = self.said(["--allow-holes", *(word for it in sorted(functions) for word in ("--only", it))], KEPT if self.checks else NOWHERE)
+        keeps = self.checks or any(map(self.libraries.is_over_kept, below(self.name)))
+        said = self.said(["--allow-holes", *(word for it in sorted(functions) for word in ("--only", it))], KEPT if keeps else NOWHERE)
         self.write(own)
         for it in functions - twins.keys():
             self.leave_open(it)

@@ -1,140 +1,105 @@
 -- The members of a table of weights, read one after the other.
-use Rattle.std.proofs.Common.{◌≡◌, ◌≢◌, ℕ, ◌^◌, ◌<◌, Bool, true, false, ◌==◌, List, [], ◌∷◌, ◌++◌, length, Option, Some, None, is_none, nat_lt, pos, unwrap_or, get_or, set, arith, refl, sym, ap, inl, inr, ◌∙◌, append_assoc, append-nil, get_or-set_same, get_or-set_other}
-use Rattle.std.proofs.Math.Bool.{or-false}
-use Rattle.std.proofs.lemmas.Bool.{cases_eq, cond_both, eq-eqb, ltb-true, ne_eqb, or_parts, or_right}
-use Rattle.std.proofs.lemmas.List.{get_or-replicate}
+use Rattle.std.proofs.Common.{◌≡◌, ℕ, ◌^◌, ◌<◌, Bool, true, false, ◌==◌, ◌||◌, cond, List, [], ◌∷◌, length, Option, Some, None, nat_lt, pos, unwrap_or, get_or, set, arith, refl, sym, subst, ap, ◌∙◌}
+use Rattle.std.proofs.lemmas.Bool.{cond_both, eq-eqb, eqb-false, eqb-true, ltb-true, or_parts}
+use Rattle.std.proofs.lemmas.Grind.{get_or-set_at}
+use Rattle.std.proofs.lemmas.List.{get_or-replicate, get_or-set_other}
 use Rattle.std.proofs.lemmas.List.Elements.{All-map}
-use Rattle.std.proofs.lemmas.List.Folds.{find-append, list_any-append}
 use Rattle.std.proofs.lemmas.List.FromFn.{fill_by_all, length-map-range_with_len}
 use Rattle.std.proofs.Math.ListN.{length-replicate, length-set, replicate}
 use Rattle.std.specs.List.{find, range_with_len}
-use Rattle.std.specs.Option.{option_map_or, option_or}
+use Rattle.std.specs.Option.{option_map_or}
 use Rattle.toml.specs.Data.{Data}
 use Rattle.toml.specs.Data as toml
-use Rattle.field_tables.specs.FirstFault.{first_fault}
-use Rattle.applications.specs.declared.weights.fault.WeightsFault.{WeightsFault}
+use Rattle.applications.specs.declared.weights.fault.WeightsFault.TheVariants.{BadKey, SameKeyTwice, BadWeight}
 use Rattle.applications.specs.Weights.{IsTableWeights}
 use Rattle.applications.specs.declared.weights.table.WeightTable.{WeightTable}
 use Rattle.applications.specs.WeightKeys.{named_by}
-use Rattle.applications.specs.WeightTables.{Member, is_of, number_of, weight_in, weight_of, weight_of_value, weights_of}
-use Rattle.applications.specs.WeightFaults.{faults_after, is_listed, member_faults}
+use Rattle.applications.specs.WeightTables.{Member, is_of, weight_in, weight_of, weight_of_value, weights_of}
+use Rattle.applications.specs.WeightFaults.{fault_after, is_listed}
 
-or_none : (found : Option Member) → option_map_or weight_of (option_or found None) 0 ≡ option_map_or weight_of found 0
-or_none None = refl
-or_none (Some member) = refl
-
--- where there is no fault, each test fails
-no_fault : (a b c : Bool) (f g h : WeightsFault) → first_fault ((a, f) ∷ (b, g) ∷ (c, h) ∷ []) ≡ None → (a ≡ false) × (b ≡ false) × (c ≡ false)
-no_fault a b c f g h e = grind arith
-
-pub first_fault-append : (xs ys : List (Bool × WeightsFault)) → first_fault (xs ++ ys) ≡ option_or (first_fault xs) (first_fault ys)
-first_fault-append [] ys = refl
-first_fault-append ((true, f) ∷ xs) ys = refl
-first_fault-append ((false, f) ∷ xs) ys = first_fault-append xs ys
-
--- a member whose key names something is of that alone
-named_alone : (named : Option ℕ) (number : ℕ) → is_none named ≡ false → option_map_or (λ id. id == number) named false ≡ (unwrap_or named 0 == number)
-named_alone None number e = absurd (cc)
-named_alone (Some id) number e = refl
-
-is_of-other : (table : WeightTable) (member : Member) (number : ℕ) → is_none (named_by table member.0) ≡ false → number ≢ number_of table member → is_of table number member ≡ false
-is_of-other table member number e other = named_alone (named_by table member.0) number e ∙ ne_eqb (number_of table member) number (λ same. other (sym same))
-
-find-unlisted : (table : WeightTable) (members : List Member) (number : ℕ) → is_listed table members number ≡ false → find (is_of table number) members ≡ None
-find-unlisted table [] number e = refl
-find-unlisted table (member ∷ rest) number e =
-    let parts = or_parts (is_of table number member) (is_listed table rest number) e in
-    rw parts.0 (find-unlisted table rest number parts.1)
-
--- what members list with one more at their end
-listed_last : (table : WeightTable) (before : List Member) (member : Member) (number : ℕ) → is_of table number member ≡ true → is_listed table (before ++ member ∷ []) number ≡ true
-listed_last table before member number e = list_any-append (is_of table number) before (member ∷ []) ∙ rw e (or_right (is_listed table before number) true refl)
-
-listed_before : (table : WeightTable) (before : List Member) (member : Member) (number : ℕ) → is_of table number member ≡ false → is_listed table (before ++ member ∷ []) number ≡ is_listed table before number
-listed_before table before member number e = list_any-append (is_of table number) before (member ∷ []) ∙ rw e (or-false (is_listed table before number))
-
-weight_last : (table : WeightTable) (before : List Member) (member : Member) (number : ℕ) → is_listed table before number ≡ false → is_of table number member ≡ true → weight_in table (before ++ member ∷ []) number ≡ weight_of member
-unfolding weight_in
-weight_last table before member number unlisted e =
-    ap (λ (found : Option Member). option_map_or weight_of found 0) (find-append (is_of table number) before (member ∷ [])) ∙ rw (find-unlisted table before number unlisted, e) refl
-
-weight_before : (table : WeightTable) (before : List Member) (member : Member) (number : ℕ) → is_of table number member ≡ false → weight_in table (before ++ member ∷ []) number ≡ weight_in table before number
-unfolding weight_in
-weight_before table before member number e =
-    ap (λ (found : Option Member). option_map_or weight_of found 0) (find-append (is_of table number) before (member ∷ [])) ∙ rw e (or_none (find (is_of table number) before))
-
--- These members are read, some are left, and two lists say by what keys name what was read.
+-- These members are read, of which the newest stands first, and some are left; two lists say by numbers what was read.
 pub record Reads (table : WeightTable) (all rest : List Member) (weights : List ℕ) (listed : List Bool) : Type 0 where
   pub before : List Member
-  pub all_are : all ≡ before ++ rest
-  pub fault_is : first_fault (faults_after table [] all) ≡ first_fault (faults_after table before rest)
-  pub weigh : (number : ℕ) → number < 256 → get_or weights number 0 ≡ weight_in table before number
+  pub fault_is : fault_after table [] all ≡ fault_after table before rest
   pub list : (number : ℕ) → number < 256 → get_or listed number false ≡ is_listed table before number
+  pub weigh : (number : ℕ) → number < 256 → get_or weights number 0 ≡ cond (is_listed table before number) (weight_in table all number) 0
+  pub left : (number : ℕ) → is_listed table before number ≡ false → weight_in table rest number ≡ weight_in table all number
   pub weights_room : length weights ≡ 256
   pub listed_room : length listed ≡ 256
 
--- the first fault is that of the next member, or of those after it
-next_fault : (table : WeightTable) (all rest : List Member) (weights : List ℕ) (listed : List Bool) (member : Member) (reads : Reads table all (member ∷ rest) weights listed) → number_of table member < 256
-    → first_fault (faults_after table [] all)
-    ≡ option_or (first_fault (member_faults table (λ number. get_or listed number false) member)) (first_fault (faults_after table (reads.before ++ member ∷ []) rest))
-next_fault table all rest weights listed member reads below =
-    rw (reads.list (number_of table member) below)
-    (reads.fault_is ∙ first_fault-append (member_faults table (is_listed table reads.before) member) (faults_after table (reads.before ++ member ∷ []) rest))
-
 pub reads_start : (table : WeightTable) (all : List Member) → Reads table all all (replicate 256 0) (replicate 256 false)
-unfolding weight_in
 reads_start table all = record {
   before = [];
-  all_are = refl;
   fault_is = refl;
-  weigh = λ number below. get_or-replicate 256 number 0 0 below;
   list = λ number below. get_or-replicate 256 number false false below;
+  weigh = λ number below. get_or-replicate 256 number 0 0 below;
+  left = λ number unlisted. refl;
   weights_room = length-replicate {A = ℕ} 256 0;
   listed_room = length-replicate {A = Bool} 256 false;
 }
 
--- a member that is read
-pub reads_more : (table : WeightTable) (all rest : List Member) (weights : List ℕ) (listed : List Bool) (member : Member) → Reads table all (member ∷ rest) weights listed → number_of table member < 256
-    → first_fault (member_faults table (λ number. get_or listed number false) member) ≡ None
-    → Reads table all rest (set weights (number_of table member) (weight_of member)) (set listed (number_of table member) true)
-reads_more table all rest weights listed member reads below none =
-    let before = reads.before in
-    let number = number_of table member in
-    let parts = no_fault (is_none (named_by table member.0)) (get_or listed number false) (is_none (weight_of_value member.1)) _ _ _ none in
-    let new : is_listed table before number ≡ false = sym (reads.list number below) ∙ parts.1 in
-    let here : is_of table number member ≡ true = named_alone (named_by table member.0) number parts.0 ∙ eq-eqb number number refl in
-    record {
-      before = before ++ member ∷ [];
-      all_are = reads.all_are ∙ sym (append_assoc before (member ∷ []) rest);
-      fault_is = next_fault table all rest weights listed member reads below ∙ rw none refl;
-      weigh = λ q q_below.
-          elim (cases_eq q number) [
-            | inl same ↦
-                rw same (get_or-set_same weights number (weight_of member) 0 (rw reads.weights_room below) ∙ sym (weight_last table before member number new here))
-            | inr other ↦
-                get_or-set_other weights number q (weight_of member) 0 other ∙ reads.weigh q q_below ∙ sym (weight_before table before member q (is_of-other table member q parts.0 other))
-          ];
-      list = λ q q_below.
-          elim (cases_eq q number) [
-            | inl same ↦ rw same (get_or-set_same listed number true false (rw reads.listed_room below) ∙ sym (listed_last table before member number here))
-            | inr other ↦
-                get_or-set_other listed number q true false other ∙ reads.list q q_below ∙ sym (listed_before table before member q (is_of-other table member q parts.0 other))
-          ];
-      weights_room = length-set weights number (weight_of member) ∙ reads.weights_room;
-      listed_room = length-set listed number true ∙ reads.listed_room;
-    }
+set_at : {X : Type 0} (xs : List X) (i j : ℕ) (y d : X) → i < length xs → get_or (set xs i y) j d ≡ cond (i == j) y (get_or xs j d)
+set_at xs i j y d within =
+    cond_both (i == j) y (get_or xs j d) (λ e. get_or (set xs i y) j d ≡ e) (λ same. get_or-set_at xs i j y d (sym (eqb-true i j same)) within)
+    (λ differs. get_or-set_other xs i j y d (λ same. eqb-false i j differs (sym same)))
 
--- a member that has a fault
-pub reads_fault : (table : WeightTable) (all rest : List Member) (weights : List ℕ) (listed : List Bool) (member : Member) (fault : WeightsFault) → Reads table all (member ∷ rest) weights listed → number_of table member < 256
-    → first_fault (member_faults table (λ number. get_or listed number false) member) ≡ Some fault → first_fault (faults_after table [] all) ≡ Some fault
-reads_fault table all rest weights listed member fault reads below some = next_fault table all rest weights listed member reads below ∙ rw some refl
+true_or : (here before : Bool) → cond here true before ≡ (here || before)
+true_or true before = refl
+true_or false before = refl
+
+weighs_more : (here before : Bool) (weight whole : ℕ) → (here ≡ true → weight ≡ whole) → cond here weight (cond before whole 0) ≡ cond (here || before) whole 0
+weighs_more true before weight whole same = same refl
+weighs_more false before weight whole same = refl
+
+module _ (table : WeightTable) (all rest : List Member) (weights : List ℕ) (listed : List Bool) (member : Member) (reads : Reads table all (member ∷ rest) weights listed) where
+  pub bad_key : named_by table member.0 ≡ None → fault_after table [] all ≡ Some (BadKey table)
+  bad_key unnamed = reads.fault_is ∙ rw unnamed refl
+
+  module _ (number : ℕ) (named : named_by table member.0 ≡ Some number) (below : number < 256) where
+    pub same_key_twice : get_or listed number false ≡ true → fault_after table [] all ≡ Some (SameKeyTwice table number)
+    same_key_twice twice = reads.fault_is ∙ rw (named, sym (reads.list number below) ∙ twice) refl
+
+    module _ (new : get_or listed number false ≡ false) where
+      pub bad_weight : weight_of_value member.1 ≡ None → fault_after table [] all ≡ Some (BadWeight table number)
+      bad_weight unweighed = reads.fault_is ∙ rw (named, sym (reads.list number below) ∙ new, unweighed) refl
+
+      pub reads_more : (weight : ℕ) → weight_of_value member.1 ≡ Some weight → Reads table all rest (set weights number weight) (set listed number true)
+      unfolding weight_in
+      reads_more weight weighed =
+          let before = reads.before in
+          let unlisted : is_listed table before number ≡ false = sym (reads.list number below) ∙ new in
+          let names : (other : ℕ) → is_of table other member ≡ (number == other) = λ other. rw named refl in
+          let first : weight_in table (member ∷ rest) number ≡ weight = rw (names number, eq-eqb number number refl, weighed) refl in
+          record {
+            before = member ∷ before;
+            fault_is = reads.fault_is ∙ rw (named, unlisted, weighed) refl;
+            list = λ other within.
+                set_at listed number other true false (omega (arith, reads.listed_room)) ∙ ap (cond (number == other) true) (reads.list other within)
+                ∙ true_or (number == other) (is_listed table before other)
+                ∙ ap (λ (here : Bool). here || is_listed table before other) (sym (names other));
+            weigh = λ other within.
+                set_at weights number other weight 0 (omega (arith, reads.weights_room)) ∙ ap (cond (number == other) weight) (reads.weigh other within)
+                ∙ weighs_more (number == other) (is_listed table before other) weight (weight_in table all other)
+                (λ same. let e : number ≡ other = eqb-true number other same in subst (λ (n : ℕ). weight ≡ weight_in table all n) e (sym first ∙ reads.left number unlisted))
+                ∙ ap (λ (here : Bool). cond (here || is_listed table before other) (weight_in table all other) 0) (sym (names other));
+            left = λ other absent.
+                let parts = or_parts (is_of table other member) (is_listed table before other) absent in
+                let past : weight_in table (member ∷ rest) other ≡ weight_in table rest other = rw parts.0 refl in
+                sym past ∙ reads.left other parts.1;
+            weights_room = length-set weights number weight ∙ reads.weights_room;
+            listed_room = length-set listed number true ∙ reads.listed_room;
+          }
+
+read_or_none : (is_read : Bool) (weight : ℕ) → (is_read ≡ false → 0 ≡ weight) → cond is_read weight 0 ≡ weight
+read_or_none true weight none = refl
+read_or_none false weight none = none refl
 
 -- all members are read
 pub reads_weights : (table : WeightTable) (all : List Member) (weights : List ℕ) (listed : List Bool) → Reads table all [] weights listed → weights ≡ weights_of table all
-unfolding weights_of
+unfolding weights_of weight_in
 reads_weights table all weights listed reads =
-    let whole : reads.before ≡ all = sym (reads.all_are ∙ append-nil reads.before) in
-    fill_by_all (weight_in table reads.before) weights 256 0 reads.weights_room reads.weigh ∙ ap (weights_of table) whole
+    fill_by_all (weight_in table all) weights 256 0 reads.weights_room
+    (λ number below. reads.weigh number below ∙ read_or_none (is_listed table reads.before number) (weight_in table all number) (reads.left number))
 
 pub weights_of_none : (table : WeightTable) → replicate 256 0 ≡ weights_of table []
 weights_of_none table = reads_weights table [] (replicate 256 0) (replicate 256 false) (reads_start table [])

@@ -1,29 +1,17 @@
 -- What reading a text answers, by what its document has.
-use Rattle.std.proofs.Common.{◌≡◌, ◌≢◌, ℕ, Bool, true, false, List, [], ◌∷◌, ◌++◌, Option, Some, None, Result, Ok, Err, is_none, IsUtf8, refl, ap, sym, ◌∙◌}
-use Rattle.std.proofs.lemmas.Bool.{false_from_ne_true, or_parts}
+use Rattle.std.proofs.Common.{◌≡◌, ℕ, Bool, true, false, List, Option, Some, None, Result, Ok, Err, is_none, IsUtf8, refl, ap, sym, ◌∙◌}
+use Rattle.std.proofs.lemmas.Bool.{false_from_ne_true}
 use Rattle.std.proofs.lemmas.Str.{IsUtf8-from_is_utf8, is_utf8-from_IsUtf8}
-use Rattle.std.proofs.lemmas.List.Folds.{list_any-append}
-use Rattle.std.specs.List.{list_any}
 use Rattle.std.specs.Option.{option_or}
 use Rattle.std.specs.Str.{is_utf8}
 use Rattle.toml.specs.Data.{Members}
 use Rattle.toml.specs.Parse.{parse_document}
-use Rattle.field_tables.specs.FirstFault.{first_fault}
 use Rattle.applications.specs.declared.weights.fault.WeightsFault.{WeightsFault}
 use Rattle.applications.specs.declared.weights.fault.WeightsFault.TheVariants.{Memory, NotToml, NoHostTable, OtherKey}
 use Rattle.applications.specs.Weights.{ListedWeights}
-use Rattle.applications.specs.declared.weights.table.WeightTable.{WeightTable}
 use Rattle.applications.specs.declared.weights.table.WeightTable.TheVariants.{Host, Media, App}
-use Rattle.applications.specs.WeightTables.{Member, document_of, table_in, weights_in}
-use Rattle.applications.specs.WeightFaults.{AnswersWith, IsAnswer, faults_after, faults_in, has_more, weights_fault, weights_faults}
-use Rattle.applications.proofs.TableMembers.{first_fault-append}
-
-abbrev Faults : Type 0
-Faults = List (Bool × WeightsFault)
-
--- the first fault of the members of a table
-abbrev pub table_fault : WeightTable → Members → Option WeightsFault
-table_fault table document = first_fault (faults_in table (Some document))
+use Rattle.applications.specs.WeightTables.{document_of, table_in, weights_in}
+use Rattle.applications.specs.WeightFaults.{AnswersWith, IsAnswer, fault_in, has_more, weights_fault}
 
 pub fault_no_host : (document : Members) → is_none (table_in Host document) ≡ true → weights_fault (Some document) ≡ Some NoHostTable
 unfolding weights_fault
@@ -34,34 +22,9 @@ unfolding weights_fault
 fault_more document has_host more = rw (has_host, more) refl
 
 pub fault_tables : (document : Members) → is_none (table_in Host document) ≡ false → has_more document ≡ false
-    → weights_fault (Some document) ≡ option_or (table_fault Host document) (option_or (table_fault Media document) (table_fault App document))
+    → weights_fault (Some document) ≡ option_or (fault_in Host (Some document)) (option_or (fault_in Media (Some document)) (fault_in App (Some document)))
 unfolding weights_fault
-fault_tables document has_host no_more =
-    rw (has_host, no_more) (first_fault-append (faults_in Host (Some document)) (faults_in Media (Some document) ++ faults_in App (Some document))
-    ∙ ap (option_or (table_fault Host document)) (first_fault-append (faults_in Media (Some document)) (faults_in App (Some document))))
-
--- ---- no fault says that memory ran out
-
-abbrev is_memory : WeightsFault → Bool
-is_memory Memory = true
-is_memory _ = false
-
-abbrev names_memory : Faults → Bool
-names_memory faults = list_any (λ fault. is_memory fault.1) faults
-
-faults_after-memory : (table : WeightTable) (before rest : List Member) → names_memory (faults_after table before rest) ≡ false
-faults_after-memory table before [] = refl
-faults_after-memory table before (member ∷ rest) = faults_after-memory table (before ++ member ∷ []) rest
-
-first_fault-memory : (faults : Faults) → names_memory faults ≡ false → first_fault faults ≢ Some Memory
-first_fault-memory [] e same = absurd (cc)
-first_fault-memory ((true, Memory) ∷ faults) e same = absurd (cc)
-first_fault-memory ((true, fault) ∷ faults) e same = absurd (cc)
-first_fault-memory ((false, fault) ∷ faults) e same = first_fault-memory faults (or_parts (is_memory fault) (names_memory faults) e).1 same
-
-weights_fault-memory : (document : Option Members) → weights_fault document ≢ Some Memory
-unfolding weights_fault
-weights_fault-memory document = first_fault-memory (weights_faults document) (simp (list_any-append, faults_after-memory))
+fault_tables document has_host no_more = rw (has_host, no_more) refl
 
 -- ---- the document of a text
 
@@ -87,5 +50,5 @@ fault_no_document = refl
 pub answered : (text : List ℕ) (document : Members) (result : Result ListedWeights WeightsFault) → document_of text ≡ Some document
     → AnswersWith (weights_fault (Some document)) (weights_in (Some document)) result → IsAnswer text result
 answered text document (Ok weights) is answer = (ap weights_fault is ∙ answer.0, answer.1 ∙ ap weights_in (sym is))
-answered text document (Err Memory) is answer = absurd (weights_fault-memory (Some document) answer)
-answered text document (Err fault) is answer = ap weights_fault is ∙ answer
+answered text document (Err Memory) is answer = absurd cc
+answered text document (Err fault) is answer = ap weights_fault is ∙ answer.0

@@ -1,7 +1,7 @@
 -- Why a text lists no weights, and what reading one answers. (docs/formats.md, "Weights"; this project's own)
-use Rattle.std.specs.Prelude.{◌≡◌, ℕ, Bool, true, false, not, ◌&&◌, ◌||◌, List, [], ◌∷◌, ◌++◌, Option, Some, None, is_none, is_some, Result, Ok, Err}
+use Rattle.std.specs.Prelude.{◌≡◌, ℕ, Bool, true, false, not, ◌&&◌, ◌||◌, List, [], ◌∷◌, Option, Some, None, is_none, is_some, Result, Ok, Err}
 use Rattle.std.specs.List.{list_any}
-use Rattle.std.specs.Option.{option_map_or, option_and_then}
+use Rattle.std.specs.Option.{option_map_or, option_and_then, option_or}
 use Rattle.std.specs.Str.{bytes_eq, is_utf8}
 use Rattle.toml.specs.Data.{Members}
 use Rattle.toml.specs.Errors.{IsBlank}
@@ -14,13 +14,10 @@ use Rattle.applications.specs.WeightKeys.{named_by, stay_name, table_name}
 use Rattle.applications.specs.Weights.{ListedWeights}
 use Rattle.applications.specs.WeightTables.{Member, document_of, is_of, members_in, members_of, number_of, stay_value, table_in, value_in, weight_of_value, weights_in}
 
--- the name of a table of weights
-unfoldable pub names_table : List ℕ → Bool
-names_table key = bytes_eq key (table_name Host) || bytes_eq key (table_name Media) || bytes_eq key (table_name App)
-
 -- the name of a table of weights, or of the weight of staying
-abbrev pub is_known : List ℕ → Bool
-is_known key = names_table key || bytes_eq key stay_name
+unfoldable pub is_known : List ℕ → Bool
+is_known key =
+    bytes_eq key (table_name Host) || bytes_eq key (table_name Media) || bytes_eq key (table_name App) || bytes_eq key stay_name
 
 abbrev pub has_other_key : List Member → Bool
 has_other_key members = list_any (λ (member : Member). not (is_known member.0)) members
@@ -48,29 +45,36 @@ member_faults table is_listed member =
 abbrev pub is_listed : WeightTable → List Member → ℕ → Bool
 is_listed table members number = list_any (is_of table number) members
 
--- of members that follow these, one after the other
-abbrev pub faults_after : WeightTable → List Member → List Member → List (Bool × WeightsFault)
-faults_after table before [] = []
-faults_after table before (member ∷ rest) =
-    member_faults table (is_listed table before) member ++ faults_after table (before ++ member ∷ []) rest
+-- the first of members that follow these, of which the newest stands first
+abbrev pub fault_after : WeightTable → List Member → List Member → Option WeightsFault
+fault_after table before [] = None
+fault_after table before (member ∷ rest) =
+    option_or (first_fault (member_faults table (is_listed table before) member)) (fault_after table (member ∷ before) rest)
 
-abbrev pub faults_in : WeightTable → Option Members → List (Bool × WeightsFault)
-faults_in table document = faults_after table [] (members_in table document)
+abbrev pub fault_in : WeightTable → Option Members → Option WeightsFault
+fault_in table document = fault_after table [] (members_in table document)
 
-abbrev pub weights_faults : Option Members → List (Bool × WeightsFault)
-weights_faults document =
+-- of the document as a whole
+abbrev pub document_faults : Option Members → List (Bool × WeightsFault)
+document_faults document =
     (is_none document, NotToml)
     ∷ (is_none (option_and_then (table_in Host) document), NoHostTable)
     ∷ (option_map_or has_more document false, OtherKey)
-    ∷ faults_in Host document ++ (faults_in Media document ++ faults_in App document)
+    ∷ []
 
 unfoldable pub weights_fault : Option Members → Option WeightsFault
-weights_fault document = first_fault (weights_faults document)
+weights_fault document =
+    option_or (first_fault (document_faults document))
+    (option_or (fault_in Host document) (option_or (fault_in Media document) (fault_in App document)))
 
--- what reading members or tables answers: their first fault, or else this value
+abbrev pub is_memory : WeightsFault → Bool
+is_memory Memory = true
+is_memory fault = false
+
+-- what reading members or tables answers: their first fault, which is never that memory is wanting, or else this value
 abbrev pub AnswersWith : {A : Type 0} → Option WeightsFault → A → Result A WeightsFault → Type 0
 AnswersWith fault value (Ok read) = (fault ≡ None) × (read ≡ value)
-AnswersWith fault value (Err found) = fault ≡ Some found
+AnswersWith fault value (Err found) = (fault ≡ Some found) × (is_memory found ≡ false)
 
 -- what reading a text may answer: memory may be wanting, unless the text isn't UTF-8 or has only white space and comments
 abbrev pub IsAnswer : List ℕ → Result ListedWeights WeightsFault → Type 0

@@ -29,23 +29,16 @@ trimmed bytes =
 unfoldable pub host_line : List ℕ
 host_line = codes "[host]"
 
--- a comment begins with `#`
-abbrev pub is_hash : ℕ → Bool
-is_hash byte = byte == 35
-
-abbrev pub is_equals : ℕ → Bool
-is_equals byte = byte == 61
-
--- what stands before a comment
+-- what stands before a comment, which begins with `#`
 abbrev pub content : List ℕ → List ℕ
-content line = trimmed (before_first is_hash line)
+content line = trimmed (before_first (λ byte. byte == 35) line)
 
 -- what stands before the `=` of a content, and what after it
 abbrev pub key_in : List ℕ → List ℕ
-key_in content = trimmed (before_first is_equals content)
+key_in content = trimmed (before_first (λ byte. byte == 61) content)
 
 abbrev pub value_in : List ℕ → List ℕ
-value_in content = trimmed (after_first is_equals content)
+value_in content = trimmed (after_first (λ byte. byte == 61) content)
 
 -- a line with this content says this: nothing, `[host]`, or as `0Dh = 101` the weight of a HostInterfaceID
 abbrev pub SaysIn : List ℕ → Said → Type 0

@@ -63,8 +63,5 @@ impl ActiveSet {
 pub(crate) fn number_of_lane(numbers: &[u8; 8], lane: usize) -> u8
     ensures { result ≡ slice_index numbers.now (lane - 1) }
 {
-    match numbers.get(lane.saturating_sub(1)) {
-        Some(number) => *number,
-        None => 0,
-    }
+    numbers.get(lane.saturating_sub(1)).copied().unwrap_or(0)
 }

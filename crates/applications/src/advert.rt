@@ -1,5 +1,4 @@
-ghost use Rattle.std.specs.Prelude.{◌≡◌, if◌then◌else◌};
-ghost use Rattle.applications.specs.ActiveSets.{active_in, nothing_active};
+ghost use Rattle.std.specs.Prelude.{◌≡◌};
 ghost use Rattle.applications.specs.Advertised.{advertised_by};
 
 use crate::active::ActiveSet;
@@ -61,8 +60,13 @@ impl Advert {
             return Err(fault);
         }
         let counted = advertised_by(image).with_counts(conventions.counts_by_id, media_type);
+        let active = if conventions.now {
+            ActiveSet::of(image)
+        } else {
+            ActiveSet::nothing()
+        };
         Ok(Advert {
-            active: active_if(conventions.now, image),
+            active,
             ..counted.with_pairing(conventions.paired)
         })
     }
@@ -128,16 +132,5 @@ fn advertised_by(image: &Image) -> Advert
         unsupported: LaneSet::from(number(image, Field::CUnsupportedMedia)),
         paired: false,
         active: ActiveSet::nothing(),
-    }
-}
-
-// Its Active Control Set, if that is asked for.
-fn active_if(now: bool, image: &Image) -> ActiveSet
-    ensures { result ≡ (if now then active_in image.now else nothing_active) }
-{
-    if now {
-        ActiveSet::of(image)
-    } else {
-        ActiveSet::nothing()
     }
 }

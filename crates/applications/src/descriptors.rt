@@ -4,7 +4,11 @@ ghost use Rattle.applications.specs.Descriptors as spec;
 
 use crate::app::{App, MAX_APPS};
 use arrayvec::ArrayVec;
-use field_tables::{Field, LaneSet, number_at};
+use field_tables::Field::{
+    CAppHost, CAppHostLanes, CAppHostLanesMore, CAppHostMore, CAppHostStarts, CAppHostStartsMore,
+    CAppMedia, CAppMediaLanes, CAppMediaLanesMore, CAppMediaMore, CMediaStarts,
+};
+use field_tables::{Field, number_at};
 use paged_memory::Image;
 
 // The HostInterfaceID that ends the list.
@@ -35,27 +39,12 @@ fn app_at(image: &Image, number: u8) -> App
 {
     App {
         number,
-        host_id: described(image, Field::CAppHost, Field::CAppHostMore, number),
-        media_id: described(image, Field::CAppMedia, Field::CAppMediaMore, number),
-        host_lanes: described(
-            image,
-            Field::CAppHostLanes,
-            Field::CAppHostLanesMore,
-            number,
-        ),
-        media_lanes: described(
-            image,
-            Field::CAppMediaLanes,
-            Field::CAppMediaLanesMore,
-            number,
-        ),
-        host_starts: LaneSet::from(described(
-            image,
-            Field::CAppHostStarts,
-            Field::CAppHostStartsMore,
-            number,
-        )),
-        media_starts: LaneSet::from(number_at(image, Field::CMediaStarts, number)),
+        host_id: described(image, CAppHost, CAppHostMore, number),
+        media_id: described(image, CAppMedia, CAppMediaMore, number),
+        host_lanes: described(image, CAppHostLanes, CAppHostLanesMore, number),
+        media_lanes: described(image, CAppMediaLanes, CAppMediaLanesMore, number),
+        host_starts: described(image, CAppHostStarts, CAppHostStartsMore, number).into(),
+        media_starts: number_at(image, CMediaStarts, number).into(),
     }
 }
 

@@ -1,6 +1,7 @@
-ghost use Rattle.std.specs.Prelude.{◌≡◌};
-ghost use Rattle.field_tables.specs.Reasons.{refused_by};
-ghost use Rattle.applications.specs.Refusals.{active_reasons, advert_fault, advert_fault_under, page_fault, is_read_revision};
+ghost use Rattle.std.specs.Prelude.{◌≡◌, [], ◌∷◌};
+ghost use Rattle.field_tables.specs.Reasons.{lacks, refused_by, wrong};
+ghost use Rattle.applications.specs.Refusals.{advert_fault, advert_fault_under, page_fault, is_read_revision};
+ghost use Rattle.applications.specs.declared.fault.AdvertFault.TheVariants.{Absent, BadSum};
 
 use crate::conventions::Conventions;
 use crate::fault::AdvertFault;
@@ -40,41 +41,31 @@ pub fn refusal_under(conventions: Conventions, image: &Image) -> Option<AdvertFa
 {
     let fault = refusal(image);
     if fault.is_none() && conventions.now {
-        return active_refusal(image);
+        return absent(image, Key::upper(Dev::A0, 0, 0x11));
     }
     fault
-}
-
-// Why the page of the Active Control Set is not read.
-fn active_refusal(image: &Image) -> Option<AdvertFault>
-    ensures { result ≡ refused_by image.now active_reasons }
-{
-    let status = Key::upper(Dev::A0, 0, 0x11);
-    if !image.has(status) {
-        return Some(AdvertFault::Absent(status));
-    }
-    None
 }
 
 /// Why pages 00h and 01h are not read.
 pub fn page_refusal(image: &Image) -> Option<AdvertFault>
     ensures { result ≡ page_fault image.now }
 {
-    let administrative = Key::upper(Dev::A0, 0, 0x00);
-    if !image.has(administrative) {
-        return Some(AdvertFault::Absent(administrative));
-    }
-    let advertising = Key::upper(Dev::A0, 0, 0x01);
-    if !image.has(advertising) {
-        return Some(AdvertFault::Absent(advertising));
-    }
-    if !is_sum_right(image, Sum::CSum00) {
-        return Some(AdvertFault::BadSum(0x00));
-    }
-    if !is_sum_right(image, Sum::CSum01) {
-        return Some(AdvertFault::BadSum(0x01));
-    }
-    None
+    absent(image, Key::upper(Dev::A0, 0, 0x00))
+        .or_else(|| absent(image, Key::upper(Dev::A0, 0, 0x01)))
+        .or_else(|| bad_sum(image, Sum::CSum00, 0x00))
+        .or_else(|| bad_sum(image, Sum::CSum01, 0x01))
+}
+
+fn absent(image: &Image, key: Key) -> Option<AdvertFault>
+    ensures { result ≡ refused_by image.now (lacks key (Absent key) ∷ []) }
+{
+    (!image.has(key)).then_some(AdvertFault::Absent(key))
+}
+
+fn bad_sum(image: &Image, sum: Sum, page: u8) -> Option<AdvertFault>
+    ensures { result ≡ refused_by image.now (wrong sum (BadSum page) ∷ []) }
+{
+    (!is_sum_right(image, sum)).then_some(AdvertFault::BadSum(page))
 }
 
 /// Whether the tables of this project are those of this CMIS revision: its major number is 4 or 5.

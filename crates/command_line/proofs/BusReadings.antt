@@ -15,7 +15,7 @@ use Rattle.reports.specs.FetchedImages.{IsFetching}
 use Rattle.reports.specs.declared.fault.ReportFault.{ReportFault}
 use Rattle.reports.specs.declared.fault.ReportFault.TheVariants as report
 use Rattle.command_line.specs.Faults.{fault_of_report}
-use Rattle.command_line.specs.OverBus.{IsFetchRefusal, IsFetchedFrom, IsInputRefusal, IsToReport, WindowBus, window_at_start}
+use Rattle.command_line.specs.OverBus.{IsFetchRefusal, IsFetchedFrom, IsInputRefusal, IsReading, WindowBus, window_at_start}
 use Rattle.command_line.specs.declared.fault.Fault.{Fault}
 use Rattle.command_line.specs.declared.fault.Fault.TheVariants as fault
 
@@ -34,7 +34,7 @@ fetch_refused memory f is = is
 
 -- over a bus, what was read of the text's image
 pub read_to_report : (bus : Bool) (text : List ℕ) (memory : Memory) (r : Result Memory Fault) → bus ≡ true → IsTextOf (lines_of text) memory
-    → MatchResult r (λ read. IsFetchedFrom memory (Ok read)) (IsFetchRefusal memory) → MatchResult r (IsToReport bus text) (IsInputRefusal bus text)
+    → MatchResult r (λ read. IsFetchedFrom memory (Ok read)) (IsFetchRefusal memory) → MatchResult r (λ read. IsReading bus text (Ok read)) (IsInputRefusal bus text)
 read_to_report true text memory (Ok read) on is fetched = record { memory = memory; is_text = is; fetched = fetched }
 read_to_report true text memory (Err fault.Memory) on is fetched = refl
 read_to_report true text memory (Err (fault.Report f)) on is fetched = record { memory = memory; is_text = is; fetched = fetched }

@@ -33,7 +33,7 @@ use Rattle.command_line.specs.CheckCommand.{IsCheckAnswer, IsGoodAnswer, IsJudge
 use Rattle.command_line.specs.Inputs.{Inputs, inputs_in, parts_read}
 use Rattle.command_line.specs.Limits.{input_limit}
 use Rattle.command_line.specs.Parts.{is_separator_line, parts_of}
-use Rattle.command_line.specs.PlanCommand.{IsPlanAnswer, IsPlanned}
+use Rattle.command_line.specs.PlanCommand.{IsPlanAnswer, IsPlanned, TellsPlan}
 use Rattle.command_line.specs.PlanningInputs.{IsAdvertText}
 use Rattle.command_line.specs.PlanThenCheck.{check_request, first_if, good_text, input_with, plan_inputs, plan_request, IsCalledGood, IsEnded, IsGoodBehind, IsGoodBehindInput, IsGoodInPlace}
 use Rattle.command_line.specs.Commands.{IsAnswerOf}
@@ -102,9 +102,9 @@ abbrev IsCheckTo : Options → List (List ℕ) → Answer → Type 0
 IsCheckTo options parts = IsCheckAnswer options (inputs_in (parts_read Check options.keep) parts)
 
 abbrev IsPlanTo : Bool → Options → List (List ℕ) → Answer → Type 0
-IsPlanTo keep options parts = IsPlanAnswer (record options { keep = keep; json = false }) (inputs_in (parts_read Plan keep) parts)
+IsPlanTo keep options parts = IsPlanAnswer false (record options { keep = keep; json = false }) (inputs_in (parts_read Plan keep) parts)
 
-module _ (conventions : Conventions) (inputs : Inputs) (text : List ℕ) (planned : IsPlanned false conventions inputs text) where
+module _ (conventions : Conventions) (inputs : Inputs) (text : List ℕ) (planned : IsPlanned (TellsPlan false) conventions inputs text) where
   abbrev advert : Advertised
   advert = planned.planning.advert
 
@@ -247,14 +247,14 @@ certificate_behind input text ended two certificate is = third_part input text e
 pub good_behind : (options : Options) (image listed kept text input : List ℕ) → parts_of input ≡ image ∷ listed ∷ kept ∷ []
     → IsAnswerOf (plan_request true options) input (Ok (text, None)) → IsGoodBehind options.conventions image listed kept text
 good_behind options image listed kept text input cut is =
-    let planned : IsPlanned false options.conventions (plan_inputs image listed kept) text = subst (λ l. IsPlanTo true options l (Ok (text, None))) cut is.2 in
+    let planned : IsPlanned (TellsPlan false) options.conventions (plan_inputs image listed kept) text = subst (λ l. IsPlanTo true options l (Ok (text, None))) cut is.2 in
     record { planned = planned; good = λ other within parts. called_good options.conventions (plan_inputs image listed kept) text planned other parts within }
 
 pub good_behind_input : (options : Options) (input text : List ℕ) → IsEnded input → IsAnswerOf (plan_request false options) input (Ok (text, None))
     → length (input_with input text) ≤ input_limit → IsGoodBehindInput options.conventions input text
 good_behind_input options input text ended is within =
     let inputs : Inputs = plan_inputs (part_in input 0) (part_in input 1) [] in
-    let planned : IsPlanned false options.conventions inputs text =
+    let planned : IsPlanned (TellsPlan false) options.conventions inputs text =
     subst (λ l. IsPlanTo false options l (Ok (text, None))) (two_parts (parts_of input) is.1) is.2 in
     let cut = certificate_behind input text ended is.1 planned.told.certificate planned.told.read_back in
     record {

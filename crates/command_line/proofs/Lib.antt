@@ -1,12 +1,11 @@
-mod AdvertAnswers
 mod BusReadings
 mod CommandLineLemmas
 pub mod FaultForms
+mod FaultOrValue
 mod FaultSentences
 mod FoldLemmas
 mod GivenWords
 mod GoodTexts
-mod MetricsAnswers
 mod OddLineLemmas
 mod OwnAnswers
 mod PartCuts

@@ -2,19 +2,12 @@
 use Rattle.std.proofs.Common.{refl, ap, ◌≡◌, ◌≢◌, ◌∙◌, ℕ, ◌≤◌, Bool, true, if◌then◌else◌, eqb, ltb, List, length, Option, Some, None, IfSome, Ok, Err, arith}
 use Rattle.std.specs.Prelude.{MatchOption}
 use Rattle.std.proofs.lemmas.Bool.{eq-eqb, le-ltb, lt-ltb, ne_eqb}
-use Rattle.applications.specs.WeightFaults.{IsAnswer}
-use Rattle.applications.specs.declared.weights.fault.WeightsFault.{WeightsFault}
-use Rattle.applications.specs.declared.weights.fault.WeightsFault.TheVariants as weights
-use Rattle.command_line.specs.CheckCommand.{IsCheckAnswer}
-use Rattle.command_line.specs.Faults.{fault_of_weights}
 use Rattle.command_line.specs.Limits.{input_limit}
 use Rattle.command_line.specs.Parts.{most_parts, parts_of}
 use Rattle.command_line.specs.Inputs.{Inputs, inputs_in, parts_read}
-use Rattle.command_line.specs.PlanningInputs.{Advertises}
 use Rattle.command_line.specs.Runs.{Answer, IsAnswerTo, IsOwnAnswer}
 use Rattle.command_line.specs.declared.choice.commands.CommandName.{CommandName}
 use Rattle.command_line.specs.declared.choice.commands.CommandName.TheVariants.{Draw, Plan, Provision, Trace}
-use Rattle.command_line.specs.declared.choice.options.Options.{Options}
 use Rattle.command_line.specs.declared.choice.part.Part.{Part}
 use Rattle.command_line.specs.declared.fault.Fault.{Fault}
 use Rattle.command_line.specs.declared.fault.Fault.TheVariants as fault
@@ -68,8 +61,3 @@ few_parts command keep = omega arith
 pub if_known : {T : Type 0} (o : Option T) (P Q : T → Type 0) → ((x : T) → P x → Q x) → IfSome o P → IfSome o Q
 if_known None P Q k h = tt
 if_known (Some x) P Q k h = k x h
-
-pub check_weights_refused : (options : Options) (inputs : Inputs) (f : WeightsFault) → Advertises options.conventions inputs.image → IsAnswer inputs.weights (Err f)
-    → IsOwnAnswer (IsCheckAnswer options inputs) (Err (fault_of_weights f))
-check_weights_refused options inputs weights.Memory told is = tt
-check_weights_refused options inputs f told is = (told, (λ same. absurd cc, is))

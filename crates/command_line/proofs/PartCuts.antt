@@ -1,41 +1,40 @@
 -- How the first part of an input is found, line by line.
-use Rattle.std.proofs.Common.{◌≡◌, ℕ, zero, suc, ◌+◌, ◌≤◌, true, false, cond, List, [], ◌∷◌, ◌++◌, length, take, drop, map, refl, sym, ap, ◌∙◌, append_assoc, arith}
-use Rattle.std.specs.List.{All, concat, slice_split, onto_first}
-use Rattle.std.proofs.lemmas.List.{append-nil, length-append, length-map, length-drop, drop-drop, take_at, drop_at, take-append-drop}
-use Rattle.std.proofs.lemmas.List.Folds.{concat-append}
-use Rattle.std.proofs.lemmas.List.Elements.{All-append}
-use Rattle.std.proofs.lemmas.List.Splits.{slice_split_at, slice_split_none, length-slice_split}
+use Rattle.std.proofs.Common.{◌≡◌, ℕ, suc, ◌+◌, ◌≤◌, true, false, cond, List, [], ◌∷◌, ◌++◌, length, take, map, refl, sym, ap, ◌∙◌, append_assoc, arith}
+use Rattle.std.specs.List.{concat, slice_split, onto_first}
+use Rattle.std.proofs.lemmas.List.{append-nil, length-append, length-map, take_at}
+use Rattle.std.proofs.lemmas.List.Splits.{slice_split-cons_no, slice_split-cons_yes, length-slice_split}
 use Rattle.std.proofs.lemmas.List.Sums.{count_by-le-length}
-use Rattle.std.proofs.Math.Seq.{take-add}
 use Rattle.text_lines.specs.Lines.{is_lf, ended_lines}
 use Rattle.command_line.specs.Parts.{is_separator_line, parts_of}
 
--- so many bytes of the text are lines that are no separators, and the rest is behind them
+-- so many bytes of the text stand before the rest, and come before the first part of it
 pub record Passed (text rest : List ℕ) (len : ℕ) : Type 0 where
-  pub front : List (List ℕ)
-  pub lines : ended_lines text ≡ front ++ ended_lines rest
-  pub bytes : concat front ≡ take len text
-  pub behind : drop len text ≡ rest
+  pub before : List ℕ
+  pub all : text ≡ before ++ rest
+  pub long : length before ≡ len
   pub within : len ≤ length text
-  pub plain : All (λ line. is_separator_line line ≡ false) front
+  pub joined : (part : List ℕ) (more : List (List ℕ)) → parts_of rest ≡ part ∷ more → parts_of text ≡ (before ++ part) ∷ more
 
-one_plain : (line : List ℕ) → is_separator_line line ≡ false → All (λ l. is_separator_line l ≡ false) (line ∷ [])
-one_plain line h zero d lt = h
-one_plain line h (suc k) d lt = absurd (omega arith)
+line_first : (line : List ℕ) (lines : List (List (List ℕ))) (part : List ℕ) (more : List (List ℕ)) → map concat lines ≡ part ∷ more
+    → map concat (onto_first line lines) ≡ (line ++ part) ∷ more
+line_first line [] part more e = cc
+line_first line (first ∷ lines) part more e = cc
 
 pub one_passed : (text rest line after : List ℕ) (len : ℕ) → Passed text rest len → ended_lines rest ≡ line ∷ ended_lines after → rest ≡ line ++ after → is_separator_line line ≡ false
     → Passed text after (len + length line)
+unfolding parts_of
 one_passed text rest line after len passed lines bytes plain =
-    let split : drop len text ≡ line ++ after = passed.behind ∙ bytes in
+    let all : text ≡ (passed.before ++ line) ++ after = passed.all ∙ ap (λ l. passed.before ++ l) bytes ∙ sym (append_assoc passed.before line after) in
+    let long : length (passed.before ++ line) ≡ len + length line = length-append passed.before line ∙ ap (λ n. n + length line) passed.long in
     record {
-      front = passed.front ++ line ∷ [];
-      lines = passed.lines ∙ ap (λ l. passed.front ++ l) lines ∙ sym (append_assoc passed.front (line ∷ []) (ended_lines after));
-      bytes =
-          concat-append passed.front (line ∷ []) ∙ ap (λ l. concat passed.front ++ l) (append-nil line) ∙ ap (λ l. l ++ line) passed.bytes
-          ∙ ap (λ l. take len text ++ l) (sym (take_at line after (length line) refl) ∙ ap (take (length line)) (sym split)) ∙ sym (take-add len (length line) text);
-      behind = sym (drop-drop (length line) len text) ∙ ap (drop (length line)) split ∙ drop_at line after (length line) refl;
-      within = omega (arith, length-drop len text, ap (λ (l : List ℕ). length l) split, length-append line after);
-      plain = All-append (λ l. is_separator_line l ≡ false) passed.front (line ∷ []) passed.plain (one_plain line plain);
+      before = passed.before ++ line;
+      all = all;
+      long = long;
+      within = omega (arith, long, simp length-append at (ap (λ (l : List ℕ). length l) all));
+      joined = λ part more e.
+          passed.joined (line ++ part) more (ap (λ l. map concat (slice_split is_separator_line l)) lines
+          ∙ ap (map concat) (slice_split-cons_no is_separator_line line (ended_lines after) plain) ∙ line_first line _ part more e)
+          ∙ ap (λ l. l ∷ more) (sym (append_assoc passed.before line part));
     }
 
 -- a separator ends the part
@@ -43,18 +42,13 @@ pub part_ends : (text rest line after : List ℕ) (len : ℕ) → Passed text re
     → parts_of text ≡ take len text ∷ parts_of after
 unfolding parts_of
 part_ends text rest line after len passed lines is =
-    ap (λ l. map concat (slice_split is_separator_line l)) (passed.lines ∙ ap (λ l. passed.front ++ l) lines)
-    ∙ ap (map concat) (slice_split_at is_separator_line passed.front line (ended_lines after) passed.plain is)
-    ∙ ap (λ l. l ∷ map concat (slice_split is_separator_line (ended_lines after))) passed.bytes
+    passed.joined [] (parts_of after) (ap (λ l. map concat (slice_split is_separator_line l)) lines ∙ ap (map concat) (slice_split-cons_yes is_separator_line line (ended_lines after) is))
+    ∙ ap (λ l. l ∷ parts_of after) (append-nil passed.before ∙ sym (ap (take len) passed.all ∙ take_at passed.before rest len passed.long))
 
 -- without one the text is the part
 pub part_is_all : (text : List ℕ) (len : ℕ) → Passed text [] len → parts_of text ≡ text ∷ []
 unfolding parts_of
-part_is_all text len passed =
-    let whole : take len text ≡ text = sym (append-nil (take len text)) ∙ ap (λ l. take len text ++ l) (sym passed.behind) ∙ take-append-drop len text in
-    ap (λ l. map concat (slice_split is_separator_line l)) (passed.lines ∙ append-nil passed.front)
-    ∙ ap (map concat) (slice_split_none is_separator_line passed.front passed.plain)
-    ∙ ap (λ l. l ∷ []) (passed.bytes ∙ whole)
+part_is_all text len passed = passed.joined [] [] refl ∙ ap (λ l. l ∷ []) (sym passed.all)
 
 ended_count : (text : List ℕ) → length (ended_lines text) ≤ length text
 ended_count [] = omega arith

@@ -1,6 +1,6 @@
 -- The answer of a command that carries out procedures, by what it sets up and does.
-use Rattle.std.proofs.Common.{◌≡◌, ◌∙◌, ◌-◌, ◌*◌, ℕ, Bool, true, false, List, [], ◌∷◌, Option, Some, None, is_some, IfSome, Result, Ok, Err, refl, sym, subst, ap, ap₂, ◌++◌, length, reverse, arith}
-use Rattle.std.specs.Prelude.{◌&&◌, MatchOption, is_none, option_map, slice_index}
+use Rattle.std.proofs.Common.{◌≡◌, ◌∙◌, ◌-◌, ◌*◌, ℕ, Bool, true, false, List, [], ◌∷◌, Option, Some, None, is_some, IfSome, Ok, Err, refl, sym, subst, ap, ap₂, ◌++◌, length, reverse, arith}
+use Rattle.std.specs.Prelude.{◌&&◌, is_none, option_map, slice_index}
 use Rattle.std.proofs.lemmas.Grind.{common_steps}
 use Rattle.hex.specs.Hex.{encode_lower}
 use Rattle.text_lines.specs.Lines.{text_of}
@@ -22,7 +22,6 @@ use Rattle.sim_module.specs.declared.delays.Delays.{Delays}
 use Rattle.sim_module.specs.declared.lane.Lane.{Lane}
 use Rattle.paged_memory.specs.Images.{Memory}
 use Rattle.sim_module.specs.Soundness.{IsSound}
-use Rattle.sim_module.specs.declared.fault.SimFault.{SimFault}
 use Rattle.sim_module.specs.declared.module.SimModule.{SimModule}
 use Rattle.sim_module.proofs.Activated.{activation_rests}
 use Rattle.sim_module.proofs.ChangedPower.{power_rests}
@@ -48,18 +47,6 @@ pub planning_refused : (conventions : Conventions) (inputs : Inputs) (f : Fault)
 planning_refused conventions inputs (fault.Module g) is = absurd is
 planning_refused conventions inputs (fault.Script g) is = absurd is
 planning_refused conventions inputs f is = is
-
--- a module or why there is none, by what is answered of an image
-abbrev Answers : Option SimFault → SimModule → Result SimModule SimFault → Type 0
-Answers o told r = MatchOption o (r ≡ Ok told) (λ f. r ≡ Err f)
-
-pub module_starts : (made told : SimModule) (o : Option SimFault) → Answers o told (Ok made) → (o ≡ None) × (made ≡ told)
-module_starts made told None h = (refl, cc)
-module_starts made told (Some f) h = absurd cc
-
-pub module_stops : (told : SimModule) (f : SimFault) (o : Option SimFault) → Answers o told (Err f) → o ≡ Some f
-module_stops told f None h = absurd cc
-module_stops told f (Some g) h = cc
 
 -- a bus with this module before any step
 abbrev pub bus_with : List Directive → SimModule → ModuleBus

@@ -1,43 +1,21 @@
 -- What is said beside an answer is what its input gives cause for.
 use Rattle.std.proofs.Common.{◌≡◌, ◌∙◌, ℕ, Bool, true, false, List, Option, Some, None, IfSome, Ok, Err, ap, sym, refl, subst}
-use Rattle.command_line.specs.Remarks.{clue_for}
-use Rattle.command_line.specs.RemarksBeside.{IsRemarkBeside}
-use Rattle.command_line.specs.ToldRemarks.{beside_told}
-use Rattle.command_line.specs.Runs.{Answer, EndsByFailure, IsSaidBeside, IsWritten, SaysReading, clue_beside, ended, ending_after, opening_beside, output_of, status_after}
+use Rattle.command_line.specs.Runs.{Answer, EndsByFailure, IsRemarkBeside, IsSaidBeside, IsWritten, SaysReading, clue_beside, ended, ending_after, opening_beside, output_of, status_after}
 use Rattle.reports.specs.declared.fault.ReportFault.TheVariants as report
-use Rattle.command_line.specs.Faults.{fault_of_told}
-use Rattle.command_line.specs.declared.told_fault.ToldFault.{ToldFault}
 use Rattle.command_line.specs.declared.told_fault.ToldFault.TheVariants.{Procedure, Metrics}
-use Rattle.command_line.specs.declared.fault.Fault.{Fault}
 use Rattle.command_line.specs.declared.fault.Fault.TheVariants as fault
 use Rattle.command_line.specs.declared.remark.Remark.{Remark}
-use Rattle.command_line.specs.declared.remark.Remark.TheVariants.{Refused}
 use Rattle.command_line.specs.declared.remark.clue.Clue.{Clue}
 use Rattle.command_line.specs.declared.remark.opening.Opening.{Opening}
-use Rattle.command_line.specs.declared.remark.opening.Opening.TheVariants.{Other}
 use Rattle.command_line.specs.declared.status.Status.{Status}
 use Rattle.command_line.specs.declared.status.Status.TheVariants.{ReadOrWrite}
 use Rattle.command_line.specs.declared.ending.Ending.{Ending}
 use Rattle.command_line.specs.Program.{refusal_ending, refusal_remark}
 
--- nor of a fault that a text tells of
-told_clue : (told : ToldFault) (input : List ℕ) → record { opening = Other; weights_line = None } ≡ clue_for (fault_of_told told) input
-told_clue (Procedure f inactive) input = refl
-told_clue (Metrics report.Memory) input = refl
-told_clue (Metrics f) input = refl
-
--- a remark with the clue that the input gives
-with_clue : (f : Fault) (clue other : Clue) (remark : Remark) → remark ≡ Refused record { fault = f; clue = clue } → clue ≡ other
-    → remark ≡ Refused record { fault = f; clue = other }
-with_clue f clue other remark is same = is ∙ ap (λ (c : Clue). Refused record { fault = f; clue = c }) same
-
 pub said_beside : (failed : Bool) (status : Status) (input : List ℕ) (answer : Answer) (clue : Clue) (remark : Remark) → IsRemarkBeside answer clue remark
     → clue ≡ clue_beside answer input → IsSaidBeside failed input answer (ending_after failed status remark).remark
 said_beside true status input answer clue remark is same = refl
-said_beside false status input (Err f) clue remark is same = with_clue f clue (clue_for f input) remark is same
-said_beside false status input (Ok (text, Some told)) clue remark is same =
-    is ∙ ap (beside_told told) (same ∙ told_clue told input)
-said_beside false status input (Ok (text, None)) clue remark is same = is
+said_beside false status input answer clue remark is same = subst (λ (c : Clue). IsRemarkBeside answer c remark) same is
 
 -- what follows of two facts of the input holds of it, where it is known
 pub if_known_both : {T : Type 0} (o : Option T) (P Q R : T → Type 0) → ((x : T) → P x → Q x → R x) → IfSome o P → IfSome o Q → IfSome o R

@@ -1,5 +1,5 @@
 -- Metrics of what is read over a bus are those of the image, but for VDM.
-use Rattle.std.proofs.Common.{◌≡◌, ◌≢◌, ◌∙◌, ℕ, Bool, true, false, List, [], ◌∷◌, ◌++◌, append-nil, Option, Some, None, Ok, Err, refl, sym, ap, ap₂, inl, inr}
+use Rattle.std.proofs.Common.{◌≡◌, ◌≢◌, ◌∙◌, ℕ, Bool, true, false, List, [], ◌∷◌, ◌++◌, append-nil, Option, None, Result, Ok, Err, refl, sym, ap}
 use Rattle.std.proofs.lemmas.Grind.{flat_map-append}
 use Rattle.std.specs.Prelude.{option_map}
 use Rattle.std.specs.Option.{option_or}
@@ -14,26 +14,23 @@ use Rattle.module_metrics.specs.VdmMetrics.{vdm_metrics, vdm_seen}
 use Rattle.reports.specs.Reports.{flags_entries, flags_fault, flags_told, inventory_entries, inventory_fault, monitors_entries, monitors_fault}
 use Rattle.reports.specs.SameReports.{IsSame, ReportsSame}
 use Rattle.reports.specs.declared.fault.ReportFault.{ReportFault}
-use Rattle.command_line.specs.Faults.{fault_of_told}
-use Rattle.command_line.specs.MetricsCommand.{IsMetricsAnswer}
+use Rattle.command_line.specs.MetricsCommand.{metrics_told}
+use Rattle.command_line.specs.ReportCommands.{IsReported, Told}
 use Rattle.command_line.specs.Runs.{Answer}
 use Rattle.command_line.specs.SameOverBus.{AreToldBefore, IsGivenUp, IsPlainAnswer, image_of, over_bus}
 use Rattle.command_line.specs.declared.choice.commands.CommandName.TheVariants as name
 use Rattle.command_line.specs.declared.choice.options.Options.{Options}
+use Rattle.command_line.specs.declared.fault.Fault.{Fault}
 use Rattle.command_line.specs.declared.fault.Fault.TheVariants as fault
 use Rattle.command_line.specs.declared.told_fault.ToldFault.{ToldFault}
 use Rattle.command_line.specs.declared.told_fault.ToldFault.TheVariants.{Metrics}
-use Rattle.command_line.proofs.SameOverBus.{IsAnswerOver, IsTold, alone, one_told, reading_fault, same_reports}
+use Rattle.command_line.proofs.SameOverBus.{IsAnswerOver, alone, err_to, same_told, told_of_copy}
 
 -- ---- memories with the same reports have the same metrics
 
-unless_same : {A : Type 0} (o p : Option ReportFault) (x y : List A) → o ≡ p → (o ≡ None → x ≡ y) → unless o x ≡ unless p y
-unless_same None p x y same said = said refl ∙ ap (λ (q : Option ReportFault). unless q y) same
-unless_same (Some f) p x y same said = ap (λ (q : Option ReportFault). unless q y) same
-
 said_same : {A : Type 0} (fault_in : Memory → Option ReportFault) (said_in : Memory → List A) (a b : Memory) → IsSame fault_in said_in a b
     → unless (fault_in a) (said_in a) ≡ unless (fault_in b) (said_in b)
-said_same fault_in said_in a b same = unless_same (fault_in a) (fault_in b) (said_in a) (said_in b) same.fault same.said
+said_same fault_in said_in a b same = same_told unless (λ f x y. refl) fault_in said_in a b same
 
 module _ (a b : Memory) (same : ReportsSame a b) where
   first_same : first_fault a ≡ first_fault b
@@ -76,59 +73,43 @@ followed : (all : Bool) (labels : List Label) (memory : Memory) → exposition l
 unfolding metrics_of
 followed all labels memory = followed_in labels (reported all memory) (vdm_metrics (vdm_seen memory))
 
+abbrev text_in : Answer → List ℕ
+text_in (Ok (text, told)) = text
+text_in (Err f) = []
+
+abbrev fault_in : Answer → Option ToldFault
+fault_in (Ok (text, told)) = told
+fault_in (Err f) = None
+
 module _ (options : Options) where
-  abbrev IsMine : Bool → List ℕ → Answer → Type 0
-  IsMine bus = IsMetricsAnswer (record options { bus = bus })
+  abbrev told_of : Bool → Result Memory ReportFault → Told
+  told_of over = metrics_told (record options { bus = over })
 
-  -- ---- without the flag a text has one answer
+  plain : (text t : List ℕ) (f : Option ToldFault) → IsReported true (told_of true) text (Ok (t, f)) → ¬ (IsGivenUp (Ok (t, f)))
+      → (memory : Memory) × IsTextOf (lines_of text) memory × IsReported false (told_of false) text (Ok (t ++ vdm_text options.labels memory, f))
+  plain text t f (read, is, same) ended =
+      let copy = told_of_copy told_of text (Ok (t, f)) read is same refl ended in
+      let text_is : t ≡ exposition options.labels (metrics_of options.all_flags false copy.fetched) = ap text_in copy.is_told in
+      let fault_is : f ≡ option_map Metrics (first_fault copy.fetched) = ap fault_in copy.is_told in
+      let text_too : t ++ vdm_text options.labels copy.memory ≡ exposition options.labels (metrics_of options.all_flags true copy.memory) =
+      ap (λ (bytes : List ℕ). bytes ++ vdm_text options.labels copy.memory)
+      (text_is ∙ ap (exposition options.labels) (metrics_same copy.fetched copy.memory copy.alike options.all_flags))
+      ∙ sym (followed options.all_flags options.labels copy.memory) in
+      let fault_too = fault_is ∙ ap (option_map Metrics) (first_same copy.fetched copy.memory copy.alike) in
+      (copy.memory, copy.is_text, (Ok copy.memory, copy.is_text, λ i. Ok (text_too i, fault_too i)))
 
-  abbrev told_of : Memory → Answer
-  told_of memory = Ok (exposition options.labels (metrics_of options.all_flags true memory), option_map Metrics (first_fault memory))
+  -- metrics are told in place of any fault but that of an image that is none
+  refused : (text : List ℕ) (f : Fault) → IsReported true (told_of true) text (Err f) → IsReported false (told_of false) text (Err f)
+  refused text (fault.Image f) first = first
+  refused text f (Ok memory, is, same) = absurd cc
+  refused text f (Err g, is, same) = absurd cc
 
-  is_told : (text : List ℕ) (a : Answer) → IsMine false text a → IsTold told_of text a
-  is_told text (Ok (t, told)) (inl (memory, is, are)) =
-      record { read = Ok memory; is_read = is; is_told = ap₂ (λ (x : List ℕ) (y : Option ToldFault). Ok (x, y)) are.text_is are.fault_is }
-  is_told text (Ok (t, told)) (inr (f, never, alone)) = absurd never
-  is_told text (Err (fault.Image f)) first = record { read = Err f; is_read = first; is_told = refl }
-  is_told text (Err f) never = absurd never
-
-  one_answer : (text : List ℕ) (a b : Answer) → IsMine false text a → IsMine false text b → a ≡ b
-  one_answer text a b p q = one_told told_of text a b (is_told text a p) (is_told text b q)
-
-  -- ---- with it, it has the same
-
-  plain : (text t : List ℕ) (told : Option ToldFault) → IsMine true text (Ok (t, told)) → ¬ (IsGivenUp (Ok (t, told)))
-      → (memory : Memory) × IsTextOf (lines_of text) memory × IsMine false text (Ok (t ++ vdm_text options.labels memory, told))
-  plain text t told (inl (fetched, read, are)) ended =
-      let alike = same_reports read.memory fetched read.is_text.image read.fetched in (
-        read.memory,
-        read.is_text,
-        inl (
-          read.memory,
-          read.is_text,
-          record {
-            text_is = ap (λ (bytes : List ℕ). bytes ++ vdm_text options.labels read.memory)
-                (are.text_is ∙ ap (exposition options.labels) (metrics_same fetched read.memory alike options.all_flags))
-                ∙ sym (followed options.all_flags options.labels read.memory);
-            fault_is = are.fault_is ∙ ap (option_map Metrics) (first_same fetched read.memory alike);
-          },
-        ),
-      )
-  plain text t told (inr (f, unread, alone)) ended =
-      let gave_up = reading_fault unread.memory f unread.fetched in
-      absurd (ended (ap (option_map fault_of_told) alone.fault_is ∙ ap (λ (g : ReportFault). Some (fault_of_told (Metrics g))) gave_up))
-
-  whole : (input : List ℕ) (a : Answer) → IsAnswerOver IsMine false input a → a ≢ Err fault.Memory → a ≢ Err fault.Io → IsPlainAnswer (over_bus name.Metrics options) input a
-  whole input a is memory read = record { plain = is; alone = λ other. alone IsMine one_answer input a other is memory read }
+  whole : (input : List ℕ) (a : Answer) → IsAnswerOver told_of false input a → a ≢ Err fault.Memory → a ≢ Err fault.Io → IsPlainAnswer (over_bus name.Metrics options) input a
+  whole input a is memory read = record { plain = is; alone = λ other. alone told_of input a other is memory read }
 
   pub metrics_told_before : AreToldBefore options.labels (over_bus name.Metrics options)
-  metrics_told_before input (Ok (t, told)) is ended memory read =
-      let found = plain (image_of input) t told is.2 ended in
-      let more : List ℕ × Option ToldFault = (t ++ vdm_text options.labels found.0, told) in
+  metrics_told_before input (Ok (t, f)) is ended memory read =
+      let found = plain (image_of input) t f is.2 ended in
+      let more : List ℕ × Option ToldFault = (t ++ vdm_text options.labels found.0, f) in
       record { memory = found.0; is_image = found.1; whole = whole input (Ok more) (is.0, is.1, found.2) (λ same. cc) (λ same. cc) }
-  metrics_told_before input (Err fault.Memory) is ended memory read = absurd (memory refl)
-  metrics_told_before input (Err fault.Io) is ended memory read = absurd (read refl)
-  metrics_told_before input (Err fault.TooLong) is ended memory read = whole input (Err fault.TooLong) is memory read
-  metrics_told_before input (Err (fault.Parts n)) is ended memory read = whole input (Err (fault.Parts n)) is memory read
-  metrics_told_before input (Err (fault.Image f)) is ended memory read = whole input (Err (fault.Image f)) is memory read
-  metrics_told_before input (Err f) is ended memory read = absurd is.2
+  metrics_told_before input (Err f) is ended memory read = whole input (Err f) (err_to told_of input f (refused (image_of input) f) is) memory read

@@ -1,12 +1,12 @@
 -- A report over a bus is the one without, where what is read over it has the reports of the image.
-use Rattle.std.proofs.Common.{◌≡◌, ◌≢◌, ◌∙◌, ◌⊎◌, ℕ, Bool, true, false, List, [], ◌∷◌, Option, Some, None, Result, Ok, Err, refl, sym, ap, inl, inr, length, arith}
+use Rattle.std.proofs.Common.{◌≡◌, ◌≢◌, ◌∙◌, ℕ, Bool, true, false, List, [], ◌∷◌, Option, Some, None, Result, Ok, Err, refl, sym, ap, length, arith}
 use Rattle.std.specs.Prelude.{MatchOption}
 use Rattle.std.proofs.lemmas.List.{length-reverse}
 use Rattle.text_lines.specs.Lines.{lines_of}
 use Rattle.bus_model.specs.declared.bus.BusFault.{BusFault}
 use Rattle.paged_memory.specs.Images.{Memory}
 use Rattle.paged_memory.specs.ImageFaults.{IsAnswer}
-use Rattle.paged_memory.specs.ImageText.{IsImage}
+use Rattle.paged_memory.specs.ImageText.{IsImage, IsTextOf}
 use Rattle.paged_memory.specs.declared.fault.ImageFault.{ImageFault}
 use Rattle.paged_memory.specs.PageAddressing.{History}
 use Rattle.paged_memory.proofs.OneAnswer.{same_answer}
@@ -16,8 +16,8 @@ use Rattle.reports.specs.declared.fault.ReportFault.{ReportFault}
 use Rattle.reports.specs.declared.fault.ReportFault.TheVariants as report
 use Rattle.report_entries.specs.Entries.{Entry}
 use Rattle.command_line.specs.Coloring.{shown_as}
-use Rattle.command_line.specs.OverBus.{IsFetchedFrom, window_at_start}
-use Rattle.command_line.specs.ReportCommands.{IsReported, entries_of, printed, refusal_of}
+use Rattle.command_line.specs.OverBus.{IsFetchedFrom, IsReading, window_at_start}
+use Rattle.command_line.specs.ReportCommands.{IsReported, Told, answer_told, entries_of, printed, printed_of, refusal_of, report_told, text_unless}
 use Rattle.command_line.specs.Runs.{Answer, IsAnswerTo}
 use Rattle.command_line.specs.SameOverBus.{IsGivenUp, IsToldAlike, image_of, over_bus}
 use Rattle.command_line.specs.declared.choice.commands.CommandName.TheVariants.{Report}
@@ -43,118 +43,112 @@ reading_fault memory report.GaveUp is = refl
 reading_fault memory (report.Bus g) is = absurd (never_full memory g is)
 reading_fault memory f (after, (history, ran, is)) = absurd is.answered
 
--- ---- a command that reads an image alone, whose text has one answer without the flag, and that with it unless the reading came to no end
+pub same_reports : (memory fetched : Memory) → IsImage memory → IsFetchedFrom memory (Ok fetched) → ReportsSame fetched memory
+same_reports memory fetched image (after, (history, ran, is)) = fetched_reports (window_at_start memory) after history memory fetched image refl ran is
 
-abbrev pub IsAnswerOver : (Bool → List ℕ → Answer → Type 0) → Bool → List ℕ → Answer → Type 0
-IsAnswerOver IsMine over = IsAnswerTo (Image ∷ []) (λ inputs. IsMine over inputs.image)
+-- ---- a command that reads an image alone, by what it tells of what there is to report of, with the flag and without it
 
-module _ (IsMine : Bool → List ℕ → Answer → Type 0) (one_answer : (text : List ℕ) (a b : Answer) → IsMine false text a → IsMine false text b → a ≡ b) where
-  agree : (o : Option Fault) (text : List ℕ) (a b : Answer) → MatchOption o (IsMine false text a) (λ f. a ≡ Err f) → MatchOption o (IsMine false text b) (λ f. b ≡ Err f) → a ≡ b
-  agree None text a b p q = one_answer text a b p q
-  agree (Some f) text a b p q = p ∙ sym q
+module _ (told : Bool → Result Memory ReportFault → Told) where
+  abbrev IsMine : Bool → List ℕ → Answer → Type 0
+  IsMine over = IsReported over (told over)
 
-  -- two answers without the flag are the same
-  pub alone : (input : List ℕ) (a other : Answer) → IsAnswerOver IsMine false input a → a ≢ Err fault.Memory → a ≢ Err fault.Io
-      → IsAnswerOver IsMine false input other → other ≢ Err fault.Memory → other ≢ Err fault.Io → other ≡ a
-  alone input a other is memory read is_too memory_too read_too =
-      let by = judged (Image ∷ []) (λ inputs. IsMine false inputs.image) input in
-      agree (cut_fault (Image ∷ []) input) (image_of input) other a (by other is_too memory_too read_too) (by a is memory read)
+  abbrev pub IsAnswerOver : Bool → List ℕ → Answer → Type 0
+  IsAnswerOver over = IsAnswerTo (Image ∷ []) (λ inputs. IsMine over inputs.image)
 
-module _ (IsMine : Bool → List ℕ → Answer → Type 0) (one_answer : (text : List ℕ) (a b : Answer) → IsMine false text a → IsMine false text b → a ≡ b)
-    (plain : (text : List ℕ) (a : Answer) → IsMine true text a → ¬ (IsGivenUp a) → IsMine false text a) where
-  plain_to : (input : List ℕ) (a : Answer) → IsAnswerOver IsMine true input a → ¬ (IsGivenUp a) → IsAnswerOver IsMine false input a
-  plain_to input (Ok told) is ended = (is.0, is.1, plain (image_of input) (Ok told) is.2 ended)
-  plain_to input (Err fault.Memory) is ended = tt
-  plain_to input (Err fault.Io) is ended = tt
-  plain_to input (Err fault.TooLong) is ended = is
-  plain_to input (Err (fault.Parts n)) is ended = is
-  plain_to input (Err f) is ended = (is.0, is.1, plain (image_of input) (Err f) is.2 ended)
+  -- ---- without the flag a text has one answer, by what reading it answers
 
-  pub told_alike : (input : List ℕ) (a : Answer) → IsAnswerOver IsMine true input a → ¬ (IsGivenUp a) → a ≢ Err fault.Memory → a ≢ Err fault.Io
-      → IsAnswerOver IsMine false input a × ((other : Answer) → IsAnswerOver IsMine false input other → other ≢ Err fault.Memory → other ≢ Err fault.Io → other ≡ a)
-  told_alike input a is ended memory read =
-      let plain = plain_to input a is ended in (
-        plain,
-        λ other. alone IsMine one_answer input a other plain memory read,
-      )
-
--- what is answered to a text by what is told of a memory
-
-module _ (told_of : Memory → Answer) where
   abbrev told_by : Result Memory ImageFault → Answer
-  told_by (Ok memory) = told_of memory
+  told_by (Ok memory) = answer_told (told false (Ok memory))
   told_by (Err f) = Err (fault.Image f)
 
-  pub record IsTold (text : List ℕ) (answer : Answer) : Type 0 where
+  record IsTold (text : List ℕ) (answer : Answer) : Type 0 where
     pub read : Result Memory ImageFault
     pub is_read : IsAnswer (lines_of text) read
     pub is_told : answer ≡ told_by read
 
-  pub one_told : (text : List ℕ) (a b : Answer) → IsTold text a → IsTold text b → a ≡ b
-  one_told text a b first other =
-      first.is_told ∙ (ap told_by (same_answer (lines_of text) first.read other.read first.is_read other.is_read) ∙ sym other.is_told)
+  is_told : (text : List ℕ) (a : Answer) → IsMine false text a → IsTold text a
+  is_told text (Err (fault.Image f)) first = record { read = Err f; is_read = first; is_told = refl }
+  is_told text a (Ok memory, is, same) = record { read = Ok memory; is_read = is; is_told = same }
+  is_told text a (Err f, never, same) = absurd never
 
-pub same_reports : (memory fetched : Memory) → IsImage memory → IsFetchedFrom memory (Ok fetched) → ReportsSame fetched memory
-same_reports memory fetched image (after, (history, ran, is)) = fetched_reports (window_at_start memory) after history memory fetched image refl ran is
+  agree : (o : Option Fault) (text : List ℕ) (a b : Answer) → MatchOption o (IsMine false text a) (λ f. a ≡ Err f) → MatchOption o (IsMine false text b) (λ f. b ≡ Err f) → a ≡ b
+  agree None text a b p q =
+      let first = is_told text a p in
+      let other = is_told text b q in
+      first.is_told ∙ ap told_by (same_answer (lines_of text) first.read other.read first.is_read other.is_read) ∙ sym other.is_told
+  agree (Some f) text a b p q = p ∙ sym q
+
+  pub alone : (input : List ℕ) (a other : Answer) → IsAnswerOver false input a → a ≢ Err fault.Memory → a ≢ Err fault.Io
+      → IsAnswerOver false input other → other ≢ Err fault.Memory → other ≢ Err fault.Io → other ≡ a
+  alone input a other is memory read is_too memory_too read_too =
+      let by = judged (Image ∷ []) (λ inputs. IsMine false inputs.image) input in
+      agree (cut_fault (Image ∷ []) input) (image_of input) other a (by other is_too memory_too read_too) (by a is memory read)
+
+  -- a fault that is answered with it is answered without it
+  pub err_to : (input : List ℕ) (f : Fault) → (IsMine true (image_of input) (Err f) → IsMine false (image_of input) (Err f))
+      → IsAnswerOver true input (Err f) → IsAnswerOver false input (Err f)
+  err_to input fault.Memory mine is = tt
+  err_to input fault.Io mine is = tt
+  err_to input fault.TooLong mine is = is
+  err_to input (fault.Parts n) mine is = is
+  err_to input f mine is = (is.0, is.1, mine is.2)
+
+  -- ---- with it, it is told of a memory with the same reports, unless the reading came to no end
+
+  pub record IsToldOfCopy (text : List ℕ) (answer : Answer) : Type 0 where
+    pub memory : Memory
+    pub fetched : Memory
+    pub is_text : IsTextOf (lines_of text) memory
+    pub alike : ReportsSame fetched memory
+    pub is_told : answer ≡ answer_told (told true (Ok fetched))
+
+  pub told_of_copy : (text : List ℕ) (a : Answer) (read : Result Memory ReportFault) → IsReading true text read → a ≡ answer_told (told true read)
+      → IsGivenUp (answer_told (told true (Err report.GaveUp))) → ¬ (IsGivenUp a) → IsToldOfCopy text a
+  told_of_copy text a (Ok fetched) is same gives_up ended = record {
+    memory = is.memory;
+    fetched = fetched;
+    is_text = is.is_text;
+    alike = same_reports is.memory fetched is.is_text.image is.fetched;
+    is_told = same;
+  }
+  told_of_copy text a (Err f) is same gives_up ended =
+      let gave_up : f ≡ report.GaveUp = reading_fault is.memory f is.fetched in
+      absurd (ended (rw (same, gave_up) gives_up))
+
+-- what is told by a fault, or else by what is said, is told alike of memories with the same report
+pub same_told : {A T : Type 0} (tell : Option ReportFault → A → T) → ((f : ReportFault) (x y : A) → tell (Some f) x ≡ tell (Some f) y)
+    → (fault_in : Memory → Option ReportFault) (said_in : Memory → A) (a b : Memory) → IsSame fault_in said_in a b → tell (fault_in a) (said_in a) ≡ tell (fault_in b) (said_in b)
+same_told tell alone fault_in said_in a b same = by (fault_in a) (fault_in b) same.fault same.said
+  where
+    by : (o p : Option ReportFault) → o ≡ p → (o ≡ None → said_in a ≡ said_in b) → tell o (said_in a) ≡ tell p (said_in b)
+    by None p fault said = ap (tell None) (said refl) ∙ ap (λ (q : Option ReportFault). tell q (said_in b)) fault
+    by (Some f) p fault said = alone f (said_in a) (said_in b) ∙ ap (λ (q : Option ReportFault). tell q (said_in b)) fault
 
 -- ---- reports
 
-module _ (refusal : Memory → Option ReportFault) (text_of : Memory → List ℕ) where
-  -- ---- without the flag a text has one answer, by what reading it answers
+module _ (name : ReportName) (options : Options) (pick : (fetched memory : Memory) → ReportsSame fetched memory → IsSame (refusal_of name) (entries_of name) fetched memory) where
+  abbrev told_of : Bool → Result Memory ReportFault → Told
+  told_of over = report_told (record options { bus = over }) (refusal_of name) (printed_of name)
 
-  abbrev by_refusal : Memory → Option ReportFault → Answer
-  by_refusal memory None = Ok (text_of memory, None)
-  by_refusal memory (Some f) = Err (fault.Report f)
+  plain : (text : List ℕ) (a : Answer) → IsReported true (told_of true) text a → ¬ (IsGivenUp a) → IsReported false (told_of false) text a
+  plain text (Err (fault.Image f)) first ended = first
+  plain text a (read, is, same) ended =
+      let copy = told_of_copy told_of text a read is same refl ended in
+      let tell : Option ReportFault → List Entry → Told = λ refused entries. text_unless refused (shown_as options.coloring options.json (printed options.json entries)) in
+      let alike = same_told tell (λ f x y. refl) (refusal_of name) (entries_of name) copy.fetched copy.memory (pick copy.fetched copy.memory copy.alike) in
+      (Ok copy.memory, copy.is_text, copy.is_told ∙ ap answer_told alike)
 
-  abbrev report_of : Memory → Answer
-  report_of memory = by_refusal memory (refusal memory)
+  plain_to : (input : List ℕ) (a : Answer) → IsAnswerOver told_of true input a → ¬ (IsGivenUp a) → IsAnswerOver told_of false input a
+  plain_to input (Ok t) is ended = (is.0, is.1, plain (image_of input) (Ok t) is.2 ended)
+  plain_to input (Err f) is ended = err_to told_of input f (λ mine. plain (image_of input) (Err f) mine ended) is
 
-  is_told : (text : List ℕ) (a : Answer) → IsReported false refusal text_of text a → IsTold report_of text a
-  is_told text (Ok (t, None)) (memory, is, none, said) =
-      record { read = Ok memory; is_read = is; is_told = (λ i. Ok (said i, None)) ∙ ap (by_refusal memory) (sym none) }
-  is_told text (Ok (t, Some f)) never = absurd never
-  is_told text (Err (fault.Report f)) (inl never) = absurd never
-  is_told text (Err (fault.Report f)) (inr (memory, is, some)) = record { read = Ok memory; is_read = is; is_told = ap (by_refusal memory) (sym some) }
-  is_told text (Err (fault.Image f)) first = record { read = Err f; is_read = first; is_told = refl }
-  is_told text (Err f) never = absurd never
-
-  one_report : (text : List ℕ) (a b : Answer) → IsReported false refusal text_of text a → IsReported false refusal text_of text b → a ≡ b
-  one_report text a b p q = one_told report_of text a b (is_told text a p) (is_told text b q)
-
-  -- ---- with it, it has the same
-
-  module _ (pick : (fetched memory : Memory) → ReportsSame fetched memory → IsSame refusal text_of fetched memory) where
-    same : (memory fetched : Memory) → IsImage memory → IsFetchedFrom memory (Ok fetched) → IsSame refusal text_of fetched memory
-    same memory fetched image read = pick fetched memory (same_reports memory fetched image read)
-
-    plain_report : (text : List ℕ) (a : Answer) → IsReported true refusal text_of text a → ¬ (IsGivenUp a) → IsReported false refusal text_of text a
-    plain_report text (Ok (t, None)) (fetched, read, none, said) ended =
-        let alike = same read.memory fetched read.is_text.image read.fetched in
-        (read.memory, read.is_text, sym alike.fault ∙ none, said ∙ alike.said none)
-    plain_report text (Ok (t, Some f)) never ended = absurd never
-    plain_report text (Err (fault.Report f)) (inl unread) ended =
-        absurd (ended (ap (λ (g : ReportFault). Some (fault.Report g)) (reading_fault unread.memory f unread.fetched)))
-    plain_report text (Err (fault.Report f)) (inr (fetched, read, some)) ended =
-        let alike = same read.memory fetched read.is_text.image read.fetched in
-        inr (read.memory, read.is_text, sym alike.fault ∙ some)
-    plain_report text (Err (fault.Image f)) first ended = first
-    plain_report text (Err f) never ended = absurd never
-
--- what is printed of the same entries is the same, in each form
-printed_told_alike : (name : ReportName) (options : Options) → ((fetched memory : Memory) → ReportsSame fetched memory → IsSame (refusal_of name) (entries_of name) fetched memory)
-    → IsToldAlike (over_bus (Report name) options)
-printed_told_alike name options pick input a is ended memory read =
-    let shown : List Entry → List ℕ = λ entries. shown_as options.coloring options.json (printed options.json entries) in
-    let text_of = λ (m : Memory). shown (entries_of name m) in
-    let same : (fetched memory : Memory) → ReportsSame fetched memory → IsSame (refusal_of name) text_of fetched memory = λ fetched image all.
-    let alike = pick fetched image all in
-    record { fault = alike.fault; said = λ none. ap shown (alike.said none) } in
-    let told = told_alike (λ over. IsReported over (refusal_of name) text_of) (one_report (refusal_of name) text_of) (plain_report (refusal_of name) text_of same) input a is ended memory read in
-    record { plain = told.0; alone = told.1 }
+  told_alike : IsToldAlike (over_bus (Report name) options)
+  told_alike input a is ended memory read =
+      let plain = plain_to input a is ended in record { plain = plain; alone = λ other. alone told_of input a other plain memory read }
 
 pub each_told_alike : (name : ReportName) (options : Options) → IsToldAlike (over_bus (Report name) options)
-each_told_alike Inventory options = printed_told_alike Inventory options (λ fetched memory all. all.inventory)
-each_told_alike Apps options = printed_told_alike Apps options (λ fetched memory all. all.apps)
-each_told_alike Monitors options = printed_told_alike Monitors options (λ fetched memory all. all.monitors)
-each_told_alike Flags options = printed_told_alike Flags options (λ fetched memory all. all.flags)
-each_told_alike Details options = printed_told_alike Details options (λ fetched memory all. all.details)
+each_told_alike Inventory options = told_alike Inventory options (λ fetched memory all. all.inventory)
+each_told_alike Apps options = told_alike Apps options (λ fetched memory all. all.apps)
+each_told_alike Monitors options = told_alike Monitors options (λ fetched memory all. all.monitors)
+each_told_alike Flags options = told_alike Flags options (λ fetched memory all. all.flags)
+each_told_alike Details options = told_alike Details options (λ fetched memory all. all.details)

@@ -1,18 +1,19 @@
 -- The command line `cmisctl COMMAND [FLAGS]`, as `clap` reads it (docs/formats.md; this project's own): one level of
 -- subcommands, one of them required, each with its own flags.
-use Rattle.std.specs.Prelude.{Bool, true, false, List, [], ◌∷◌, fold, Option, Result, Ok}
-use Rattle.std.specs.Prelude.{◌||◌, not, codes, find, option_map, option_and_then}
+use Rattle.std.specs.Prelude.{◌≡◌, Bool, true, List, [], ◌∷◌, fold, Option, Some, Result, Ok}
+use Rattle.std.specs.Prelude.{codes, find, map, option_map, option_and_then}
 use Rattle.std.specs.List.{list_any}
 use Rattle.std.specs.Str.{bytes_eq}
 use Rattle.clap.specs.Words.{App, Row, Text, new_app, subcommand_of}
 use Rattle.clap.specs.Words.{fault_of, with_rule, with_subcommand, Kinds}
 use Rattle.clap.specs.Simple.{on_top}
+use Rattle.command_line.specs.declared.choice.commands.CommandEntry.{CommandEntry}
 use Rattle.command_line.specs.declared.choice.commands.CommandName.{CommandName}
 use Rattle.command_line.specs.declared.choice.commands.CommandName.TheVariants.{Report, Observables, Metrics, Plan, Draw, Check, Provision, Trace}
 use Rattle.command_line.specs.declared.choice.commands.ReportName.TheVariants.{Inventory, Apps, Monitors, Flags, Details}
 use Rattle.command_line.specs.declared.choice.commands.Request.{Request}
 use Rattle.command_line.specs.declared.choice.word_fault.WordFault.{WordFault}
-use Rattle.command_line.specs.GivenFlags.{FlagEntry, activate, bus, color_flag, counts_by_id, first, flag_rule, flags_flag, json, keep, label_flag, now, paired, svg, switch, wake, with_word, with_words}
+use Rattle.command_line.specs.GivenFlags.{FlagEntry, activate, bus, color_flag, counts_by_id, first, flag_of, flag_rule, flags_flag, json, keep, label_flag, now, paired, svg, switch, wake, with_word, with_words}
 use Rattle.command_line.specs.Options.{no_options, options_in, then_with}
 
 -- a command, by its name among the words, and its flags
@@ -20,6 +21,10 @@ pub record Entry : Type 0 where
   pub name : Text
   pub command : CommandName
   pub flags : List FlagEntry
+
+-- one of the table in `src/choice/commands.rt`
+abbrev pub entry_of : CommandEntry → Entry
+entry_of entry = record { name = entry.name.now; command = entry.command; flags = map flag_of entry.flags.now }
 
 unfoldable pub commands : List Entry
 commands =
@@ -89,3 +94,7 @@ request_of words = request_in (subcommand_of program words)
 -- the kinds of error that `clap` may answer to the words, none where it takes them
 abbrev pub faults_of : List Text → Kinds
 faults_of words = fault_of program words
+
+-- `clap` takes the words, and they ask for this
+abbrev pub AsksFor : List Text → Request → Type 0
+AsksFor words request = (request_of words ≡ Some (Ok request)) × (faults_of words ≡ [])

@@ -1,13 +1,11 @@
 -- What each command answers to its input, with the options that are given. (docs/formats.md, "Input"; this project's own)
 use Rattle.std.specs.Prelude.{ℕ, true, false, List}
 use Rattle.command_line.specs.CheckCommand.{IsCheckAnswer}
-use Rattle.command_line.specs.DrawCommand.{IsDrawAnswer}
 use Rattle.command_line.specs.Inputs.{Inputs, parts_read}
 use Rattle.command_line.specs.MetricsCommand.{IsMetricsAnswer}
-use Rattle.command_line.specs.ObservablesCommand.{IsObservablesAnswer}
 use Rattle.command_line.specs.PlanCommand.{IsPlanAnswer}
 use Rattle.command_line.specs.ProvisionCommand.{IsProcedureAnswer}
-use Rattle.command_line.specs.ReportCommands.{IsReportAnswer}
+use Rattle.command_line.specs.ReportCommands.{IsObservablesAnswer, IsReportAnswer}
 use Rattle.command_line.specs.Runs.{Answer, IsAnswerTo}
 use Rattle.command_line.specs.declared.choice.commands.CommandName.{CommandName}
 use Rattle.command_line.specs.declared.choice.commands.CommandName.TheVariants.{Report, Observables, Metrics, Plan, Draw, Check, Provision, Trace}
@@ -19,8 +17,8 @@ abbrev pub IsAnswerToInputs : CommandName → Options → Inputs → Answer → 
 IsAnswerToInputs (Report report) options inputs = IsReportAnswer report options inputs.image
 IsAnswerToInputs Observables options inputs = IsObservablesAnswer options inputs.image
 IsAnswerToInputs Metrics options inputs = IsMetricsAnswer options inputs.image
-IsAnswerToInputs Plan options inputs = IsPlanAnswer options inputs
-IsAnswerToInputs Draw options inputs = IsDrawAnswer options inputs
+IsAnswerToInputs Plan options inputs = IsPlanAnswer false options inputs
+IsAnswerToInputs Draw options inputs = IsPlanAnswer true options inputs
 IsAnswerToInputs Check options inputs = IsCheckAnswer options inputs
 IsAnswerToInputs Provision options inputs = IsProcedureAnswer false options inputs
 IsAnswerToInputs Trace options inputs = IsProcedureAnswer true options inputs

@@ -5,6 +5,7 @@ use Rattle.std.specs.Option.{option_map_or}
 use Rattle.std.specs.Str.{bytes_eq}
 use Rattle.clap.specs.Words.{Row, Rule, Text, first_of, new_rule}
 use Rattle.clap.specs.declared.builder.action.ArgAction.TheVariants.{Append, Set, SetTrue}
+use Rattle.command_line.specs.declared.choice.commands.Flag.{Flag}
 use Rattle.command_line.specs.declared.choice.commands.Takes.{Takes}
 use Rattle.command_line.specs.declared.choice.commands.Takes.TheVariants.{Nothing, Word, Words}
 
@@ -12,6 +13,10 @@ use Rattle.command_line.specs.declared.choice.commands.Takes.TheVariants.{Nothin
 pub record FlagEntry : Type 0 where
   pub name : Text
   pub takes : Takes
+
+-- one of the table in `src/choice/commands.rt`
+abbrev pub flag_of : Flag → FlagEntry
+flag_of flag = record { name = flag.name.now; takes = flag.takes }
 
 abbrev pub switch : Text → FlagEntry
 switch name = record { name = name; takes = Nothing }

@@ -42,19 +42,15 @@ pub record IsReadOverBus (text : List ℕ) (answer : Result Memory ReportFault) 
   pub is_text : IsTextOf (lines_of text) memory
   pub fetched : IsFetchedFrom memory answer
 
--- what is reported of by the text of an image: over a bus, or the image itself
-abbrev pub IsToReport : Bool → List ℕ → Memory → Type 0
-IsToReport true text memory = IsReadOverBus text (Ok memory)
-IsToReport false text memory = IsTextOf (lines_of text) memory
-
--- the reading over a bus has this fault
-abbrev pub IsUnread : Bool → List ℕ → ReportFault → Type 0
-IsUnread true text f = IsReadOverBus text (Err f)
-IsUnread false text f = ⊥
+-- what there is to report of by the text of an image: over a bus what is read, or why nothing is; else the image itself
+abbrev pub IsReading : Bool → List ℕ → Result Memory ReportFault → Type 0
+IsReading true text read = IsReadOverBus text read
+IsReading false text (Ok memory) = IsTextOf (lines_of text) memory
+IsReading false text (Err f) = ⊥
 
 -- why there is nothing to report of: only the steps of a bus need memory
 abbrev pub IsInputRefusal : Bool → List ℕ → Fault → Type 0
 IsInputRefusal bus text fault.Memory = bus ≡ true
 IsInputRefusal bus text (fault.Image f) = IsFirstFault (lines_of text) f
-IsInputRefusal bus text (fault.Report f) = IsUnread bus text f
+IsInputRefusal bus text (fault.Report f) = IsReading bus text (Err f)
 IsInputRefusal bus text f = ⊥

@@ -9,8 +9,6 @@ use Rattle.bus_model.specs.declared.fault.ScriptFault.TheVariants as script
 use Rattle.field_tables.specs.declared.sff_fault.SffFault.TheVariants as sff
 use Rattle.applications.specs.declared.fault.AdvertFault.{AdvertFault}
 use Rattle.applications.specs.declared.fault.AdvertFault.TheVariants as advert
-use Rattle.applications.specs.declared.weights.fault.WeightsFault.{WeightsFault}
-use Rattle.applications.specs.declared.weights.table.WeightTable.{WeightTable}
 use Rattle.applications.specs.declared.weights.table.WeightTable.TheVariants as table
 use Rattle.applications.specs.declared.weights.fault.WeightsFault.TheVariants as weights
 use Rattle.plan_certificate.specs.declared.fault.CertificateFault.TheVariants as certificate
@@ -22,7 +20,7 @@ use Rattle.reports.specs.declared.fault.ReportFault.TheVariants as report
 use Rattle.command_line.specs.declared.fault.Fault.{Fault}
 use Rattle.command_line.specs.declared.fault.Fault.TheVariants as fault
 use Rattle.command_line.specs.declared.remark.place.Place.{Place}
-use Rattle.command_line.specs.declared.remark.place.Place.TheVariants.{Nowhere, Parts, ImageLine, WeightsLine, KeptLine, CertificateLine, ScriptLine, Half, Page, Identifier, Revision, HostKey, MediaKey, AppKey, Path, KeptPath, Entry, Lane, LaneStatus, State, Code}
+use Rattle.command_line.specs.declared.remark.place.Place.TheVariants.{Nowhere, Parts, ImageLine, WeightsLine, KeptLine, CertificateLine, ScriptLine, Half, Page, Identifier, Revision, WeightsKey, Path, KeptPath, Entry, Lane, LaneStatus, State, Code}
 
 -- of the words of a fault the first is its code
 abbrev pub first_word : List (List ℕ) → List ℕ
@@ -37,60 +35,41 @@ place_of_advert (advert.BadSum page) = Page page
 place_of_advert (advert.NotEightLanes identifier) = Identifier identifier
 place_of_advert advert.FlatMemory = Nowhere
 
--- the line of the weights, if one is told
-abbrev pub line_of_weights : Option ℕ → Place
-line_of_weights (Some line) = WeightsLine line
-line_of_weights None = Nowhere
-
--- the key of a table that names this
-abbrev pub key_of : WeightTable → ℕ → Place
-key_of table.Host number = HostKey number
-key_of table.Media number = MediaKey number
-key_of table.App number = AppKey number
-
--- a key that the fault names, or else that line
-abbrev pub place_of_weights : WeightsFault → Option ℕ → Place
-place_of_weights (weights.SameKeyTwice table number) line = key_of table number
-place_of_weights (weights.BadWeight table number) line = key_of table number
-place_of_weights weights.Memory line = Nowhere
-place_of_weights _ line = line_of_weights line
-
--- where a fault is that is none of weights
-abbrev pub own_place : Fault → Place
-own_place (fault.Parts count) = Parts count
-own_place (fault.Image (image.BadLine line)) = ImageLine line
-own_place (fault.Image (image.OutOfOrder line)) = ImageLine line
-own_place (fault.Report (report.Unknown identifier)) = Identifier identifier
-own_place (fault.Report (report.Revision revision)) = Revision revision
-own_place (fault.Report (report.Absent key)) = Half key
-own_place (fault.Report (report.Sff (sff.WrongIdentifier identifier))) = Identifier identifier
-own_place (fault.Report (report.Sff (sff.Absent key))) = Half key
-own_place (fault.Report (report.Advert f)) = place_of_advert f
-own_place (fault.Advert f) = place_of_advert f
-own_place (fault.Kept (kept.BadLine line)) = KeptLine line
-own_place (fault.Kept (kept.NotAdmissible number)) = KeptPath number
-own_place (fault.Certificate (certificate.BadLine line)) = CertificateLine line
-own_place (fault.Certificate (certificate.OutOfOrder line)) = CertificateLine line
-own_place (fault.Bad reason.PathNotAllowed number) = Path number
-own_place (fault.Bad reason.LaneTwice number) = Path number
-own_place (fault.Bad reason.NotClosed number) = Entry number
-own_place (fault.Bad reason.TooLow number) = Entry number
-own_place (fault.Bad reason.KeptNotAdmissible number) = KeptPath number
-own_place (fault.Bad reason.KeptMissing number) = KeptPath number
-own_place (fault.Script (script.BadLine line)) = ScriptLine line
-own_place (fault.Module (sim.Absent key)) = Half key
-own_place (fault.Module (sim.ActiveNotPaths lane)) = Lane lane
-own_place (fault.Provision (provision.Rejected lane status)) = LaneStatus lane status
-own_place (fault.Provision (provision.StagedDiffers lane)) = Lane lane
-own_place (fault.Provision (provision.ActiveDiffers lane)) = Lane lane
-own_place (fault.Provision (provision.ModuleState code)) = State code
-own_place (fault.Provision (provision.Reserved code)) = Code code
-own_place _ = Nowhere
-
--- where a fault is, and of weights this line, if the fault names none
+-- where a fault is: of weights the key that it names, or else that line of them, if one is told
 abbrev pub place_of : Fault → Option ℕ → Place
-place_of (fault.Weights f) line = place_of_weights f line
-place_of f line = own_place f
+place_of (fault.Weights (weights.SameKeyTwice table number)) line = WeightsKey table number
+place_of (fault.Weights (weights.BadWeight table number)) line = WeightsKey table number
+place_of (fault.Weights weights.Memory) line = Nowhere
+place_of (fault.Weights f) line = WeightsLine line
+place_of (fault.Parts count) line = Parts count
+place_of (fault.Image (image.BadLine number)) line = ImageLine number
+place_of (fault.Image (image.OutOfOrder number)) line = ImageLine number
+place_of (fault.Report (report.Unknown identifier)) line = Identifier identifier
+place_of (fault.Report (report.Revision revision)) line = Revision revision
+place_of (fault.Report (report.Absent key)) line = Half key
+place_of (fault.Report (report.Sff (sff.WrongIdentifier identifier))) line = Identifier identifier
+place_of (fault.Report (report.Sff (sff.Absent key))) line = Half key
+place_of (fault.Report (report.Advert f)) line = place_of_advert f
+place_of (fault.Advert f) line = place_of_advert f
+place_of (fault.Kept (kept.BadLine number)) line = KeptLine number
+place_of (fault.Kept (kept.NotAdmissible number)) line = KeptPath number
+place_of (fault.Certificate (certificate.BadLine number)) line = CertificateLine number
+place_of (fault.Certificate (certificate.OutOfOrder number)) line = CertificateLine number
+place_of (fault.Bad reason.PathNotAllowed number) line = Path number
+place_of (fault.Bad reason.LaneTwice number) line = Path number
+place_of (fault.Bad reason.NotClosed number) line = Entry number
+place_of (fault.Bad reason.TooLow number) line = Entry number
+place_of (fault.Bad reason.KeptNotAdmissible number) line = KeptPath number
+place_of (fault.Bad reason.KeptMissing number) line = KeptPath number
+place_of (fault.Script (script.BadLine number)) line = ScriptLine number
+place_of (fault.Module (sim.Absent key)) line = Half key
+place_of (fault.Module (sim.ActiveNotPaths lane)) line = Lane lane
+place_of (fault.Provision (provision.Rejected lane status)) line = LaneStatus lane status
+place_of (fault.Provision (provision.StagedDiffers lane)) line = Lane lane
+place_of (fault.Provision (provision.ActiveDiffers lane)) line = Lane lane
+place_of (fault.Provision (provision.ModuleState code)) line = State code
+place_of (fault.Provision (provision.Reserved code)) line = Code code
+place_of _ line = Nowhere
 
 -- two upper-case digits and `h`
 unfoldable pub byte_text : ℕ → List ℕ
@@ -104,7 +83,8 @@ abbrev pub place_text : Place → List ℕ
 place_text Nowhere = []
 place_text (Parts count) = parts_text count
 place_text (ImageLine line) = codes ", line " ++ decimal line ++ codes " of the image"
-place_text (WeightsLine line) = codes ", line " ++ decimal line ++ codes " of the weights"
+place_text (WeightsLine None) = []
+place_text (WeightsLine (Some line)) = codes ", line " ++ decimal line ++ codes " of the weights"
 place_text (KeptLine line) = codes ", line " ++ decimal line ++ codes " of the kept paths"
 place_text (CertificateLine line) = codes ", line " ++ decimal line ++ codes " of the certificate"
 place_text (ScriptLine line) = codes ", line " ++ decimal line ++ codes " of the script"
@@ -112,9 +92,9 @@ place_text (Half key) = codes ", " ++ key_text key
 place_text (Page page) = codes ", page " ++ byte_text page
 place_text (Identifier identifier) = codes ", identifier " ++ byte_text identifier
 place_text (Revision revision) = codes ", revision " ++ decimal (revision / 16) ++ codes "." ++ decimal (revision % 16)
-place_text (HostKey host_id) = codes ", key " ++ byte_text host_id
-place_text (MediaKey media_id) = codes ", key " ++ byte_text media_id ++ codes " of 'media'"
-place_text (AppKey number) = codes ", key " ++ decimal number ++ codes " of 'app'"
+place_text (WeightsKey table.Host host_id) = codes ", key " ++ byte_text host_id
+place_text (WeightsKey table.Media media_id) = codes ", key " ++ byte_text media_id ++ codes " of 'media'"
+place_text (WeightsKey table.App number) = codes ", key " ++ decimal number ++ codes " of 'app'"
 place_text (Path number) = codes ", path " ++ decimal number
 place_text (KeptPath number) = codes ", kept path " ++ decimal number
 place_text (Entry number) = codes ", entry " ++ decimal number

@@ -1,6 +1,10 @@
--- What the command `plan` answers to the texts of its parts, for a module that pairs first lanes or one that does not. (docs/formats.md, "Input" and "plan"; this project's own)
+-- What the commands `plan` and `draw` answer to the texts of their parts, for a module that pairs first lanes or one that does not.
+-- (docs/formats.md, "Input", "plan" and "draw"; this project's own)
 use Rattle.std.specs.Prelude.{◌≡◌, ℕ, Bool, true, false, List, None, Ok, Err}
+use Rattle.field_tables.specs.declared.field.Field.TheVariants.{CMediaType}
+use Rattle.field_tables.specs.Readings.{number}
 use Rattle.plan_certificate.specs.Certificates.{Claim}
+use Rattle.plan_drawing.specs.Drawings.{IsDrawing}
 use Rattle.report_entries.specs.EntryJson.{json_text}
 use Rattle.plan_reports.specs.PlanJson.{plan_json}
 use Rattle.command_line.specs.Inputs.{Inputs}
@@ -21,18 +25,31 @@ pub record IsPlanJson (advert : Advertised) (weights : PathWeights) (kept : List
   pub written : text ≡ json_text (plan_json advert weights kept certificate.paths)
 
 -- that, or the certificate's text
-abbrev pub TellsPlan : Bool → Advertised → PathWeights → List Path → List ℕ → Type 0
-TellsPlan true advert weights kept text = IsPlanJson advert weights kept text
-TellsPlan false advert weights kept text = IsPlanText advert weights kept text
+abbrev pub TellsPlanFor : Bool → Advertised → PathWeights → List Path → List ℕ → Type 0
+TellsPlanFor true advert weights kept text = IsPlanJson advert weights kept text
+TellsPlanFor false advert weights kept text = IsPlanText advert weights kept text
+
+abbrev pub TellsPlan : Bool → Planning → List ℕ → Type 0
+TellsPlan json planning text = TellsPlanFor json planning.advert (app_weights planning.advert planning.weights) planning.kept text
+
+-- the drawing of the plan, as an SVG or as text
+abbrev pub DrawsPlan : Bool → Planning → List ℕ → Type 0
+DrawsPlan svg planning text = (has_paths : Bool)
+    × IsDrawing svg (number planning.image CMediaType) planning.advert (app_weights planning.advert planning.weights) planning.kept text has_paths
+
+-- what is told by the options of the command, which draws the plan or not
+abbrev pub Tells : Bool → Options → Planning → List ℕ → Type 0
+Tells true options = DrawsPlan options.svg
+Tells false options = TellsPlan options.json
 
 -- the plan for the image, the weights and the kept paths of these texts
-pub record IsPlanned (json : Bool) (conventions : Conventions) (inputs : Inputs) (text : List ℕ) : Type 0 where
+pub record IsPlanned (Told : Planning → List ℕ → Type 0) (conventions : Conventions) (inputs : Inputs) (text : List ℕ) : Type 0 where
   pub planning : Planning
   pub is_planning : IsPlanning conventions inputs planning
-  pub told : TellsPlan json planning.advert (app_weights planning.advert planning.weights) planning.kept text
+  pub told : Told planning text
 
--- the answer to the texts of an image, of weights and of kept paths
-abbrev pub IsPlanAnswer : Options → Inputs → Answer → Type 0
-IsPlanAnswer options inputs (Ok (text, None)) = IsPlanned options.json options.conventions inputs text
-IsPlanAnswer options inputs (Ok (text, ended)) = ⊥
-IsPlanAnswer options inputs (Err f) = IsPlanningRefusal options.conventions inputs f
+-- the answer to the texts of an image, of weights and of kept paths, by whether the plan is drawn
+abbrev pub IsPlanAnswer : Bool → Options → Inputs → Answer → Type 0
+IsPlanAnswer draws options inputs (Ok (text, None)) = IsPlanned (Tells draws options) options.conventions inputs text
+IsPlanAnswer draws options inputs (Ok (text, ended)) = ⊥
+IsPlanAnswer draws options inputs (Err f) = IsPlanningRefusal options.conventions inputs f

@@ -1,26 +1,22 @@
 -- One run of the whole program, from the words of its command line and its input to what it writes and how it ends.
 -- (docs/formats.md; this project's own)
-use Rattle.std.specs.Prelude.{◌≡◌, ◌⊎◌, ◌++◌, ◌∷◌, ℕ, Bool, true, false, List, [], map, codes, string_bytes, Option, Some, IfSome, Result, Ok, Err, Vec, String}
+use Rattle.std.specs.Prelude.{◌≡◌, ◌⊎◌, ℕ, Bool, true, false, List, [], map, string_bytes, Option, Some, IfSome, Result, Ok, Err, Vec, String}
 use Rattle.std.specs.Result.{result_map_both}
 use Rattle.std.specs.IoError.{error_kind}
 use Rattle.std.specs.Io.KnownBytes.{Appends}
 use Rattle.std.specs.declared.alloc.Global.{Global}
 use Rattle.std.specs.declared.io.Error.{Error}
-use Rattle.std.specs.declared.io.ErrorKind.{ErrorKind}
-use Rattle.std.specs.declared.io.ErrorKind.TheVariants.{OutOfMemory}
 use Rattle.clap.specs.Words.{Text, takes}
 use Rattle.command_line.specs.Choice.{faults_of, program, request_of}
-use Rattle.command_line.specs.ChoiceFault.{IsFaultAmong, refusal_text, status_of_fault}
+use Rattle.command_line.specs.ChoiceFault.{IsFaultAmong, fault_of_words, refusal_text, status_of_fault}
 use Rattle.command_line.specs.Commands.{IsAnswerOf}
 use Rattle.command_line.specs.Coloring.{request_on_screen}
-use Rattle.command_line.specs.Faults.{fault_line}
 use Rattle.command_line.specs.Runs.{IsCommandRun, ended, ending_after}
 use Rattle.command_line.specs.StoppingWriter.{contents_of, writing_failed}
 use Rattle.command_line.specs.declared.choice.commands.Request.{Request}
 use Rattle.command_line.specs.declared.choice.fault.ChoiceFault.{ChoiceFault}
 use Rattle.command_line.specs.declared.choice.fault.ChoiceFault.TheVariants.{Memory, Word}
 use Rattle.command_line.specs.declared.choice.word_fault.WordFault.{WordFault}
-use Rattle.command_line.specs.declared.fault.Fault.TheVariants as fault
 use Rattle.command_line.specs.declared.input.counted_reader.CountedReader.{CountedReader}
 use Rattle.command_line.specs.declared.output.stopping_writer.StoppingWriter.{StoppingWriter}
 use Rattle.command_line.specs.Remarks.{remark_text}
@@ -52,20 +48,6 @@ IsRefusalSaid refusal before after write_failed status =
 abbrev pub words_of : Result (Vec (String Global) Global) Error → Result (List Text) Error
 words_of words = result_map_both (λ words. map string_bytes words.items) (λ error. error) words
 
--- how the program ends where its words cannot be read, and the line that it writes
-abbrev pub words_status : ErrorKind → Status
-words_status OutOfMemory = status.Memory
-words_status _ = status.CommandLine
-
-unfoldable pub words_line : ErrorKind → List ℕ
-words_line OutOfMemory = fault_line fault.Memory
-words_line _ = codes "error: a word of the command line is not UTF-8" ++ 10 ∷ []
-
-abbrev pub IsWordsRefusalSaid : Error → Option (List ℕ) → Option (List ℕ) → Bool → Status → Type 0
-IsWordsRefusalSaid error before after write_failed status =
-    (status ≡ ended write_failed (words_status (error_kind error)))
-    × (write_failed ≡ false → Appends before after (words_line (error_kind error)))
-
 -- what is said beside a refusal of the command line that ends with this status
 abbrev pub refusal_remark : Status → Remark
 refusal_remark status.Memory = NoMemory
@@ -95,4 +77,4 @@ IsProgramRun remaining contents shows_colors (Ok words) reader reader_after writ
     × IsCommandRun remaining contents request.options.json (IsAnswerOf (request_on_screen shows_colors request)) reader reader_after writer writer_after ending)
     ⊎ ((fault : ChoiceFault) × IsRefusalOf words fault × IsRefusalRun contents (IsRefusalSaid fault) reader reader_after writer writer_after ending)
 IsProgramRun remaining contents shows_colors (Err error) reader reader_after writer writer_after ending =
-    IsRefusalRun contents (IsWordsRefusalSaid error) reader reader_after writer writer_after ending
+    IsRefusalRun contents (IsRefusalSaid (fault_of_words (error_kind error))) reader reader_after writer writer_after ending

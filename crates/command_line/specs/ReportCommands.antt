@@ -1,52 +1,67 @@
 -- What a command that reports of an image answers to its text, with the flags `--bus` and `--json` or without them.
--- (docs/formats.md, "Input", "Reports", "JSON" and "Reports over a bus"; this project's own)
+-- (docs/formats.md, "Input", "Reports", "JSON", "observables" and "Reports over a bus"; this project's own)
 use Rattle.std.specs.Prelude.{◌≡◌, ◌⊎◌, ℕ, Bool, true, false, List, Option, Some, None, MatchOption, Result, Ok, Err, Vec}
 use Rattle.std.specs.Result.{result_map_both}
 use Rattle.std.specs.declared.alloc.Global.{Global}
-use Rattle.text_lines.specs.Lines.{lines_of}
+use Rattle.text_lines.specs.Lines.{lines_of, text_of}
 use Rattle.paged_memory.specs.Images.{Memory}
 use Rattle.paged_memory.specs.ImageFaults.{IsFirstFault}
 use Rattle.applications.specs.Advertised.{advertised_by}
+use Rattle.reports.specs.Answered.{IfMemory}
 use Rattle.reports.specs.Apps.{apps_entries, apps_fault}
 use Rattle.report_entries.specs.Entries.{Entry}
 use Rattle.report_entries.specs.EntryJson.{json_text, report_json}
 use Rattle.report_entries.specs.EntryText.{report_text}
 use Rattle.reports.specs.Details.{details_entries, details_fault}
+use Rattle.reports.specs.Families.{detail_fault}
+use Rattle.observable_reports.specs.Answered.{json_of}
+use Rattle.observable_reports.specs.ObservationText.{observables_lines}
 use Rattle.reports.specs.Reports.{flags_entries, flags_fault, inventory_entries, inventory_fault, monitors_entries, monitors_fault}
 use Rattle.reports.specs.declared.fault.ReportFault.{ReportFault}
-use Rattle.reports.specs.declared.fault.ReportFault.TheVariants.{Memory as NoMemory}
 use Rattle.command_line.specs.declared.choice.commands.ReportName.{ReportName}
 use Rattle.command_line.specs.declared.choice.commands.ReportName.TheVariants.{Inventory, Apps, Monitors, Flags, Details}
 use Rattle.command_line.specs.declared.fault.Fault.TheVariants as fault
 use Rattle.command_line.specs.Coloring.{shown_as}
 use Rattle.command_line.specs.declared.choice.options.Options.{Options}
-use Rattle.command_line.specs.OverBus.{IsToReport, IsUnread}
+use Rattle.command_line.specs.declared.told_fault.ToldFault.{ToldFault}
+use Rattle.command_line.specs.OverBus.{IsReading}
 use Rattle.command_line.specs.Runs.{Answer}
 
--- what is printed of entries, as JSON or as text
-abbrev pub printed : Bool → List Entry → List ℕ
-printed true entries = json_text (report_json entries)
-printed false entries = report_text entries
-
--- this text, if there is memory for it
-abbrev pub IsPrinted : List ℕ → Result (List ℕ) ReportFault → Type 0
-IsPrinted text (Ok written) = written ≡ text
-IsPrinted text (Err f) = f ≡ NoMemory
-
--- this fault if there is one, and else this text
+-- this fault if there is one, and else this text, if there is memory for it
 abbrev pub Prints : Option ReportFault → List ℕ → Result (Vec ℕ Global) ReportFault → Type 0
 Prints refused text result =
-    MatchOption refused (IsPrinted text (result_map_both (λ written. written.items) (λ f. f) result)) (λ f. result ≡ Err f)
+    MatchOption refused (IfMemory (λ (written : List ℕ). written ≡ text) (result_map_both (λ written. written.items) (λ f. f) result)) (λ f. result ≡ Err f)
 
--- over a bus or not, by why there is none of a memory and what its text is
-abbrev pub IsReported : Bool → (Memory → Option ReportFault) → (Memory → List ℕ) → List ℕ → Answer → Type 0
-IsReported bus refusal text_of image (Ok (text, None)) =
-    (memory : Memory) × IsToReport bus image memory × (refusal memory ≡ None) × (text ≡ text_of memory)
-IsReported bus refusal text_of image (Err (fault.Report f)) =
-    IsUnread bus image f ⊎ ((memory : Memory) × IsToReport bus image memory × (refusal memory ≡ Some f))
-IsReported bus refusal text_of image (Err (fault.Image f)) = IsFirstFault (lines_of image) f
--- the faults of other commands don't come
-IsReported bus refusal text_of image answer = ⊥
+-- ---- what is told of an image
+
+-- a text and the fault that it tells of, if there is one, or a fault alone
+abbrev pub Told : Type 0
+Told = Result (List ℕ × Option ToldFault) ReportFault
+
+abbrev pub answer_told : Told → Answer
+answer_told told = result_map_both (λ text. text) fault.Report told
+
+-- that is answered, if there is memory for it
+abbrev pub IsToldAs : Told → Answer → Type 0
+IsToldAs told answer = (answer ≡ Err fault.Memory) ⊎ (answer ≡ answer_told told)
+
+-- the answer to the text of an image by what is told of what there is to report of, over a bus or not
+abbrev pub IsReported : Bool → (Result Memory ReportFault → Told) → List ℕ → Answer → Type 0
+IsReported bus told image (Err (fault.Image f)) = IsFirstFault (lines_of image) f
+IsReported bus told image answer = (read : Result Memory ReportFault) × IsReading bus image read × (answer ≡ answer_told (told read))
+
+-- ---- reports
+
+-- the fault, or else the text
+abbrev pub text_unless : Option ReportFault → List ℕ → Told
+text_unless None text = Ok (text, None)
+text_unless (Some f) text = Err f
+
+-- of what there is to report of, by why there is no report of a memory and what is printed of one, as JSON or as text, in colors or not
+abbrev pub report_told : Options → (Memory → Option ReportFault) → (Bool → Memory → List ℕ) → Result Memory ReportFault → Told
+report_told options refusal printed_of (Ok memory) =
+    text_unless (refusal memory) (shown_as options.coloring options.json (printed_of options.json memory))
+report_told options refusal printed_of (Err f) = Err f
 
 -- why there is no such report of a memory
 abbrev pub refusal_of : ReportName → Memory → Option ReportFault
@@ -64,7 +79,23 @@ entries_of Monitors memory = monitors_entries memory
 entries_of Flags memory = flags_entries memory
 entries_of Details memory = details_entries memory
 
--- the answer of a report to the text of an image, with the flags `--bus` and `--json` or without them, in colors or not
+-- what is printed of that, as JSON or as text
+abbrev pub printed : Bool → List Entry → List ℕ
+printed true entries = json_text (report_json entries)
+printed false entries = report_text entries
+
+abbrev pub printed_of : ReportName → Bool → Memory → List ℕ
+printed_of report json memory = printed json (entries_of report memory)
+
+-- the answer of a report to the text of an image
 abbrev pub IsReportAnswer : ReportName → Options → List ℕ → Answer → Type 0
-IsReportAnswer report options =
-    IsReported options.bus (refusal_of report) (λ memory. shown_as options.coloring options.json (printed options.json (entries_of report memory)))
+IsReportAnswer report options = IsReported options.bus (report_told options (refusal_of report) (printed_of report))
+
+-- ---- observables, of the modules of which details are told
+
+abbrev pub observed_text : Bool → Memory → List ℕ
+observed_text true memory = json_text (json_of memory)
+observed_text false memory = text_of (observables_lines memory)
+
+abbrev pub IsObservablesAnswer : Options → List ℕ → Answer → Type 0
+IsObservablesAnswer options = IsReported options.bus (report_told options detail_fault observed_text)

@@ -6,8 +6,7 @@ use Rattle.std.specs.Io.KnownBytes.{Appends}
 use Rattle.command_line.specs.declared.fault.Fault.{Fault}
 use Rattle.command_line.specs.declared.fault.Fault.TheVariants.{Memory, Io, TooLong, Parts, Provision}
 use Rattle.command_line.specs.declared.command_output.CommandOutput.{CommandOutput}
-use Rattle.command_line.specs.Remarks.{clue_for}
-use Rattle.command_line.specs.ToldRemarks.{beside_told}
+use Rattle.command_line.specs.Remarks.{beside_told, clue_for}
 use Rattle.command_line.specs.declared.remark.clue.Clue.{Clue}
 use Rattle.command_line.specs.declared.remark.opening.Opening.{Opening}
 use Rattle.command_line.specs.declared.remark.opening.Opening.TheVariants.{Other}
@@ -98,20 +97,16 @@ IsWritten output answer before after write_failed status =
 abbrev pub EndsByFailure : Bool → Bool → Status → Type 0
 EndsByFailure read_failed write_failed status = (status ≡ ReadOrWrite) ↔ ((read_failed || write_failed) ≡ true)
 
--- a fault is explained by what the input tells of it
-abbrev pub IsExplained : List ℕ → Fault → Remark → Type 0
-IsExplained input fault remark = remark ≡ Refused record { fault = fault; clue = clue_for fault input }
-
--- what is said beside an answer to this input that was written; what is warned of is left open
-abbrev pub IsRemarkOn : List ℕ → Answer → Remark → Type 0
-IsRemarkOn input (Err fault) remark = IsExplained input fault remark
-IsRemarkOn input (Ok (text, Some told)) remark = remark ≡ beside_told told (clue_for (fault_of_told told) input)
-IsRemarkOn input (Ok (text, None)) remark = (warnings : Warnings) × (remark ≡ Warned warnings)
+-- what is said beside an answer that was written, by what its input tells beside it; what is warned of is left open
+abbrev pub IsRemarkBeside : Answer → Clue → Remark → Type 0
+IsRemarkBeside (Err fault) clue remark = remark ≡ Refused record { fault = fault; clue = clue }
+IsRemarkBeside (Ok (text, Some told)) clue remark = remark ≡ beside_told told clue
+IsRemarkBeside (Ok (text, None)) clue remark = (warnings : Warnings) × (remark ≡ Warned warnings)
 
 -- of one that was not written whole, that alone
 abbrev pub IsSaidBeside : Bool → List ℕ → Answer → Remark → Type 0
 IsSaidBeside true input answer remark = remark ≡ Unwritten
-IsSaidBeside false input answer remark = IsRemarkOn input answer remark
+IsSaidBeside false input answer remark = IsRemarkBeside answer (clue_beside answer input) remark
 
 -- how a run ends with this status, and this to be said: after a failed write that alone
 abbrev pub ending_after : Bool → Status → Remark → Ending

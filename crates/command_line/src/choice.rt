@@ -1,14 +1,14 @@
 //! The command line: which command the words name, and which flags they give it.
-ghost use Rattle.std.specs.Prelude.{◌≡◌, ◌∷◌, map, codes, false, true, IfOk, IfErr, IfSome, IsSome, Some};
-ghost use Rattle.std.specs.Prelude.{[], filter, string_bytes, Ok};
+ghost use Rattle.std.specs.Prelude.{◌≡◌, ◌∷◌, map, codes, false, true, IfOk, IsSome, MatchResult, Some};
+ghost use Rattle.std.specs.Prelude.{[], filter, string_bytes, Ok, Result};
 ghost use Rattle.std.specs.List.{list_all};
 ghost use Rattle.clap.specs.declared.builder.command.Command.TheViews.{out-Command as fields_of};
 ghost use Rattle.clap.specs.Words.{Text, app_of, found_of, rows_of, rule_of, subcommand_rows_of, takes};
-ghost use Rattle.command_line.specs.Choice.{command_app, commands, faults_of, json_word, plain_request, program, request_in, request_of, request_with, takes_json};
+ghost use Rattle.command_line.specs.Choice.{AsksFor, command_app, commands, entry_of, faults_of, json_word, plain_request, program, request_in, request_of, request_with, takes_json};
 ghost use Rattle.command_line.specs.ChoiceFault.{Gives};
-ghost use Rattle.command_line.specs.GivenFlags.{flag_rule};
+ghost use Rattle.command_line.specs.GivenFlags.{flag_of, flag_rule};
 ghost use Rattle.command_line.specs.Program.{IsRefusalOf};
-ghost use Rattle.command_line.specs.Entries.{entry_of, flag_of};
+ghost use Rattle.command_line.specs.declared.choice.word_fault.WordFault.{WordFault};
 
 pub mod coloring;
 pub mod commands;
@@ -90,7 +90,7 @@ fn request_with(
 /// What the matches of the program ask for.
 fn requested(alloc: Global, matches: &ArgMatches<'_>) -> Result<Request, ChoiceFault>
     requires { IsSome (request_in (subcommand_rows_of matches.now)) }
-    ensures { IfSome (request_in (subcommand_rows_of matches.now)) (λ asked. Gives asked result) }
+    ensures { (asked : Result Request WordFault) × (request_in (subcommand_rows_of matches.now) ≡ Some asked) × Gives asked result }
 {
     let (name, given) = matches.subcommand().unwrap();
     let entry = command_named(name).unwrap();
@@ -99,9 +99,7 @@ fn requested(alloc: Global, matches: &ArgMatches<'_>) -> Result<Request, ChoiceF
 
 // What the words ask for, as `clap` reads them.
 fn parsed(alloc: Global, words: &[String]) -> Result<Request, ChoiceFault>
-    ensures answer { IfOk result (λ request. request_of (map string_bytes words.now) ≡ Some (Ok request)) }
-    ensures taken { IfOk result (λ _. faults_of (map string_bytes words.now) ≡ []) }
-    ensures refused { IfErr result (IsRefusalOf (map string_bytes words.now)) }
+    ensures { MatchResult result (AsksFor (map string_bytes words.now)) (IsRefusalOf (map string_bytes words.now)) }
 {
     let matches = program(alloc)?.try_get_matches_from(words)?;
     requested(alloc, &matches)
@@ -109,9 +107,7 @@ fn parsed(alloc: Global, words: &[String]) -> Result<Request, ChoiceFault>
 
 /// What the words ask for, of which the first is the program's name.
 pub fn request(alloc: Global, words: &[String]) -> Result<Request, ChoiceFault>
-    ensures answer { IfOk result (λ request. request_of (map string_bytes words.now) ≡ Some (Ok request)) }
-    ensures taken { IfOk result (λ _. faults_of (map string_bytes words.now) ≡ []) }
-    ensures refused { IfErr result (IsRefusalOf (map string_bytes words.now)) }
+    ensures { MatchResult result (AsksFor (map string_bytes words.now)) (IsRefusalOf (map string_bytes words.now)) }
 {
     match plain_request(alloc, words) {
         Some(request) => Ok(request),

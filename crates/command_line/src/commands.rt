@@ -1,11 +1,9 @@
 //! The program's commands: each reads its whole input and writes one answer.
 mod check_command;
 mod command;
-mod draw_command;
 mod inactive;
 mod inputs;
 mod metrics_command;
-mod observables_command;
 mod outcome;
 mod over_bus;
 mod plan_command;

@@ -1,5 +1,5 @@
 //! Reading the program's input within its limits.
-ghost use Rattle.std.specs.Prelude.{◌≡◌, ◌≤◌, ◌<◌, true, length, IfSome, IfOk, IfErr, OnOk, vec_len};
+ghost use Rattle.std.specs.Prelude.{◌≡◌, ◌≤◌, ◌<◌, true, IfSome, IfOk, IfErr, OnOk, vec_len};
 ghost use Rattle.std.specs.Io.{ReadsAtMost};
 ghost use Rattle.std.specs.Io.KnownBytes.{ReadConsumes, IsAtEnd};
 ghost use Rattle.command_line.specs.CountedReader.{reads_of, reading_failed, remaining_of};
@@ -9,7 +9,6 @@ ghost use Rattle.command_line.specs.Input.{IsReadOf, TakesWithinLimit, AnswersFa
 
 mod counted_reader;
 mod one_read;
-mod remembering_reader;
 
 use crate::fault::Fault;
 pub use counted_reader::{CountedReader, MAX_READS};

@@ -1,9 +1,8 @@
 //! Writing the program's output.
-ghost use Rattle.std.specs.Prelude.{◌≡◌, true, Ok, Err, OnOk, is_err};
-ghost use Rattle.std.specs.Io.KnownBytes.{Appends};
+ghost use Rattle.std.specs.Prelude.{◌≡◌, true, Ok, Err, is_err};
 ghost use Rattle.command_line.specs.StoppingWriter.{contents_of, writing_failed};
 ghost use Rattle.command_line.specs.FaultForms.{fault_in, output_in};
-ghost use Rattle.command_line.specs.Runs.{IsWritten, answer_of};
+ghost use Rattle.command_line.specs.Runs.{IsWritten, answer_of, ended};
 
 mod fault_form;
 mod one_write;
@@ -78,28 +77,23 @@ fn write_fault<W: Write>(writer: &mut StoppingWriter<W>, fault: Fault, form: &Fa
         (contents_of W.contents writer.old) (contents_of W.contents writer.new) (writing_failed writer.new) result }
     ensures stopped { writing_failed writer.old ≡ true → writer.new ≡ writer.old }
 {
-    match put_fault(writer, fault, form) {
-        Ok(()) => fault.status(),
-        Err(OutputFault) => Status::ReadOrWrite,
-    }
-}
-
-fn put_fault<W: Write>(
-    writer: &mut StoppingWriter<W>,
-    fault: Fault,
-    form: &FaultForm,
-) -> Result<(), OutputFault>
-    ensures written { OnOk result (Appends (contents_of W.contents writer.old) (contents_of W.contents writer.new)
-        (fault_in form.now fault)) }
-    ensures failed { writing_failed writer.new ≡ is_err result }
-    ensures stopped { writing_failed writer.old ≡ true → writer.new ≡ writer.old }
-{
+    let status = fault.status();
     match form {
         FaultForm::Line => {
             let line = fault.to_words().line_after(fault.word());
-            writer.put(line.as_slice())
+            status_after(writer.put(line.as_slice()), status)
         }
-        FaultForm::Json(text) => writer.put(text),
-        FaultForm::Ready => writer.put_text(ReadingFault(fault)),
+        FaultForm::Json(text) => status_after(writer.put(text), status),
+        FaultForm::Ready => status_after(writer.put_text(ReadingFault(fault)), status),
+    }
+}
+
+/// How the program ends once this was written.
+pub fn status_after(written: Result<(), OutputFault>, status: Status) -> Status
+    ensures { result ≡ ended (is_err written) status }
+{
+    match written {
+        Ok(()) => status,
+        Err(OutputFault) => Status::ReadOrWrite,
     }
 }

@@ -1,12 +1,10 @@
 //! The parts of the program's input, between lines that are exactly `---`.
 ghost use Rattle.std.specs.Borrow.{Bor};
-ghost use Rattle.std.specs.Prelude.{◌≡◌, ◌≤◌, ◌∷◌, [], ℕ, List, map, length, option_map, slice_get, MatchResult};
+ghost use Rattle.std.specs.Prelude.{◌≡◌, ◌≢◌, ◌≤◌, ◌∷◌, [], ℕ, List, map, length, option_map, slice_get, MatchResult};
 ghost use Rattle.std.specs.Option.{option_map_or};
 ghost use Rattle.std.specs.Iterator.{YieldsFirstBy, item_count};
-ghost use Rattle.command_line.specs.Parts.{is_separator_line, most_parts, parts_of};
+ghost use Rattle.command_line.specs.Parts.{is_separator_line, most_parts, parts_left, parts_of};
 ghost use Rattle.command_line.specs.Limits.{input_limit};
-ghost use Rattle.command_line.specs.PartFaults.{IsPartsFault};
-ghost use Rattle.command_line.specs.PartsLeft.{parts_left};
 
 use crate::fault::Fault;
 use arrayvec::ArrayVec;
@@ -21,7 +19,7 @@ pub fn parts(input: &[u8], count: usize) -> Result<ArrayVec<&[u8], MAX_PARTS>, F
     requires limit { length input.now ≤ input_limit }
     ensures { MatchResult result
         (λ parts. (map (λ part. part.now) parts.items ≡ parts_of input.now) × (length parts.items ≡ count))
-        (IsPartsFault count input.now) }
+        (λ fault. (fault ≡ Fault.Parts (length (parts_of input.now))) × (length (parts_of input.now) ≢ count)) }
 {
     let mut parts = ArrayVec::new();
     let mut found = 0;

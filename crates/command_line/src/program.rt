@@ -1,20 +1,19 @@
 //! One run of the whole program.
-ghost use Rattle.std.specs.Prelude.{◌≡◌, true};
-ghost use Rattle.command_line.specs.Program.{IsProgramRun, IsRemarkSaid, refusal_ending, refusal_remark, IsWordsRefusalSaid, words_of};
-ghost use Rattle.command_line.specs.StoppingWriter.{contents_of, writing_failed};
+ghost use Rattle.std.specs.Prelude.{◌≡◌};
+ghost use Rattle.command_line.specs.Program.{IsProgramRun, IsRemarkSaid, refusal_ending, refusal_remark, words_of};
+ghost use Rattle.command_line.specs.StoppingWriter.{writing_failed};
 
-use crate::choice::fault::choice_refused;
+use crate::choice::fault::{ChoiceFault, choice_refused};
 use crate::choice::request;
 use crate::commands;
 use crate::ending::Ending;
-use crate::fault::Fault;
 use crate::input::CountedReader;
-use crate::output::{FaultForm, OutputFault, StoppingWriter, write_answer};
+use crate::output::StoppingWriter;
 use crate::remark::Remark;
 use crate::status::Status;
 use std::alloc::Global;
 use std::io;
-use std::io::{ErrorKind, Read, Write};
+use std::io::{Read, Write};
 
 /// Does what the words of the command line ask for, or says why it does not, and answers how the program ends. The
 /// first word is the program's name; a report is colored by itself where the terminal shows colors. What standard error says comes last, and changes neither the answer nor the status.
@@ -55,7 +54,7 @@ fn ending<R: Read, W: Write>(
 {
     let words = match words {
         Ok(words) => words,
-        Err(error) => return refused(words_refused(&error, writer), writer),
+        Err(error) => return refused(choice_refused(&ChoiceFault::from(error), writer), writer),
     };
     match request(alloc, words.as_slice()) {
         Ok(request) => commands::run(alloc, request.on_screen(shows_colors), reader, writer),
@@ -77,21 +76,5 @@ fn refusal_remark(status: Status) -> Remark
     match status {
         Status::Memory => Remark::NoMemory,
         _ => Remark::Nothing,
-    }
-}
-
-/// Says that the words could not be read, and answers how the program ends.
-#[tactic(auto, unfolding(crate::specs::Program::words_line))]
-fn words_refused<W: Write>(error: &io::Error, writer: &mut StoppingWriter<W>) -> Status
-    ensures said { IsWordsRefusalSaid error.now (contents_of W.contents writer.old)
-        (contents_of W.contents writer.new) (writing_failed writer.new) result }
-    ensures stopped { writing_failed writer.old ≡ true → writer.new ≡ writer.old }
-{
-    if error.kind() == ErrorKind::OutOfMemory {
-        return write_answer(writer, Err(Fault::Memory), &FaultForm::Line);
-    }
-    match writer.put(b"error: a word of the command line is not UTF-8\n") {
-        Ok(()) => Status::CommandLine,
-        Err(OutputFault) => Status::ReadOrWrite,
     }
 }

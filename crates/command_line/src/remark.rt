@@ -1,11 +1,9 @@
 //! What standard error says beside an answer: why there is none, or what is odd about it.
 ghost use Rattle.std.specs.Prelude.{◌≡◌, None, Some};
-ghost use Rattle.command_line.specs.Remarks.{explained_text, key_sentence, remark_text, sentence_key, sentence_of};
-ghost use Rattle.command_line.specs.RemarksBeside.{IsRemarkBeside};
-ghost use Rattle.command_line.specs.ToldRemarks.{beside_told};
+ghost use Rattle.command_line.specs.Remarks.{beside_told, explained_text, key_sentence, remark_text, sentence_key, sentence_of};
 ghost use Rattle.command_line.specs.Faults.{fault_words};
 ghost use Rattle.command_line.specs.Places.{first_word};
-ghost use Rattle.command_line.specs.Runs.{answer_of};
+ghost use Rattle.command_line.specs.Runs.{IsRemarkBeside, answer_of};
 ghost use Rattle.command_line.specs.declared.remark.opening.Opening.TheVariants.{Other};
 
 mod clue;
@@ -66,7 +64,10 @@ impl Remark {
                 Some(told) => Remark::of_told(told, clue),
                 None => Remark::Warned(output.warnings),
             },
-            Err(fault) => Remark::of(*fault, clue),
+            Err(fault) => Remark::Refused(Explained {
+                fault: *fault,
+                clue,
+            }),
         }
     }
 
@@ -80,16 +81,8 @@ impl Remark {
         };
         match told {
             ToldFault::Procedure(_, Some(path)) => Remark::Foreseen(path, explained),
-            ToldFault::Procedure(_, None) => Remark::Refused(explained),
-            ToldFault::Metrics(_) => Remark::Refused(explained),
+            _ => Remark::Refused(explained),
         }
-    }
-
-    /// What is said of a fault.
-    pub fn of(fault: Fault, clue: Clue) -> Remark
-        ensures { result ≡ Remark.Refused record { fault = fault; clue = clue } }
-    {
-        Remark::Refused(Explained { fault, clue })
     }
 }
 

@@ -3,21 +3,13 @@ use Rattle.std.proofs.Common.{◌≡◌, ℕ, ◌+◌, ◌⊎◌, ◌&&◌, ◌|
 use Rattle.std.specs.List.{All, AllByRecursion, AllPairs}
 use Rattle.std.proofs.lemmas.Bool.{and_parts, both_ways, cases_Bool, eqb-true, eq-eqb, lt-ltb, ltb-true, or_cases, or_left, or_right}
 use Rattle.std.proofs.lemmas.List.Elements.{All-filter, All-from_recursion, All-map, filter_passes, recursion_from_All}
-use Rattle.applications.specs.Advertised.{Advertised}
-use Rattle.applications.specs.AppWeights.{PathWeights}
-use Rattle.plan_certificate.specs.declared.path.Path.{Path}
-use Rattle.plan_certificate.specs.declared.moves.Move.{Move}
-use Rattle.plan_certificate.specs.declared.state.State.{State}
-use Rattle.plan_certificate.specs.Paths.{IsLower, path_weight}
-use Rattle.plan_certificate.specs.KeptPaths.{is_among, is_eligible}
-use Rattle.plan_certificate.specs.Moves.{move_decision, move_of, moves_at, moves_of}
-use Rattle.plan_certificate.specs.States.{path_decision, paths_at}
+use Rattle.lane_planner.proofs.Words.{Advertised, PathWeights, Path, Move, State, path_decision, paths_at, move_decision, move_of, moves_at, IsLower, path_weight, is_among, is_eligible}
+use Rattle.plan_certificate.specs.Moves.{moves_of}
 use Rattle.plan_certificate.proofs.Heaviest.{listed}
 use Rattle.plan_certificate.proofs.KeptPaths.{among_listed, eligible_allowed, listed_among}
 use Rattle.plan_certificate.proofs.Lists.{each_of_filter, each_of_map, found}
 use Rattle.plan_certificate.proofs.MoveLists.{BeginsAt, each_begins}
 use Rattle.plan_certificate.proofs.Ranks.{first_found, ranked_from_pairs}
-use Rattle.lane_planner.specs.FirstBest.{IsOfUse}
 use Rattle.lane_planner.specs.Tables.{gain_at, move_keeps_gain}
 use Rattle.lane_planner.proofs.GainLaws.{Keeps, NoneKeeps}
 
@@ -45,29 +37,30 @@ of_each advert weights kept host P each path begins can =
 
 -- ---- a path keeps the gain if its move passes the test
 
-use_of_test : (weights : PathWeights) (kept : List Path) (path : Path) → (nat_lt 0 (path_weight weights path) || is_among kept path) ≡ true → IsOfUse weights kept path
-use_of_test weights kept path test =
-    elim (or_cases _ _ test) [
-      | inl some ↦ inl (ltb-true 0 (path_weight weights path) some)
-      | inr among ↦ inr (listed_among kept path among)
-    ]
-
-test_of_use : (weights : PathWeights) (kept : List Path) (path : Path) → IsOfUse weights kept path → (nat_lt 0 (path_weight weights path) || is_among kept path) ≡ true
-test_of_use weights kept path (inl some) = or_left _ _ (lt-ltb 0 (path_weight weights path) some)
-test_of_use weights kept path (inr held) = or_right _ _ (among_listed kept path held)
-
 keeps_from_test : (advert : Advertised) (weights : PathWeights) (kept : List Path) (table : List ℕ) (state : State) (path : Path) → path.host ≡ state.boundary + 1 → is_eligible advert kept path ≡ true → move_keeps_gain kept table state (move_of advert weights path) ≡ true → Keeps advert weights kept (gain_at table) state path
 keeps_from_test advert weights kept table state path begins can passes =
     let parts = and_parts _ _ passes in
     let first = and_parts _ _ parts.0 in
-    record { begins = begins; can = can; unused = first.0; of_use = use_of_test weights kept path first.1; leaves = eqb-true _ _ parts.1 }
+    record {
+      begins = begins;
+      can = can;
+      unused = first.0;
+      of_use = elim (or_cases _ _ first.1) [
+        | inl some ↦ inl (ltb-true 0 (path_weight weights path) some)
+        | inr among ↦ inr (listed_among kept path among)
+      ];
+      leaves = eqb-true _ _ parts.1;
+    }
 
 test_from_keeps : (advert : Advertised) (weights : PathWeights) (kept : List Path) (table : List ℕ) (state : State) (path : Path) → Keeps advert weights kept (gain_at table) state path → move_keeps_gain kept table state (move_of advert weights path) ≡ true
 test_from_keeps advert weights kept table state path keeps =
+    let of_use : (nat_lt 0 (path_weight weights path) || is_among kept path) ≡ true = elim (keeps.of_use) [
+      | inl some ↦ or_left _ _ (lt-ltb 0 (path_weight weights path) some)
+      | inr held ↦ or_right _ _ (among_listed kept path held)
+    ] in
     let unused = keeps.unused in
-    let some = test_of_use weights kept path keeps.of_use in
     let rest = eq-eqb _ _ keeps.leaves in
-    (λ i. unused i && some i && rest i)
+    (λ i. unused i && of_use i && rest i)
 
 -- ---- the move that is found
 

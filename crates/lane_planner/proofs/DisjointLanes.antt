@@ -18,13 +18,11 @@ runs_disjoint first count later others past =
     grind (arith, nat_tests, before, after))
 
 -- lanes apart from a union are apart from both sets
-pub disjoint_first : (s t u : Lanes) → is_disjoint s (set.union t u) ≡ true → is_disjoint s t ≡ true
-disjoint_first s t u none =
-    apart_from s t (λ q in_s in_t. apart_at s (set.union t u) none q in_s (contains-union nat_cmp_total t u q ∙ or_left (set.contains t q) (set.contains u q) in_t))
-
-pub disjoint_second : (s t u : Lanes) → is_disjoint s (set.union t u) ≡ true → is_disjoint s u ≡ true
-disjoint_second s t u none =
-    apart_from s u (λ q in_s in_u. apart_at s (set.union t u) none q in_s (contains-union nat_cmp_total t u q ∙ or_right (set.contains t q) (set.contains u q) in_u))
+pub disjoint_parts : (s t u : Lanes) → is_disjoint s (set.union t u) ≡ true → (is_disjoint s t ≡ true) × (is_disjoint s u ≡ true)
+disjoint_parts s t u none = (
+  apart_from s t (λ q in_s in_t. apart_at s (set.union t u) none q in_s (contains-union nat_cmp_total t u q ∙ or_left _ _ in_t)),
+  apart_from s u (λ q in_s in_u. apart_at s (set.union t u) none q in_s (contains-union nat_cmp_total t u q ∙ or_right _ _ in_u)),
+)
 
 at_most : (b : Bool) (n : ℕ) → (if b then n else 0) ≤ n
 at_most true n = omega arith

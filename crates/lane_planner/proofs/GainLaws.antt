@@ -2,26 +2,19 @@
 use Rattle.std.proofs.Common.{◌≡◌, ◌⊎◌, ℕ, ◌+◌, ◌-◌, ◌<◌, ◌≤◌, true, List, [], ◌∷◌, subst, ap, inl, inr, arith, zero, suc, false, refl, sym, ◌∙◌}
 use Rattle.std.specs.List.{All, Contains}
 use Rattle.std.proofs.lemmas.Bool.{cases_Bool, cases_lt}
-use Rattle.std.proofs.lemmas.List.Elements.{All-contains, All-contains_itself, recursion_from_All}
+use Rattle.std.proofs.lemmas.List.Elements.{All-contains}
 use Rattle.std.proofs.lemmas.List.Sums.{sum_by-cons}
 use Rattle.field_tables.specs.LaneSets.{is_disjoint, Lanes}
-use Rattle.applications.specs.Advertised.{Advertised}
-use Rattle.applications.specs.AppWeights.{PathWeights}
-use Rattle.plan_certificate.specs.declared.path.Path.{Path}
-use Rattle.plan_certificate.specs.declared.state.State.{State}
-use Rattle.plan_certificate.specs.declared.state.Decision.{Decision}
-use Rattle.plan_certificate.specs.Paths.{media_lanes, path_weight, app_of}
-use Rattle.plan_certificate.specs.KeptPaths.{is_among, is_eligible, may_stay_free}
-use Rattle.plan_certificate.specs.States.{free_decision, path_decision, decisions_from}
-use Rattle.plan_certificate.proofs.Heaviest.{IsPreserved, IsLater, LeavesEnough, allowed, lanes_later}
+use Rattle.lane_planner.proofs.Words.{Advertised, PathWeights, Path, State, Decision, free_decision, path_decision, decisions_from, media_lanes, path_weight, app_of, is_among, is_eligible, may_stay_free}
+use Rattle.plan_certificate.proofs.Heaviest.{IsPreserved, LeavesEnough, allowed}
 use Rattle.plan_certificate.proofs.KeptPaths.{eligible_allowed, listed_among}
-use Rattle.plan_certificate.proofs.Lists.{map_each}
+use Rattle.plan_certificate.proofs.Lists.{each_contained, map_each}
 use Rattle.lane_planner.specs.FirstBest.{IsOfUse}
 use Rattle.lane_planner.specs.Gains.{Follow, IsGain, IsLimit, CanBeGained, decisions_weight}
-use Rattle.lane_planner.proofs.KeptLanes.{has_lane, none_has, takes_lane, lane_of_other}
-use Rattle.lane_planner.proofs.DecisionKinds.{OfPath, decision_is, listed_decisions}
+use Rattle.lane_planner.proofs.KeptLanes.{has_lane, lane_of_other}
+use Rattle.lane_planner.proofs.DecisionKinds.{decision_is, listed_decisions}
 use Rattle.plan_certificate.proofs.LaneRuns.{disjoint_union}
-use Rattle.lane_planner.proofs.DisjointLanes.{disjoint_first, disjoint_second}
+use Rattle.lane_planner.proofs.DisjointLanes.{disjoint_parts}
 
 abbrev weight : Decision → ℕ
 weight decision = decision.weight
@@ -49,7 +42,7 @@ as_much advert weights kept (decision ∷ decisions) state freer at fewer follow
           let lanes = media_lanes advert path in
           let next = subst (λ (s : State). Follow advert weights kept s decisions) (ap (λ (s : Decision). s.end) taken.is) follow.1 in
           let fewer_after : HasFewer (path_decision advert weights state path).end.used (path_decision advert weights freer path).end.used =
-          (λ others none. disjoint_union others freer.used lanes (fewer others (disjoint_first others state.used lanes none)) (disjoint_second others state.used lanes none)) in
+          (λ others none. disjoint_union others freer.used lanes (fewer others (disjoint_parts others state.used lanes none).0) (disjoint_parts others state.used lanes none).1) in
           let rest = as_much advert weights kept decisions (path_decision advert weights state path).end (path_decision advert weights freer path).end (omega (arith, at)) fewer_after next in
           let contains = each.1 path (omega (arith, taken.begins, at)) taken.can (fewer lanes taken.unused) in
           (path_decision advert weights freer path ∷ rest.0, (contains, rest.1), omega (arith, rest.2, total, sum_by-cons weight (path_decision advert weights freer path) rest.0, ap weight taken.is))
@@ -78,7 +71,7 @@ after_path_free advert weights kept state taken free can not_kept begins gain de
     let count : ℕ = (app_of advert taken).host_lanes - 1 in
     let Free : State = (free_decision state).end in
     let Past : State = record { boundary = Free.boundary + count; used = Free.used } in
-    let much = as_much advert weights kept decisions (path_decision advert weights state taken).end Past (omega (arith, lanes.host_some)) (λ others none. disjoint_first others state.used (media_lanes advert taken) none) follow in
+    let much = as_much advert weights kept decisions (path_decision advert weights state taken).end Past (omega (arith, lanes.host_some)) (λ others none. (disjoint_parts others state.used (media_lanes advert taken) none).0) follow in
     let run = free_run advert weights kept count Free (decisions_weight decisions) (omega (arith, lanes.host_some, lanes.host_to, begins))
     (λ lane past upto. lane_of_other advert kept taken lane can not_kept (has_lane advert taken lane (omega (arith, past, begins)) (omega (arith, upto, begins, lanes.host_some)))) much in
     let most = gain.greatest run.0 run.1 in
@@ -95,7 +88,7 @@ limit_preserved advert weights kept state potential limit =
     let fits : decision.weight ≤ potential = omega (arith, alone, sum_by-cons weight decision []) in
     let later : IsLimit advert weights kept decision.end (potential - decision.weight) = λ more follow. omega (arith, fits, limit (decision ∷ more) (contains, follow), sum_by-cons weight decision more) in
     (potential - decision.weight, later, omega (arith, fits)))
-    (recursion_from_All (Contains decisions) decisions (All-contains_itself decisions))
+    (each_contained decisions)
 
 -- a decision and what can be gained after it is no more than the gain
 pub covers_decision : (advert : Advertised) (weights : PathWeights) (kept : List Path) (state : State) (gain later : ℕ) (decision : Decision) → IsGain advert weights kept state gain → IsGain advert weights kept decision.end later → Contains (decisions_from advert weights kept state) decision → decision.weight + later ≤ gain
@@ -107,17 +100,13 @@ covers_decision advert weights kept state gain later decision is is_later contai
 abbrev pub GainsAfter : Advertised → PathWeights → List Path → (State → ℕ) → State → Type 0
 GainsAfter advert weights kept gain state = (decision : Decision) → Contains (decisions_from advert weights kept state) decision → IsGain advert weights kept decision.end (gain decision.end)
 
-limit_of : (advert : Advertised) (weights : PathWeights) (kept : List Path) (state : State) (most : ℕ) (gain : State → ℕ) → GainsAfter advert weights kept gain state → All (λ decision. decision.weight + gain decision.end ≤ most) (decisions_from advert weights kept state)
+-- what covers each decision and what can be gained after it is a limit
+pub limit_of : (advert : Advertised) (weights : PathWeights) (kept : List Path) (state : State) (most : ℕ) (gain : State → ℕ) → GainsAfter advert weights kept gain state → All (λ decision. decision.weight + gain decision.end ≤ most) (decisions_from advert weights kept state)
     → IsLimit advert weights kept state most
 limit_of advert weights kept state most gain gains covered [] follow = omega arith
 limit_of advert weights kept state most gain gains covered (decision ∷ decisions) follow =
     let covers = All-contains (λ (s : Decision). s.weight + gain s.end ≤ most) (decisions_from advert weights kept state) decision covered follow.0 in
     omega (arith, covers, (gains decision follow.0).greatest decisions follow.1, sum_by-cons weight decision decisions)
-
--- a sum that some decisions reach, and that covers each decision and what can be gained after it, is the gain
-pub gain_from_decisions : (advert : Advertised) (weights : PathWeights) (kept : List Path) (state : State) (most : ℕ) (gain : State → ℕ) → CanBeGained advert weights kept state most → GainsAfter advert weights kept gain state
-    → All (λ decision. decision.weight + gain decision.end ≤ most) (decisions_from advert weights kept state) → IsGain advert weights kept state most
-gain_from_decisions advert weights kept state most gain gained gains covered = record { gained = gained; greatest = limit_of advert weights kept state most gain gains covered }
 
 -- ---- what keeps the gain
 
@@ -138,81 +127,40 @@ pub record Keeps (advert : Advertised) (weights : PathWeights) (kept : List Path
 abbrev pub NoneKeeps : Advertised → PathWeights → List Path → (State → ℕ) → State → Type 0
 NoneKeeps advert weights kept gain state = (path : Path) → Keeps advert weights kept gain state path → ⊥
 
--- a decision that reaches the gain together with what can be gained after it
-abbrev IsAttained : Advertised → PathWeights → List Path → (State → ℕ) → State → Type 0
-IsAttained advert weights kept gain state = (decision : Decision) × Contains (decisions_from advert weights kept state) decision × (decision.weight + gain decision.end ≡ gain state)
-
-attained_by : (advert : Advertised) (weights : PathWeights) (kept : List Path) (gain : State → ℕ) (state : State) → KnowsGains advert weights kept gain state → (decisions : List Decision) → Follow advert weights kept state decisions → decisions_weight decisions ≡ gain state
-    → (gain state ≡ 0) ⊎ IsAttained advert weights kept gain state
-attained_by advert weights kept gain state knows [] follow is = inl (sym is)
-attained_by advert weights kept gain state knows (decision ∷ decisions) follow is =
+-- unless nothing can be gained, a decision reaches the gain together with what can be gained after it
+attained : (advert : Advertised) (weights : PathWeights) (kept : List Path) (gain : State → ℕ) (state : State) → KnowsGains advert weights kept gain state → CanBeGained advert weights kept state (gain state)
+    → (gain state ≡ 0) ⊎ ((decision : Decision) × Contains (decisions_from advert weights kept state) decision × (decision.weight + gain decision.end ≡ gain state))
+attained advert weights kept gain state knows ([], follow, is) = inl (sym is)
+attained advert weights kept gain state knows (decision ∷ decisions, follow, is) =
     let rest = knows.after decision follow.0 in
     let covers = covers_decision advert weights kept state (gain state) (gain decision.end) decision knows.here rest follow.0 in
     inr (decision, follow.0, omega (arith, is, rest.greatest decisions follow.1, covers, sum_by-cons weight decision decisions))
 
-attained : (advert : Advertised) (weights : PathWeights) (kept : List Path) (gain : State → ℕ) (state : State) → KnowsGains advert weights kept gain state → (gain state ≡ 0) ⊎ IsAttained advert weights kept gain state
-attained advert weights kept gain state knows = let run = knows.here.gained in attained_by advert weights kept gain state knows run.0 run.1 run.2
-
--- a path of use whose decision reaches the gain keeps it
-reaching_keeps : (advert : Advertised) (weights : PathWeights) (kept : List Path) (gain : State → ℕ) (state : State) (decision : Decision) → decision.weight + gain decision.end ≡ gain state → (taken : OfPath advert weights kept state decision) → IsOfUse weights kept taken.path → Keeps advert weights kept gain state taken.path
-reaching_keeps advert weights kept gain state decision reaches taken worth = record {
-  begins = taken.begins;
-  can = taken.can;
-  unused = taken.unused;
-  of_use = worth;
-  leaves = omega (arith, reaches, ap weight taken.is, ap (λ (s : Decision). gain s.end) taken.is);
-}
-
--- ---- the free lane
-
--- where no path keeps the gain, it can be had after a free lane
-had_after_free : (advert : Advertised) (weights : PathWeights) (kept : List Path) (gain : State → ℕ) (state : State) → KnowsGains advert weights kept gain state → NoneKeeps advert weights kept gain state → IsGain advert weights kept (free_decision state).end (gain (free_decision state).end) → gain state ≤ gain (free_decision state).end
-had_after_free advert weights kept gain state knows none later =
-    elim (attained advert weights kept gain state knows) [
-      | inl nothing ↦ omega (arith, nothing)
+-- where no path keeps the gain, either nothing can be gained, or the lane may stay free, and then the gain can be had
+pub had_after_free : (advert : Advertised) (weights : PathWeights) (kept : List Path) (gain : State → ℕ) (state : State) → KnowsGains advert weights kept gain state → NoneKeeps advert weights kept gain state
+    → (gain state ≡ 0) ⊎ ((may_stay_free advert kept (state.boundary + 1) ≡ true) × (gain state ≤ gain (free_decision state).end))
+had_after_free advert weights kept gain state knows none =
+    elim (attained advert weights kept gain state knows knows.here.gained) [
+      | inl nothing ↦ inl nothing
       | inr by ↦ elim ((decision_is advert weights kept state by.0 by.1).kind) [
-        | inl free ↦ omega (arith, by.2, ap weight free.0, ap (λ (s : Decision). gain s.end) free.0)
+        | inl free ↦ inr (free.1, omega (arith, by.2, ap weight free.0, ap (λ (s : Decision). gain s.end) free.0))
         | inr taken ↦
             let path : Path = taken.path in
-            let not_of_use = λ (worth : IsOfUse weights kept path). none path (reaching_keeps advert weights kept gain state by.0 by.2 taken worth) in
+            let leaves : path_weight weights path + gain (path_decision advert weights state path).end ≡ gain state = omega (arith, by.2, ap weight taken.is, ap (λ (s : Decision). gain s.end) taken.is) in
+            let not_of_use = λ (worth : IsOfUse weights kept path). none path (record { begins = taken.begins; can = taken.can; unused = taken.unused; of_use = worth; leaves = leaves }) in
             elim (cases_lt 0 (path_weight weights path)) [
               | inl some ↦ absurd (not_of_use (inl some))
               | inr nothing ↦ elim (cases_Bool (is_among kept path)) [
                 | inl among ↦ absurd (not_of_use (inr (listed_among kept path among)))
                 | inr not_kept ↦
+                    let lanes = allowed advert path (eligible_allowed advert kept path taken.can) in
+                    let has = has_lane advert path (state.boundary + 1) (omega (arith, taken.begins)) (omega (arith, taken.begins, lanes.host_some)) in
+                    let may = lane_of_other advert kept path (state.boundary + 1) taken.can not_kept has in
+                    let later = knows.after (free_decision state) ((listed_decisions advert weights kept state knows.below).0 may) in
                     let run = subst (λ (s : State). CanBeGained advert weights kept s (gain s)) (ap (λ (s : Decision). s.end) taken.is) (knows.after by.0 by.1).gained in
                     let bound = after_path_free advert weights kept state path (gain (free_decision state).end) taken.can not_kept taken.begins later run.0 run.1 in
-                    omega (arith, by.2, ap weight taken.is, ap (λ (s : Decision). gain s.end) taken.is, nothing, bound, run.2)
+                    inr (may, omega (arith, leaves, nothing, bound, run.2))
               ]
             ]
-      ]
-    ]
-
-pub free_keeps : (advert : Advertised) (weights : PathWeights) (kept : List Path) (gain : State → ℕ) (state : State) → KnowsGains advert weights kept gain state → may_stay_free advert kept (state.boundary + 1) ≡ true → NoneKeeps advert weights kept gain state → gain (free_decision state).end ≡ gain state
-free_keeps advert weights kept gain state knows may none =
-    let free = (listed_decisions advert weights kept state knows.below).0 may in
-    let later = knows.after (free_decision state) free in
-    let covers = covers_decision advert weights kept state (gain state) (gain (free_decision state).end) (free_decision state) knows.here later free in
-    omega (arith, covers, had_after_free advert weights kept gain state knows none later)
-
--- ---- the first host lane of a kept path
-
--- where a kept path begins, some path keeps the gain
-pub kept_keeps : (advert : Advertised) (weights : PathWeights) (kept : List Path) (gain : State → ℕ) (state : State) (begun : Path) → KnowsGains advert weights kept gain state → NoneKeeps advert weights kept gain state → Contains kept begun → IsLater advert kept state begun → begun.host ≡ state.boundary + 1 → ⊥
-kept_keeps advert weights kept gain state begun knows none held later begins =
-    let lane : ℕ = state.boundary + 1 in
-    let lanes = lanes_later advert kept state begun later in
-    let has = has_lane advert begun lane (omega (arith, begins)) (omega (arith, begins, lanes.host_some)) in
-    let decision = path_decision advert weights state begun in
-    let listed = (listed_decisions advert weights kept state knows.below).1 begun begins later.can later.unused in
-    let covers = covers_decision advert weights kept state (gain state) (gain decision.end) decision knows.here (knows.after decision listed) listed in
-    elim (attained advert weights kept gain state knows) [
-      | inl nothing ↦ none begun (record { begins = begins; can = later.can; unused = later.unused; of_use = inr held; leaves = omega (arith, covers, nothing) })
-      | inr by ↦ elim ((decision_is advert weights kept state by.0 by.1).kind) [
-        | inl free ↦ none_has advert kept lane begun free.1 held has
-        | inr taken ↦
-            let own = allowed advert taken.path (eligible_allowed advert kept taken.path taken.can) in
-            let also = has_lane advert taken.path lane (omega (arith, taken.begins)) (omega (arith, taken.begins, own.host_some)) in
-            none taken.path (reaching_keeps advert weights kept gain state by.0 by.2 taken (inr (takes_lane advert kept taken.path begun lane taken.can held has also)))
       ]
     ]

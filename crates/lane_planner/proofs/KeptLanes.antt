@@ -7,11 +7,8 @@ use Rattle.std.proofs.lemmas.Bool.Decides.{nat_tests}
 use Rattle.std.proofs.lemmas.List.Elements.{All-contains, Contains-append_right}
 use Rattle.std.proofs.lemmas.List.Sums.{AllPass-from_list_all}
 use Rattle.field_tables.specs.LaneBytes.{contains-run_of}
-use Rattle.applications.specs.Advertised.{Advertised}
-use Rattle.plan_certificate.specs.declared.path.Path.{Path}
-use Rattle.plan_certificate.specs.Paths.{app_of, host_lanes}
-use Rattle.plan_certificate.specs.Plans.{are_apart, IsAdmissible}
-use Rattle.plan_certificate.specs.KeptPaths.{is_among, is_eligible, may_stay_free}
+use Rattle.lane_planner.proofs.Words.{Advertised, Path, app_of, host_lanes, is_among, is_eligible, may_stay_free, IsAdmissible}
+use Rattle.plan_certificate.specs.Plans.{are_apart}
 use Rattle.plan_certificate.proofs.KeptPaths.{among_listed, listed_among, same_or_apart}
 use Rattle.plan_certificate.proofs.LaneRuns.{apart_at}
 use Rattle.plan_certificate.proofs.PathTakenOut.{IsApart, apart_back}
@@ -66,19 +63,11 @@ one_has advert (path ∷ kept) lane not_free =
 -- ---- the paths that may take them
 
 -- an eligible path is a kept one, or apart from each
-pub kept_or_apart : (advert : Advertised) (kept : List Path) (path other : Path) → is_eligible advert kept path ≡ true → Contains kept other → Contains kept path ⊎ IsApart advert other path
+kept_or_apart : (advert : Advertised) (kept : List Path) (path other : Path) → is_eligible advert kept path ≡ true → Contains kept other → Contains kept path ⊎ IsApart advert other path
 kept_or_apart advert kept path other can held =
     elim (or_cases _ _ (and_parts _ _ can).0) [
       | inl among ↦ inl (listed_among kept path among)
       | inr apart ↦ inr (passes (λ (p : Path). are_apart advert p path) kept other apart held)
-    ]
-
--- one that takes a kept path's lane is kept
-pub takes_lane : (advert : Advertised) (kept : List Path) (path other : Path) (lane : ℕ) → is_eligible advert kept path ≡ true → Contains kept other → HasLane advert other lane → HasLane advert path lane → Contains kept path
-takes_lane advert kept path other lane can held has also =
-    elim (kept_or_apart advert kept path other can held) [
-      | inl among ↦ among
-      | inr apart ↦ absurd (not_both advert other path lane apart has also)
     ]
 
 -- the kept paths are this one or apart from it
@@ -94,4 +83,7 @@ pub lane_of_other : (advert : Advertised) (kept : List Path) (path : Path) (lane
 lane_of_other advert kept path lane can not_kept has =
     true_from_ne_false (may_stay_free advert kept lane) (λ taken.
     let one = one_has advert kept lane taken in
-    both_ways (is_among kept path) not_kept (among_listed kept path (takes_lane advert kept path one.path lane can one.held one.has has)))
+    elim (kept_or_apart advert kept path one.path can one.held) [
+      | inl among ↦ both_ways (is_among kept path) not_kept (among_listed kept path among)
+      | inr apart ↦ not_both advert one.path path lane apart one.has has
+    ])

@@ -1,9 +1,8 @@
+mod Words
 pub mod DisjointLanes
 pub mod DecisionKinds
 pub mod KeptLanes
 pub mod GainLaws
-mod Places
-mod MadeLists
 mod CellNumbers
 mod MarkBits
 pub mod ReachedStates
@@ -13,7 +12,6 @@ pub mod TableGains
 pub mod LaterPaths
 pub mod AheadPlans
 pub mod ChosenPaths
-mod FirstPlans
 pub mod FirstLaws
 pub mod ReadOffs
 mod ReachedEntries

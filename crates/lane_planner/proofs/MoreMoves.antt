@@ -3,14 +3,7 @@ use Rattle.std.proofs.Common.{◌≡◌, ℕ, ◌+◌, ◌<◌, Bool, true, fals
 use Rattle.std.specs.List.{All, AllByRecursion, Contains}
 use Rattle.std.proofs.lemmas.List.{map-append}
 use Rattle.std.proofs.lemmas.List.Elements.{All-from_recursion, filter_more, recursion_from_All}
-use Rattle.applications.specs.Advertised.{Advertised}
-use Rattle.applications.specs.AppWeights.{PathWeights}
-use Rattle.plan_certificate.specs.declared.path.Path.{Path}
-use Rattle.plan_certificate.specs.declared.state.State.{State}
-use Rattle.plan_certificate.specs.declared.moves.Move.{Move}
-use Rattle.plan_certificate.specs.declared.state.Decision.{Decision}
-use Rattle.plan_certificate.specs.States.{decisions_from, free_decisions}
-use Rattle.plan_certificate.specs.Moves.{AreMoves, LeadsOn, is_open, move_decision, decisions_by}
+use Rattle.lane_planner.proofs.Words.{Advertised, PathWeights, Path, Move, State, Decision, decisions_from, free_decisions, AreMoves, LeadsOn, is_open, move_decision, decisions_by}
 use Rattle.plan_certificate.proofs.HeaviestMoves.{HoldsOfLighter, each_among, each_outweighed, heaviest_lead_on}
 use Rattle.plan_certificate.proofs.Lists.{each_contained}
 use Rattle.plan_certificate.proofs.MoveDecisions.{listed_are_decisions}

@@ -1,19 +1,14 @@
 -- The certificate of the plan that is given is one alone, and so is its text.
 use Rattle.std.proofs.Common.{◌≡◌, ◌↔◌, ℕ, zero, suc, ◌<◌, ◌⊎◌, List, [], ◌∷◌, length, get_or, refl, sym, subst, ap, ◌∙◌, inl, inr, arith}
-use Rattle.std.specs.List.{AllPairs, Contains}
+use Rattle.std.specs.List.{AllByRecursion, AllPairs, Contains}
 use Rattle.std.proofs.lemmas.List.{get_or-map, length-map}
-use Rattle.std.proofs.lemmas.List.Elements.{All-contains, Contains-append_right, Contains-get_or}
+use Rattle.std.proofs.lemmas.List.Elements.{All-contains, All-from_recursion, Contains-append_right, Contains-get_or}
 use Rattle.field_tables.specs.LaneSets.{byte_of}
 use Rattle.field_tables.specs.LaneBytes.{byte_of-lanes_in}
+use Rattle.lane_planner.proofs.Words.{Advertised, PathWeights, Path, State, Entry, plan_weight, Claim, entry_place, state_of}
 use Rattle.text_lines.specs.Lines.{text_of}
-use Rattle.applications.specs.Advertised.{Advertised}
-use Rattle.applications.specs.AppWeights.{PathWeights}
-use Rattle.plan_certificate.specs.declared.path.Path.{Path}
-use Rattle.plan_certificate.specs.declared.certificate.Entry.{Entry}
-use Rattle.plan_certificate.specs.declared.state.State.{State}
-use Rattle.plan_certificate.specs.Certificates.{Claim, entry_place, state_of}
 use Rattle.plan_certificate.specs.CertificateText.{certificate_lines}
-use Rattle.plan_certificate.specs.Plans.{plan_weight}
+use Rattle.plan_certificate.proofs.Ranks.{Ranked, ranked_from_pairs}
 use Rattle.lane_planner.specs.CertifiedPlans.{IsPlanText}
 use Rattle.lane_planner.specs.Gains.{IsGain}
 use Rattle.lane_planner.proofs.FirstLaws.{one_first}
@@ -22,50 +17,43 @@ use Rattle.lane_planner.proofs.ReachedEntries.{contains_mapped}
 -- ---- lists that rise and have the same members
 
 module _ {X : Type 0} (rank : X → ℕ) where
-  abbrev Rises : List X → Type 0
-  Rises xs = AllPairs (λ x y. rank x < rank y) xs
+  abbrev Above : X → X → Type 0
+  Above x y = rank x < rank y
 
   abbrev HaveSame : List X → List X → Type 0
   HaveSame xs ys = (x : X) → Contains xs x ↔ Contains ys x
 
   -- a member is the first one, or is of the rest and above it
-  first_or_rest : (x : X) (xs : List X) (y : X) → Rises (x ∷ xs) → Contains (x ∷ xs) y → (x ≡ y) ⊎ ((rank x < rank y) × Contains xs y)
-  first_or_rest x xs y rises (zero, below, is) = inl is
-  first_or_rest x xs y rises (suc k, below, is) = inr (subst (λ (z : X). rank x < rank z) is (rises zero (suc k) y (omega arith) below), (k, omega (arith, below), is))
+  first_or_rest : (x : X) (xs : List X) (y : X) → AllByRecursion (Above x) xs → Contains (x ∷ xs) y → (x ≡ y) ⊎ (Above x y × Contains xs y)
+  first_or_rest x xs y above (zero, below, is) = inl is
+  first_or_rest x xs y above (suc k, below, is) =
+      let held : Contains xs y = (k, omega (arith, below), is) in
+      inr (All-contains (Above x) xs y (All-from_recursion (Above x) xs above) held, held)
 
-  rest_rises : (x : X) (xs : List X) → Rises (x ∷ xs) → Rises xs
-  rest_rises x xs rises i j d before below = rises (suc i) (suc j) d (omega (arith, before)) (omega (arith, below))
-
-  same_first : (x y : X) (xs ys : List X) → Rises (x ∷ xs) → Rises (y ∷ ys) → HaveSame (x ∷ xs) (y ∷ ys) → x ≡ y
-  same_first x y xs ys rises others same =
-      elim (first_or_rest y ys x others ((same x).0 (zero, omega arith, refl))) [
-        | inl is ↦ sym is
-        | inr above ↦ elim (first_or_rest x xs y rises ((same y).1 (zero, omega arith, refl))) [
-          | inl is ↦ is
-          | inr below ↦ absurd (omega (arith, above.0, below.0))
-        ]
-      ]
-
-  rest_to : (x y : X) (xs ys : List X) → Rises (x ∷ xs) → Rises (y ∷ ys) → x ≡ y → (z : X) → (Contains (x ∷ xs) z → Contains (y ∷ ys) z) → Contains xs z → Contains ys z
-  rest_to x y xs ys rises others is z to contains =
-      elim (first_or_rest y ys z others (to (Contains-append_right (x ∷ []) xs z contains))) [
-        | inl same ↦
-            let above = subst (λ (w : X). rank x < rank w) contains.2 (rises zero (suc contains.0) z (omega arith) (omega (arith, contains.1))) in
-            absurd (omega (arith, above, ap rank (is ∙ same)))
+  rest_to : (x y : X) (xs ys : List X) → AllByRecursion (Above x) xs → AllByRecursion (Above y) ys → x ≡ y → (z : X) → (Contains (x ∷ xs) z → Contains (y ∷ ys) z) → Contains xs z → Contains ys z
+  rest_to x y xs ys above others is z to held =
+      elim (first_or_rest y ys z others (to (Contains-append_right (x ∷ []) xs z held))) [
+        | inl same ↦ absurd (omega (arith, All-contains (Above x) xs z (All-from_recursion (Above x) xs above) held, ap rank (is ∙ same)))
         | inr found ↦ found.1
       ]
 
-  pub one_rising : (xs ys : List X) → Rises xs → Rises ys → HaveSame xs ys → xs ≡ ys
-  one_rising [] [] rises others same = refl
-  one_rising [] (y ∷ ys) rises others same = let none = (same y).1 (zero, omega arith, refl) in absurd (omega (arith, none.1))
-  one_rising (x ∷ xs) [] rises others same = let none = (same x).0 (zero, omega arith, refl) in absurd (omega (arith, none.1))
-  one_rising (x ∷ xs) (y ∷ ys) rises others same =
-      let is = same_first x y xs ys rises others same in
-      let rest = one_rising xs ys (rest_rises x xs rises) (rest_rises y ys others) (λ z. (
-        rest_to x y xs ys rises others is z (same z).0,
-        rest_to y x ys xs others rises (sym is) z (same z).1,
-      )) in
-      ap (λ (z : X). z ∷ xs) is ∙ ap (λ (zs : List X). y ∷ zs) rest
+  one_ranked : (xs ys : List X) → Ranked Above xs → Ranked Above ys → HaveSame xs ys → xs ≡ ys
+  one_ranked [] [] rises others same = refl
+  one_ranked [] (y ∷ ys) rises others same = let none = (same y).1 (zero, omega arith, refl) in absurd (omega (arith, none.1))
+  one_ranked (x ∷ xs) [] rises others same = let none = (same x).0 (zero, omega arith, refl) in absurd (omega (arith, none.1))
+  one_ranked (x ∷ xs) (y ∷ ys) rises others same =
+      let is : x ≡ y = elim (first_or_rest y ys x others.0 ((same x).0 (zero, omega arith, refl))) [
+        | inl is ↦ sym is
+        | inr above ↦ elim (first_or_rest x xs y rises.0 ((same y).1 (zero, omega arith, refl))) [
+          | inl is ↦ is
+          | inr below ↦ absurd (omega (arith, above.0, below.0))
+        ]
+      ] in
+      let rest = one_ranked xs ys rises.1 others.1 (λ z. (rest_to x y xs ys rises.0 others.0 is z (same z).0, rest_to y x ys xs others.0 rises.0 (sym is) z (same z).1)) in
+      (λ i. is i ∷ rest i)
+
+  pub one_rising : (xs ys : List X) → AllPairs Above xs → AllPairs Above ys → HaveSame xs ys → xs ≡ ys
+  one_rising xs ys rises others same = one_ranked xs ys (ranked_from_pairs Above xs rises) (ranked_from_pairs Above ys others) same
 
 -- ---- entries
 

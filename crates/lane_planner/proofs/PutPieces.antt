@@ -1,58 +1,44 @@
 -- Pieces that are put into a buffer, one after another.
-use Rattle.std.proofs.Common.{◌≡◌, ℕ, ◌+◌, ◌-◌, ◌≤◌, Bool, cond, List, [], ◌++◌, length, take, drop, refl, sym, ap, ◌∙◌, append_assoc, arith, le-ltb}
-use Rattle.std.proofs.lemmas.List.{length-append, length-take-le, take-append-drop}
-use Rattle.std.proofs.lemmas.Slice.{drop-append-drop}
-use Rattle.std.proofs.Math.Seq.{take-append-add, take-append_seam}
+use Rattle.std.proofs.Common.{◌≡◌, ℕ, ◌+◌, ◌-◌, ◌≤◌, List, [], ◌++◌, length, take, drop, refl, sym, ap, ◌∙◌, append_assoc, append-nil, arith, le-ltb}
+use Rattle.std.proofs.Math.Seq.{drop-append_seam, take-append_seam}
+use Rattle.std.proofs.lemmas.List.{drop-drop, length-append, length-take-le, take-append-drop, take-append-le, take-take}
 use Rattle.lane_planner.specs.Buffers.{Puts, buffer_with}
 
+pub piece_put : (piece before after : List ℕ) (n end : ℕ) → end ≡ n + length piece → length after ≡ length before → (end ≤ length before → after ≡ take n before ++ (piece ++ drop end before)) → Puts piece before n after end
+piece_put piece before after n end is size put =
+    let front = take n before ++ piece in
+    let rest = drop end before in
+    let len : end ≤ length before → length front ≡ end = λ fits. omega (arith, length-append (take n before) piece, length-take-le n before (omega (arith, is, fits)), is) in
+    let whole : end ≤ length before → after ≡ front ++ rest = λ fits. put fits ∙ sym (append_assoc (take n before) piece rest) in
+    record {
+      counted = is;
+      size = size;
+      put = λ fits. ap (take end) (whole fits) ∙ rw (len fits) at (take-append_seam front rest);
+      left = λ fits. ap (drop end) (whole fits) ∙ rw (len fits) at (drop-append_seam front rest);
+    }
+
 pub nothing_put : (before : List ℕ) (n : ℕ) → Puts [] before n before n
-nothing_put before n =
-    let same : n + 0 ≡ n = omega arith in
-    record {
-      counted = omega arith;
-      size = refl;
-      put = λ fits. sym (take-append-drop n before) ∙ ap (λ (m : ℕ). take n before ++ drop m before) (sym same);
-    }
+nothing_put before n = record { counted = omega arith; size = refl; put = λ _. sym (append-nil (take n before)); left = λ _. refl }
 
-pub both_put : (piece other before middle after : List ℕ) (n m k : ℕ) → Puts piece before n middle m → Puts other middle m after k → Puts (piece ++ other) before n after k
-both_put piece other before middle after n m k first second =
-    let lengths = length-append piece other in
+pub both_put : {piece other before middle after : List ℕ} {n m k : ℕ} → Puts piece before n middle m → Puts other middle m after k → Puts (piece ++ other) before n after k
+both_put {piece} {other} {before} {middle} {after} {n} {m} {k} first second =
+    let further : m + (k - m) ≡ k = omega (arith, second.counted) in
+    let past = λ (buffer : List ℕ). rw further at (drop-drop (k - m) m buffer) in
     record {
-      counted = omega (arith, first.counted, second.counted, lengths);
+      counted = omega (arith, first.counted, second.counted, length-append piece other);
       size = second.size ∙ first.size;
-      put = λ fits.
-          let front = take n before ++ piece in
-          let rest = drop m before in
-          let room : n + length piece ≤ length before = omega (arith, fits, lengths) in
-          let more : m + length other ≤ length middle = omega (arith, fits, lengths, first.counted, first.size) in
-          let begun : length front ≡ m = length-append (take n before) piece ∙ ap (λ (i : ℕ). i + length piece) (length-take-le n before (omega (arith, room))) ∙ sym first.counted in
-          let middle_is : middle ≡ front ++ rest =
-          first.put room ∙ ap (λ (i : ℕ). take n before ++ (piece ++ drop i before)) (sym first.counted) ∙ sym (append_assoc (take n before) piece rest) in
-          let taken : take m middle ≡ front = ap (take m) middle_is ∙ ap (λ (i : ℕ). take i (front ++ rest)) (sym begun) ∙ take-append_seam front rest in
-          let total : m + length other ≡ n + length (piece ++ other) = omega (arith, first.counted, lengths) in
-          let dropped : drop (m + length other) middle ≡ drop (n + length (piece ++ other)) before =
-          ap (drop (m + length other)) middle_is
-          ∙ drop-append-drop m before front (m + length other) (omega arith) begun
-          ∙ ap (λ (i : ℕ). drop i before) total in
-          let last = drop (n + length (piece ++ other)) before in
-          second.put more
-          ∙ ap (λ (l : List ℕ). l ++ (other ++ drop (m + length other) middle)) taken
-          ∙ ap (λ (l : List ℕ). front ++ (other ++ l)) dropped
-          ∙ append_assoc (take n before) piece (other ++ last)
-          ∙ ap (λ (l : List ℕ). take n before ++ l) (sym (append_assoc piece other last));
+      put = λ fits. second.put (omega (arith, fits, first.size)) ∙ ap (λ (l : List ℕ). l ++ other) (first.put (omega (arith, fits, second.counted))) ∙ append_assoc (take n before) piece other;
+      left = λ fits. second.left (omega (arith, fits, first.size)) ∙ sym (past middle) ∙ ap (drop (k - m)) (first.left (omega (arith, fits, second.counted))) ∙ past before;
     }
 
--- ---- a text in a buffer
+-- ---- a text at the front of a buffer
+
+pub put_whole : {text before after : List ℕ} {len : ℕ} → Puts text before 0 after len → length text ≤ length before → after ≡ buffer_with before text
+put_whole {text} {before} {after} {len} puts fits =
+    let same : len ≡ length text = omega (arith, puts.counted) in
+    let parts : take len after ++ drop len after ≡ text ++ drop len before = (λ i. puts.put (omega (arith, same, fits)) i ++ puts.left (omega (arith, same, fits)) i) in
+    rw (le-ltb (length before) (length text) fits) (sym (take-append-drop (length text) after) ∙ rw same at parts)
 
 -- what is left of a buffer, and of what lies after it, that is cut off after the text
-pub cut_off : (text before after rest : List ℕ) (len room : ℕ) → after ≡ buffer_with before text → len ≡ length text → len ≤ length before → len ≤ room → take len (take room (after ++ rest)) ≡ text
-cut_off text before after rest len room is same fits within =
-    let short : length text ≤ length before = omega (arith, same, fits) in
-    let left = drop (length text) before in
-    let more = room - length text in
-    let split : room ≡ length text + more = omega (arith, same, within) in
-    let whole : after ≡ text ++ left = is ∙ ap (λ (b : Bool). cond b before (text ++ left)) (le-ltb (length before) (length text) short) in
-    let parted : after ++ rest ≡ text ++ (left ++ rest) = ap (λ (l : List ℕ). l ++ rest) whole ∙ append_assoc text left rest in
-    let taken : take room (after ++ rest) ≡ text ++ take more (left ++ rest) =
-    ap (take room) parted ∙ ap (λ (i : ℕ). take i (text ++ (left ++ rest))) split ∙ take-append-add text (left ++ rest) more in
-    ap (take len) taken ∙ ap (λ (i : ℕ). take i (text ++ take more (left ++ rest))) same ∙ take-append_seam text (take more (left ++ rest))
+pub cut_off : {text before after : List ℕ} {len : ℕ} (rest : List ℕ) (room : ℕ) → Puts text before 0 after len → len ≤ length before → len ≤ room → take len (take room (after ++ rest)) ≡ text
+cut_off {text} {before} {after} {len} rest room puts fits within = take-take len room (after ++ rest) within ∙ take-append-le len after rest (omega (arith, fits, puts.size)) ∙ puts.put fits

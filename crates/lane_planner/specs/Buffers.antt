@@ -10,4 +10,5 @@ buffer_with buffer text = if nat_lt (length buffer) (length text) then buffer el
 pub record Puts (piece before : List ℕ) (from : ℕ) (after : List ℕ) (upto : ℕ) : Type 0 where
   pub counted : upto ≡ from + length piece
   pub size : length after ≡ length before
-  pub put : from + length piece ≤ length before → after ≡ take from before ++ (piece ++ drop (from + length piece) before)
+  pub put : upto ≤ length before → take upto after ≡ take from before ++ piece
+  pub left : upto ≤ length before → drop upto after ≡ drop upto before

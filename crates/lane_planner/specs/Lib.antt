@@ -2,6 +2,5 @@ pub mod Buffers
 pub mod CertifiedPlans
 pub mod FirstBest
 pub mod Gains
-pub mod MarkBits
 pub mod Marks
 pub mod Tables

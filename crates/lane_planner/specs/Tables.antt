@@ -1,6 +1,6 @@
 -- The planner's table of gains, by the places of states, and the plan that it reads off. (docs/planning.md, "The planner";
 -- this project's own)
-use Rattle.std.specs.Prelude.{◌≡◌, ℕ, Bool, ◌+◌, ◌-◌, ◌*◌, ◌/◌, ◌%◌, ◌<◌, ◌≤◌, ◌==◌, ◌&&◌, ◌||◌, nat_lt, nat_le, if◌then◌else◌, false, List, [], ◌∷◌, All, AllPairs, Contains, filter, length, map, max, slice_index, slice_index_or}
+use Rattle.std.specs.Prelude.{◌≡◌, ℕ, Bool, ◌+◌, ◌-◌, ◌*◌, ◌/◌, ◌%◌, ◌<◌, ◌≤◌, ◌==◌, ◌&&◌, ◌||◌, nat_lt, nat_le, if◌then◌else◌, List, [], ◌∷◌, All, AllPairs, Contains, filter, length, map, max, slice_index}
 use Rattle.std.specs.List.{range_with_len}
 use Rattle.applications.specs.Advertised.{Advertised}
 use Rattle.applications.specs.AppWeights.{PathWeights}
@@ -17,7 +17,7 @@ use Rattle.plan_certificate.specs.Moves.{is_open, move_decision}
 use Rattle.plan_certificate.specs.Certificates.{HasStates, entry_place}
 use Rattle.lane_planner.specs.FirstBest.{IsOfUse, IsSameOrBefore}
 use Rattle.lane_planner.specs.Gains.{IsGain}
-use Rattle.lane_planner.specs.Marks.{IsMarked}
+use Rattle.lane_planner.specs.Marks.{IsMarked, is_marked}
 use Rattle.plan_certificate.specs.Limits.{most_states}
 
 -- the start and the states past the first boundary have a cell, but for those at the last one
@@ -36,17 +36,17 @@ numbers_of lows highs = map (number_at lows highs) (range_with_len 0 most_states
 pub record AreParts (lows highs : List ℕ) : Type 0 where
   pub low : length lows ≡ 1793
   pub high : length highs ≡ 1793
-  pub small : (cell : ℕ) → slice_index highs cell < 254
+  pub small : All (λ high. high < 254) highs
 
 -- a number for each state; each lane that is still to be decided adds at most four weights of 32 bits
 pub record IsTable (table : List ℕ) : Type 0 where
   pub all : length table ≡ most_states
-  pub small : (place : ℕ) → place < most_states → slice_index table place ≤ 17179869180 * (8 - place / 256)
+  pub small : (place : ℕ) → slice_index table place ≤ 17179869180 * (8 - place / 256)
 
 -- the gains of the reached states at these places
 pub record AreGains (advert : Advertised) (weights : PathWeights) (kept : List Path) (Done : ℕ → Type 0) (table : List ℕ) : Type 0 where
   pub numbers : IsTable table
-  pub gains : (place : ℕ) → Done place → place < most_states → IsReached advert weights kept (state_at place) → IsGain advert weights kept (state_at place) (slice_index table place)
+  pub gains : (place : ℕ) → Done place → IsReached advert weights kept (state_at place) → IsGain advert weights kept (state_at place) (slice_index table place)
 
 -- those from a place on
 abbrev pub HasGains : Advertised → PathWeights → List Path → ℕ → List ℕ → Type 0
@@ -84,7 +84,7 @@ pub record IsReadOff (advert : Advertised) (weights : PathWeights) (kept : List 
   pub first : (others : List Path) → IsPlanOf advert weights kept (gain_at table start) others → IsSameOrBefore paths others
 
 -- the entries of the marked states before a place, and no others
-pub record AreEntries (marks : List Bool) (table : List ℕ) (upto : ℕ) (entries : List Entry) : Type 0 where
+pub record AreEntries (marks : List ℕ) (table : List ℕ) (upto : ℕ) (entries : List Entry) : Type 0 where
   pub states : HasStates entries
   pub below : All (λ entry. entry_place entry < upto) entries
   pub marked : All (λ entry. IsMarked marks (entry_place entry) × (entry ≡ entry_at table (entry_place entry))) entries
@@ -92,6 +92,5 @@ pub record AreEntries (marks : List Bool) (table : List ℕ) (upto : ℕ) (entri
   pub few : length entries ≤ upto
 
 -- these entries themselves, by rising places
-unfoldable pub marked_entries : List Bool → List ℕ → ℕ → List Entry
-marked_entries marks table upto =
-    filter (λ entry. slice_index_or marks (entry_place entry) false) (map (entry_at table) (range_with_len 0 upto))
+unfoldable pub marked_entries : List ℕ → List ℕ → ℕ → List Entry
+marked_entries marks table upto = filter (λ entry. is_marked marks (entry_place entry)) (map (entry_at table) (range_with_len 0 upto))

@@ -1,6 +1,5 @@
 // The path that the plan takes at each state.
-ghost use Rattle.std.specs.Prelude.{◌≡◌, ◌||◌, ◌+◌, ◌<◌, nat_lt, All, IfSome, find};
-ghost use Rattle.plan_certificate.specs.KeptPaths as spec;
+ghost use Rattle.std.specs.Prelude.{◌≡◌, ◌+◌, ◌<◌, All, IfSome, find};
 ghost use Rattle.plan_certificate.specs.Plans.{IsAdmissible};
 ghost use Rattle.plan_certificate.specs.Moves.{LeadsOn};
 ghost use Rattle.lane_planner.specs.Tables.{HasGains, IsReadOff, IsTable, move_keeps_gain};
@@ -56,15 +55,9 @@ fn keeps_gain(one: &Move, kept: &[Path], table: &Table, state: &State) -> bool
     requires leads_on { LeadsOn state.now.boundary one.now }
     ensures { result ≡ move_keeps_gain kept.now table.now state.now one.now }
 {
-    if !one.is_open(state) || !is_of_use(one, kept) {
+    if !one.is_open(state) || one.weight == 0 && !is_among(kept, one.path) {
         return false;
     }
     let rest = table.at(one.decision(state).end.place());
     one.weight + rest == table.at(state.place())
-}
-
-fn is_of_use(one: &Move, kept: &[Path]) -> bool
-    ensures { result ≡ (nat_lt 0 one.now.weight || spec.is_among kept.now one.now.path) }
-{
-    one.weight > 0 || is_among(kept, one.path)
 }

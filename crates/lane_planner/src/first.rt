@@ -30,11 +30,5 @@ fn have_same_paths(paths: &[Path], others: &[Path]) -> bool
 fn has_all(paths: &[Path], others: &[Path]) -> bool
     ensures { IsTrue result ↔ ((path : Path) → Contains others.now path → Contains paths.now path) }
 {
-    others.iter().all(|other| has(paths, other))
-}
-
-fn has(paths: &[Path], path: &Path) -> bool
-    ensures { IsTrue result ↔ Contains paths.now path.now }
-{
-    paths.contains(path)
+    others.iter().all(|other| paths.contains(other))
 }

@@ -26,15 +26,14 @@ pub fn put_gains(
     let mut moves = FollowedMoves::none();
     for boundary in (0..HOST_LANES).rev() {
         moves.list(advert, weights, kept, boundary);
-        let from = 256 * usize::from(boundary);
+        let mut from = 256 * usize::from(boundary);
         let end = from + 256;
-        let mut place = marks.first(from, end);
-        while place < end {
+        while let Some(place) = marks.first(from, end) {
             let state = State::at(place);
             let free = moves.may_stay_free;
             let gain = most(free, moves.moves.as_slice(), table, &state);
             table.put(place, gain);
-            place = marks.first(place + 1, end);
+            from = place + 1;
         }
     }
 }
@@ -54,10 +53,7 @@ fn most(may_stay_free: bool, moves: &[Move], table: &Table, state: &State) -> u6
     }
     for one in moves {
         if one.is_open(state) {
-            let through = one.weight + table.at(one.decision(state).end.place());
-            if most < through {
-                most = through;
-            }
+            most = most.max(one.weight + table.at(one.decision(state).end.place()));
         }
     }
     most

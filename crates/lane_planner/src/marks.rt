@@ -1,6 +1,5 @@
-ghost use Rattle.std.specs.Prelude.{◌≡◌, ◌≢◌, ◌<◌, ◌≤◌, ℕ, true, false, replicate, slice_index_or, slice_set};
-ghost use Rattle.std.specs.Int.{bit_at};
-ghost use Rattle.lane_planner.specs.Marks.{IsFirstMarked, IsMarked};
+ghost use Rattle.std.specs.Prelude.{◌≡◌, ◌+◌, ◌<◌, ◌≤◌, MatchOption};
+ghost use Rattle.lane_planner.specs.Marks.{IsFirstMarked, MarksToo, NoneMarked, NothingMarked, is_marked};
 
 use plan_certificate::STATES;
 use std::marker::Model;
@@ -16,12 +15,11 @@ pub struct Marks {
 }
 
 impl Model for Marks {
-    ghost use Rattle.std.specs.Prelude.{◌≡◌, Bool, List, length};
-    ghost use Rattle.lane_planner.specs.MarkBits.{marks_in};
+    ghost use Rattle.std.specs.Prelude.{◌≡◌, List, ℕ, length};
 
-    ghost Value = { List Bool };
+    ghost Value = { List ℕ };
 
-    ghost view = { λ marks. marks_in marks.bytes };
+    ghost view = { λ marks. marks.bytes };
 
     ghost invariant = { λ marks. length marks.bytes ≡ 288 };
 }
@@ -29,7 +27,7 @@ impl Model for Marks {
 impl Marks {
     /// No state is marked.
     pub(crate) fn blank() -> Self
-        ensures { result ≡ replicate STATES false }
+        ensures { NothingMarked result }
     {
         Marks { bytes: [0; BYTES] }
     }
@@ -37,33 +35,32 @@ impl Marks {
     /// Whether the state at a place is marked.
     pub(crate) fn has(&self, place: usize) -> bool
         requires { place < STATES }
-        ensures { result ≡ slice_index_or self.now place false }
+        ensures { result ≡ is_marked self.now place }
     {
         let bytes = &self.bytes;
         (bytes[place / 8] >> (place % 8)) & 1 == 1
     }
 
-    /// The first marked place from `from` on and before `end`; `end` if there is none.
-    pub(crate) fn first(&self, from: usize, end: usize) -> usize
-        requires from { from ≤ end }
-        requires end { end ≤ STATES }
-        ensures { IsFirstMarked self.now from end result }
+    /// The first marked place from `from` on and before `end`.
+    pub(crate) fn first(&self, from: usize, end: usize) -> Option<usize>
+        requires { end ≤ STATES }
+        ensures { MatchOption result (NoneMarked self.now from end) (IsFirstMarked self.now from end) }
     {
         let mut place = from;
         while place < end {
             if self.has(place) {
-                return place;
+                return Some(place);
             }
-            place = self.next(place).min(end);
+            place = self.next(place);
         }
-        end
+        None
     }
 
     // The next place; if the byte of this one has no mark, the first place of the next byte.
     fn next(&self, place: usize) -> usize
         requires { place < STATES }
         ensures later { place < result }
-        ensures none { (other : ℕ) → place < other → other < result → IsMarked self.now other → ⊥ }
+        ensures none { NoneMarked self.now (place + 1) result }
     {
         let byte = self.bytes[place / 8];
         if byte == 0 {
@@ -75,18 +72,8 @@ impl Marks {
 
     pub(crate) fn mark(&mut self, place: usize)
         requires { place < STATES }
-        ensures { self.new ≡ slice_set self.old place true }
+        ensures { MarksToo self.old place self.new }
     {
-        let byte = with_bit(self.bytes[place / 8], place % 8);
-        self.bytes[place / 8] = byte;
+        self.bytes[place / 8] |= 1 << (place % 8);
     }
-}
-
-// The byte with this bit set, too.
-fn with_bit(byte: u8, bit: usize) -> u8
-    requires { bit < 8 }
-    ensures set { bit_at result bit ≡ 1 }
-    ensures others { (i : ℕ) → i ≢ bit → bit_at result i ≡ bit_at byte i }
-{
-    byte | 1 << bit
 }

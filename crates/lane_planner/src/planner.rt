@@ -1,15 +1,10 @@
-ghost use Rattle.std.specs.Prelude.{◌≡◌, ◌↔◌, ◌<◌, [], Contains, map};
+ghost use Rattle.std.specs.Prelude.{◌≡◌, ◌<◌, []};
 ghost use Rattle.std.specs.List.{All, AllPairs};
-ghost use Rattle.plan_certificate.specs.declared.state.State.{State};
 ghost use Rattle.plan_certificate.specs.Paths.{path_weight};
-ghost use Rattle.plan_certificate.specs.Plans.{IsAdmissible, IsBest};
-ghost use Rattle.plan_certificate.specs.ReachedStates.{IsReached};
-ghost use Rattle.plan_certificate.specs.Certificates.{Claim, IsGood, state_of};
-ghost use Rattle.plan_certificate.specs.Verdicts.{verdict};
-ghost use Rattle.plan_certificate.specs.declared.verdict.Verdict.TheVariants as verdicts;
+ghost use Rattle.plan_certificate.specs.Plans.{IsAdmissible};
+ghost use Rattle.plan_certificate.specs.Certificates.{Claim};
 ghost use Rattle.lane_planner.specs.CertifiedPlans.{IsCertified};
 ghost use Rattle.lane_planner.specs.FirstBest.{IsFirstBest};
-ghost use Rattle.lane_planner.specs.Gains.{IsGain};
 
 use crate::problem::Problem;
 use crate::solution::Solution;
@@ -19,15 +14,8 @@ use plan_certificate::{Certificate, Plan, STATES};
 
 /// The first plan of those that weigh most, with what can still be gained from each state that decisions from the start reach.
 pub fn plan(advert: &Advert, weights: &AppWeights) -> Certificate<'static, STATES>
-    ensures kept { result.kept ≡ [] }
-    ensures good { IsGood advert.now weights.now result }
-    ensures judged { verdict advert.now weights.now result ≡ verdicts.Good }
-    ensures best { IsBest advert.now weights.now [] result.paths }
-    ensures first { IsFirstBest advert.now weights.now [] result.paths }
-    ensures rising { AllPairs (λ path later. path.host < later.host) result.paths }
+    ensures certified { IsCertified advert.now weights.now [] result }
     ensures weighing { All (λ path. 0 < path_weight weights.now path) result.paths }
-    ensures gains { All (λ entry. IsGain advert.now weights.now [] (state_of entry) entry.potential) result.entries }
-    ensures states { (state : State) → IsReached advert.now weights.now [] state ↔ Contains (map state_of result.entries) state }
 {
     let nothing = Plan {
         paths: ArrayVec::new(),
@@ -42,14 +30,7 @@ pub fn plan_keeping(
     kept: &Plan,
 ) -> Certificate<'static, STATES>
     requires { IsAdmissible advert.now kept.now }
-    ensures kept { result.kept ≡ kept.now }
-    ensures good { IsGood advert.now weights.now result }
-    ensures judged { verdict advert.now weights.now result ≡ verdicts.Good }
-    ensures best { IsBest advert.now weights.now kept.now result.paths }
-    ensures first { IsFirstBest advert.now weights.now kept.now result.paths }
-    ensures rising { AllPairs (λ path later. path.host < later.host) result.paths }
-    ensures gains { All (λ entry. IsGain advert.now weights.now kept.now (state_of entry) entry.potential) result.entries }
-    ensures states { (state : State) → IsReached advert.now weights.now kept.now state ↔ Contains (map state_of result.entries) state }
+    ensures { IsCertified advert.now weights.now kept.now result }
 {
     let problem = Problem {
         advert,

@@ -1,7 +1,7 @@
-ghost use Rattle.std.specs.Prelude.{◌≡◌, ◌<◌, false, replicate};
+ghost use Rattle.std.specs.Prelude.{◌≡◌, ◌<◌, replicate};
 ghost use Rattle.plan_certificate.specs.Plans.{IsAdmissible};
 ghost use Rattle.lane_planner.specs.CertifiedPlans.{IsCertified, claim_of};
-ghost use Rattle.lane_planner.specs.Marks.{MarksReached};
+ghost use Rattle.lane_planner.specs.Marks.{MarksReached, NothingMarked};
 ghost use Rattle.lane_planner.specs.Tables.{HasGains, IsReadOff, entry_at, marked_entries};
 
 use crate::choices::read_off;
@@ -27,7 +27,7 @@ impl Solution {
     /// Nothing is solved yet.
     pub fn blank() -> Self
         ensures gains { result.gains ≡ replicate STATES 0 }
-        ensures marks { result.marks ≡ replicate STATES false }
+        ensures marks { NothingMarked result.marks }
     {
         Solution {
             plan: Plan {
@@ -44,7 +44,7 @@ impl Solution {
     pub fn solve(&mut self, problem: &Problem)
         requires kept { IsAdmissible problem.now.advert.now problem.now.kept.now }
         requires gains { self.old.gains ≡ replicate STATES 0 }
-        requires marks { self.old.marks ≡ replicate STATES false }
+        requires marks { NothingMarked self.old.marks }
         ensures gains { HasGains problem.now.advert.now problem.now.weights.now problem.now.kept.now 0 self.new.gains }
         ensures read_off { IsReadOff problem.now.advert.now problem.now.weights.now problem.now.kept.now self.new.gains self.new.plan }
         ensures certified { IsCertified problem.now.advert.now problem.now.weights.now problem.now.kept.now (claim_of problem.now self.new) }
@@ -58,7 +58,7 @@ impl Solution {
     fn solve_for(&mut self, advert: &Advert, weights: &AppWeights, kept: &Plan)
         requires kept { IsAdmissible advert.now kept.now }
         requires gains { self.old.gains ≡ replicate STATES 0 }
-        requires marks { self.old.marks ≡ replicate STATES false }
+        requires marks { NothingMarked self.old.marks }
         ensures marks { MarksReached advert.now weights.now kept.now self.new.marks }
         ensures gains { HasGains advert.now weights.now kept.now 0 self.new.gains }
         ensures read_off { IsReadOff advert.now weights.now kept.now self.new.gains self.new.plan }
@@ -85,14 +85,15 @@ impl Solution {
 }
 
 // The entries of the marked states.
+#[tactic(auto, using(crate::proofs::ReachedEntries::no_more, crate::proofs::ReachedEntries::are_marked))]
 fn entries_of(marks: &Marks, table: &Table) -> Entries<'static, STATES>
     ensures { result.entries ≡ marked_entries marks.now table.now STATES }
 {
     let mut entries = Entries::new();
-    let mut place = marks.first(0, STATES);
-    while place < STATES {
+    let mut from = 0;
+    while let Some(place) = marks.first(from, STATES) {
         entries.push(entry_at(table, place));
-        place = marks.first(place + 1, STATES);
+        from = place + 1;
     }
     entries
 }

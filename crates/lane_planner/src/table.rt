@@ -41,6 +41,7 @@ impl Table {
         }
     }
 
+    #[tactic(auto, using(crate::proofs::CellNumbers::number_is))]
     pub(crate) fn at(&self, place: usize) -> u64
         requires { place < STATES }
         ensures value { result ≡ slice_index self.now place }
@@ -64,6 +65,7 @@ impl Table {
         self.at(state.place())
     }
 
+    #[tactic(auto, using(crate::proofs::CellNumbers::parts_set))]
     pub(crate) fn put(&mut self, place: usize, number: u64)
         requires place { has_cell place ≡ true }
         requires small { number < LARGE_POTENTIAL }

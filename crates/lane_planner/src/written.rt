@@ -1,5 +1,5 @@
 // The text of the certificate of the plan, without the certificate.
-ghost use Rattle.std.specs.Prelude.{◌≡◌, ◌+◌, ◌*◌, ◌≤◌, List, ℕ, IfOk, length, map};
+ghost use Rattle.std.specs.Prelude.{◌≡◌, ◌+◌, ◌*◌, ◌≤◌, ◌++◌, List, ℕ, IfOk, drop, length, map, take};
 ghost use Rattle.std.specs.List.{AllByRecursion};
 ghost use Rattle.text_lines.specs.Lines.{text_of};
 ghost use Rattle.plan_certificate.specs.declared.line.Line.TheVariants.{StateLine};
@@ -68,7 +68,7 @@ impl Solution {
         ensures { IfOk result (λ text. (text.items ≡ claim_text problem.now self.now) × IsReadBack problem.now self.now) }
     {
         let mut text = Vec::from_elem(alloc, 0, MOST_TEXT)?;
-        let len = self.put_text(problem, text.as_mut_slice());
+        let len = put_at_front(text.as_mut_slice(), problem, self);
         text.truncate(len);
         Ok(text)
     }
@@ -119,18 +119,20 @@ fn put_entries(buffer: &mut [u8], len: &mut usize, marks: &Marks, table: &Table)
     ensures each { AllByRecursion IsEntryInRange (marked_entries marks.now table.now STATES) }
     ensures small { len.new ≤ len.old + 32 * STATES }
 {
-    let mut place = marks.first(0, STATES);
-    while place < STATES {
+    let mut from = 0;
+    while let Some(place) = marks.first(from, STATES) {
         let line = entry_line(entry_at(table, place));
         put(buffer, len, line.as_slice());
-        place = marks.first(place + 1, STATES);
+        from = place + 1;
     }
 }
 
 // Puts a piece after so many bytes, if there is room for it, and counts its bytes in any case.
 fn put(buffer: &mut [u8], len: &mut usize, piece: &[u8])
     requires { len.old + length piece.now ≤ 80000 }
-    ensures { Puts piece.now buffer.old len.old buffer.new len.new }
+    ensures counted { len.new ≡ len.old + length piece.now }
+    ensures size { length buffer.new ≡ length buffer.old }
+    ensures put { len.new ≤ length buffer.old → buffer.new ≡ take len.old buffer.old ++ (piece.now ++ drop len.new buffer.old) }
 {
     let end = *len + piece.len();
     if end <= buffer.len() {

@@ -1,123 +1,101 @@
 -- A plan that grows from a state by decisions that follow one another.
-use Rattle.std.proofs.Common.{◌≡◌, ℕ, zero, suc, ◌+◌, ◌<◌, ◌≤◌, ◌⊎◌, List, [], ◌∷◌, ◌++◌, subst, ap, inl, inr, arith}
+use Rattle.std.proofs.Common.{◌≡◌, ℕ, zero, suc, ◌+◌, ◌<◌, ◌≤◌, ◌⊎◌, List, [], ◌∷◌, Option, Some, None, subst, ap, inl, inr, arith}
 use Rattle.std.specs.List.{Contains}
 use Rattle.std.proofs.lemmas.Bool.{cases_Bool, cases_lt}
-use Rattle.std.proofs.lemmas.List.Elements.{All-contains, Contains-append_left, Contains-push_cases}
+use Rattle.std.proofs.lemmas.List.Elements.{All-contains}
 use Rattle.std.proofs.lemmas.List.Sums.{sum_by-cons}
-use Rattle.applications.specs.Advertised.{Advertised}
-use Rattle.applications.specs.AppWeights.{PathWeights}
 use Rattle.plan_certificate.specs.declared.path.Path.{Path}
 use Rattle.plan_certificate.specs.declared.state.State.{State}
 use Rattle.plan_certificate.specs.declared.state.Decision.{Decision}
-use Rattle.plan_certificate.specs.Paths.{path_weight}
 use Rattle.plan_certificate.specs.Plans.{IsAdmissible, Keeps, plan_weight}
 use Rattle.plan_certificate.specs.KeptPaths.{may_stay_free}
-use Rattle.plan_certificate.specs.States.{free_decision, path_decision}
-use Rattle.plan_certificate.proofs.Heaviest.{allowed}
-use Rattle.plan_certificate.proofs.KeptPaths.{eligible_allowed}
 use Rattle.lane_planner.specs.Gains.{Follow, decisions_weight}
 use Rattle.lane_planner.proofs.KeptLanes.{lane_within, one_has}
-use Rattle.lane_planner.proofs.LaterPaths.{Grown, Stands, grown_free, grown_path, weight_more, all_taken}
-use Rattle.lane_planner.proofs.DecisionKinds.{decision_is}
+use Rattle.lane_planner.proofs.LaterPaths.{Grown, Stands, all_taken}
+use Rattle.plan_drawing.specs.Walks.{Basis, decision_of}
+use Rattle.plan_drawing.proofs.MadeChoices.{CanMake, is_made, made_grown, made_past, made_weighs, still_taken, taken_or_begins, with_made}
 
 -- a plan with these paths, and others that begin past the state, that weighs at least so much more
-pub record Fulfils (advert : Advertised) (weights : PathWeights) (kept : List Path) (state : State) (paths : List Path) (gain : ℕ) : Type 0 where
+pub record Fulfils (basis : Basis) (state : State) (taken : List Path) (gain : ℕ) : Type 0 where
   pub others : List Path
-  pub admissible : IsAdmissible advert others
-  pub keeps : Keeps kept others
-  pub holds : (path : Path) → Contains paths path → Contains others path
-  pub either : (path : Path) → Contains others path → Contains paths path ⊎ (state.boundary < path.host)
-  pub weighs : plan_weight weights paths + gain ≤ plan_weight weights others
+  pub admissible : IsAdmissible basis.advert others
+  pub keeps : Keeps basis.kept others
+  pub holds : (path : Path) → Contains taken path → Contains others path
+  pub either : (path : Path) → Contains others path → Contains taken path ⊎ (state.boundary < path.host)
+  pub weighs : plan_weight basis.weights taken + gain ≤ plan_weight basis.weights others
 
-ended : (advert : Advertised) (weights : PathWeights) (kept : List Path) (state : State) (paths : List Path) → Grown advert kept state paths → 8 ≤ state.boundary → Fulfils advert weights kept state paths 0
-ended advert weights kept state paths is past = record {
-  others = paths;
-  admissible = record { allowed = λ k d inside. (is.stand k d inside).can; apart = λ i j d before inside. (is.ordered i j d before inside).apart };
-  keeps = all_taken advert kept state paths past is.keeps;
+-- after a choice, and so before it
+abbrev pub fulfils_before : (basis : Basis) (state : State) (taken : List Path) (made : Option Path) (gain less : ℕ) → CanMake basis state made
+    → less ≤ (decision_of basis state made).weight + gain
+    → Fulfils basis (decision_of basis state made).end (with_made taken made) gain → Fulfils basis state taken less
+fulfils_before basis state taken made gain less can most is = record {
+  others = is.others;
+  admissible = is.admissible;
+  keeps = is.keeps;
+  holds = λ path held. is.holds path (still_taken taken made path held);
+  either = λ path held. elim (is.either path held) [
+    | inl so_far ↦ taken_or_begins basis state taken made path can so_far
+    | inr past ↦ inr (omega (arith, past, made_past basis state made can))
+  ];
+  weighs = omega (arith, is.weighs, made_weighs basis state taken made, most);
+}
+
+-- ---- by no more than the kept paths that may still come
+
+ended : (basis : Basis) (state : State) (taken : List Path) → Grown basis.advert basis.kept state taken → 8 ≤ state.boundary
+    → Fulfils basis state taken 0
+ended basis state taken is past = record {
+  others = taken;
+  admissible = record {
+    allowed = λ k d inside. (is.stand k d inside).can;
+    apart = λ i j d before inside. (is.ordered i j d before inside).apart;
+  };
+  keeps = all_taken basis.advert basis.kept state taken past is.keeps;
   holds = λ path held. held;
   either = λ path held. inl held;
   weighs = omega arith;
 }
 
-after_free : (advert : Advertised) (weights : PathWeights) (kept : List Path) (state : State) (paths : List Path) (gain : ℕ) → Fulfils advert weights kept (free_decision state).end paths gain → Fulfils advert weights kept state paths gain
-after_free advert weights kept state paths gain is = record {
-  others = is.others;
-  admissible = is.admissible;
-  keeps = is.keeps;
-  holds = is.holds;
-  either = λ path held. elim (is.either path held) [
-    | inl had ↦ inl had
-    | inr past ↦ inr (omega (arith, past))
-  ];
-  weighs = is.weighs;
-}
-
-after_path : (advert : Advertised) (weights : PathWeights) (kept : List Path) (state : State) (paths : List Path) (path : Path) (gain : ℕ) → path.host ≡ state.boundary + 1 → Fulfils advert weights kept (path_decision advert weights state path).end (paths ++ path ∷ []) gain
-    → Fulfils advert weights kept state paths (path_weight weights path + gain)
-after_path advert weights kept state paths path gain begins is = record {
-  others = is.others;
-  admissible = is.admissible;
-  keeps = is.keeps;
-  holds = λ other held. is.holds other (Contains-append_left paths (path ∷ []) other held);
-  either = λ other held. elim (is.either other held) [
-    | inl had ↦ elim (Contains-push_cases paths path other had) [
-      | inl so_far ↦ inl so_far
-      | inr same ↦ inr (omega (arith, ap (λ (p : Path). p.host) same, begins))
-    ]
-    | inr past ↦ inr (omega (arith, past))
-  ];
-  weighs = omega (arith, is.weighs, weight_more advert weights paths path);
-}
-
-at_least : (advert : Advertised) (weights : PathWeights) (kept : List Path) (state : State) (paths : List Path) (gain less : ℕ) → less ≤ gain → Fulfils advert weights kept state paths gain → Fulfils advert weights kept state paths less
-at_least advert weights kept state paths gain less smaller is = record {
-  others = is.others;
-  admissible = is.admissible;
-  keeps = is.keeps;
-  holds = is.holds;
-  either = is.either;
-  weighs = omega (arith, is.weighs, smaller);
-}
-
--- by no more than the kept paths that may still come
-finished : (advert : Advertised) (weights : PathWeights) (kept : List Path) (left : ℕ) (state : State) (paths : List Path) → IsAdmissible advert kept → 8 ≤ state.boundary + left → Grown advert kept state paths → Fulfils advert weights kept state paths 0
-finished advert weights kept zero state paths plan upto is = ended advert weights kept state paths is (omega (arith, upto))
-finished advert weights kept (suc left) state paths plan upto is =
+-- the lane may stay free, or a kept path begins there
+one_can : (basis : Basis) (state : State) (taken : List Path) → Grown basis.advert basis.kept state taken
+    → (made : Option Path) × CanMake basis state made
+one_can basis state taken is =
     let lane : ℕ = state.boundary + 1 in
-    elim (cases_lt state.boundary 8) [
-      | inr past ↦ ended advert weights kept state paths is (omega (arith, past))
-      | inl below ↦ elim (cases_Bool (may_stay_free advert kept lane)) [
-        | inl may ↦ after_free advert weights kept state paths 0 (finished advert weights kept left (free_decision state).end paths plan (omega (arith, upto)) (grown_free advert kept state paths is below may))
-        | inr not_free ↦
-            let one = one_has advert kept lane not_free in
-            let within = lane_within advert one.path lane one.has in
-            elim (is.keeps one.path one.held) [
-              | inl taken ↦ absurd (omega (arith, within.to, (All-contains (Stands advert state) paths one.path is.stand taken).before))
-              | inr later ↦
-                  let begins : one.path.host ≡ lane = omega (arith, later.past, within.from) in
-                  let lanes = allowed advert one.path (eligible_allowed advert kept one.path later.can) in
-                  let End : State = (path_decision advert weights state one.path).end in
-                  let rest = finished advert weights kept left End (paths ++ one.path ∷ []) plan (omega (arith, upto, lanes.host_some)) (grown_path advert weights kept state paths one.path plan is begins later.can later.unused) in
-                  at_least advert weights kept state paths (path_weight weights one.path + 0) 0 (omega arith) (after_path advert weights kept state paths one.path 0 begins rest)
-            ]
-      ]
+    elim (cases_Bool (may_stay_free basis.advert basis.kept lane)) [
+      | inl may ↦ (None, may)
+      | inr not_free ↦
+          let one = one_has basis.advert basis.kept lane not_free in
+          let within = lane_within basis.advert one.path lane one.has in
+          elim (is.keeps one.path one.held) [
+            | inl so_far ↦ absurd (omega (arith, within.to, (All-contains (Stands basis.advert state) taken one.path is.stand so_far).before))
+            | inr later ↦ (Some one.path, record { begins = omega (arith, later.past, within.from); can = later.can; unused = later.unused })
+          ]
     ]
 
--- by decisions that follow one another, and then so
-pub followed : (advert : Advertised) (weights : PathWeights) (kept : List Path) (decisions : List Decision) (state : State) (paths : List Path) → IsAdmissible advert kept → Grown advert kept state paths → Follow advert weights kept state decisions → Fulfils advert weights kept state paths (decisions_weight decisions)
-followed advert weights kept [] state paths plan is follow = finished advert weights kept 8 state paths plan (omega arith) is
-followed advert weights kept (decision ∷ decisions) state paths plan is follow =
-    let kind = decision_is advert weights kept state decision follow.0 in
-    let total = sum_by-cons (λ (s : Decision). s.weight) decision decisions in
-    elim (kind.kind) [
-      | inl free ↦
-          let next : Follow advert weights kept (free_decision state).end decisions = subst (λ (s : State). Follow advert weights kept s decisions) (ap (λ (s : Decision). s.end) free.0) follow.1 in
-          let rest = followed advert weights kept decisions (free_decision state).end paths plan (grown_free advert kept state paths is kind.below free.1) next in
-          at_least advert weights kept state paths (decisions_weight decisions) (decisions_weight (decision ∷ decisions)) (omega (arith, total, ap (λ (s : Decision). s.weight) free.0)) (after_free advert weights kept state paths (decisions_weight decisions) rest)
-      | inr taken ↦
-          let path : Path = taken.path in
-          let End : State = (path_decision advert weights state path).end in
-          let next : Follow advert weights kept End decisions = subst (λ (s : State). Follow advert weights kept s decisions) (ap (λ (s : Decision). s.end) taken.is) follow.1 in
-          let rest = followed advert weights kept decisions End (paths ++ path ∷ []) plan (grown_path advert weights kept state paths path plan is taken.begins taken.can taken.unused) next in
-          at_least advert weights kept state paths (path_weight weights path + decisions_weight decisions) (decisions_weight (decision ∷ decisions)) (omega (arith, total, ap (λ (s : Decision). s.weight) taken.is)) (after_path advert weights kept state paths path (decisions_weight decisions) taken.begins rest)
+finished : (basis : Basis) (left : ℕ) (state : State) (taken : List Path) → IsAdmissible basis.advert basis.kept
+    → 8 ≤ state.boundary + left → Grown basis.advert basis.kept state taken → Fulfils basis state taken 0
+finished basis zero state taken plan upto is = ended basis state taken is (omega (arith, upto))
+finished basis (suc left) state taken plan upto is =
+    elim (cases_lt state.boundary 8) [
+      | inr past ↦ ended basis state taken is (omega (arith, past))
+      | inl below ↦
+          let one = one_can basis state taken is in
+          let next = made_grown basis state taken one.0 plan below is one.1 in
+          fulfils_before basis state taken one.0 0 0 one.1 (omega arith)
+          (finished basis left (decision_of basis state one.0).end (with_made taken one.0) plan (omega (arith, upto, made_past basis state one.0 one.1)) next)
     ]
+
+-- ---- by decisions that follow one another, and then so
+
+pub followed : (basis : Basis) (decisions : List Decision) (state : State) (taken : List Path) → IsAdmissible basis.advert basis.kept
+    → Grown basis.advert basis.kept state taken → Follow basis.advert basis.weights basis.kept state decisions
+    → Fulfils basis state taken (decisions_weight decisions)
+followed basis [] state taken plan is follow = finished basis 8 state taken plan (omega arith) is
+followed basis (decision ∷ decisions) state taken plan is follow =
+    let by = is_made basis state decision follow.0 in
+    let next = made_grown basis state taken by.made plan by.below is by.can in
+    let Next : Decision → Type 0 = λ d. Follow basis.advert basis.weights basis.kept d.end decisions in
+    let rest = followed basis decisions (decision_of basis state by.made).end (with_made taken by.made) plan next (subst Next by.is follow.1) in
+    let total = sum_by-cons (λ (d : Decision). d.weight) decision decisions in
+    fulfils_before basis state taken by.made (decisions_weight decisions) (decisions_weight (decision ∷ decisions)) by.can
+    (omega (arith, total, ap (λ (d : Decision). d.weight) by.is)) rest

@@ -1,9 +1,7 @@
-pub mod PathsFrom
 pub mod RankedChoices
 pub mod ToldStates
-pub mod FoundPaths
+mod MadeChoices
 mod GrownPlans
 mod WalkedStates
-mod LessSums
 mod FairChoices
-mod EachSum
+mod LessSums

@@ -3,31 +3,28 @@ use Rattle.std.proofs.Common.{◌≡◌, ◌==◌, ℕ, ◌+◌, Bool, true, fal
 use Rattle.std.specs.List.{flat_map}
 use Rattle.std.proofs.lemmas.List.Concat.{flat_map-append}
 use Rattle.text_lines.specs.Lines.{text_of}
-use Rattle.applications.specs.Advertised.{Advertised}
-use Rattle.applications.specs.AppWeights.{PathWeights}
 use Rattle.plan_certificate.specs.declared.path.Path.{Path}
 use Rattle.plan_certificate.specs.declared.state.State.{State}
-use Rattle.plan_drawing.specs.Walks.{next_state, states_on}
+use Rattle.plan_drawing.specs.Walks.{Basis, next_state, states_on}
 use Rattle.plan_drawing.specs.Why.{state_lines, told_on}
 
 -- where the plan decides on the lane, its lines come first
-pub told_here : (advert : Advertised) (weights : PathWeights) (kept : List Path) (table : List ℕ) (paths : List Path) (state : State) (lane : ℕ) (lanes : List ℕ) (before : List ℕ) → (state.boundary + 1 == lane) ≡ true
-    → before ++ text_of (told_on advert weights kept table paths state (lane ∷ lanes))
-    ≡ (before ++ text_of (state_lines advert weights kept table paths state)) ++ text_of (told_on advert weights kept table paths (next_state advert weights paths state) lanes)
+pub told_here : (basis : Basis) (paths : List Path) (state : State) (lane : ℕ) (lanes before : List ℕ) → (state.boundary + 1 == lane) ≡ true
+    → before ++ text_of (told_on basis paths state (lane ∷ lanes))
+    ≡ (before ++ text_of (state_lines basis paths state)) ++ text_of (told_on basis paths (next_state basis paths state) lanes)
 unfolding states_on
-told_here advert weights kept table paths state lane lanes before is =
-    let lines = state_lines advert weights kept table paths in
-    let next : State = next_state advert weights paths state in
-    let rest = states_on advert weights paths next lanes in
-    ap (λ (b : Bool). before ++ text_of (flat_map lines (cond b (state ∷ rest) (states_on advert weights paths state lanes)))) is
+told_here basis paths state lane lanes before is =
+    let lines = state_lines basis paths in
+    let rest = states_on basis paths (next_state basis paths state) lanes in
+    ap (λ (b : Bool). before ++ text_of (flat_map lines (cond b (state ∷ rest) (states_on basis paths state lanes)))) is
     ∙ ap (λ (t : List ℕ). before ++ t) (flat_map-append (λ (line : List ℕ). line ++ 10 ∷ []) (lines state) (flat_map lines rest))
     ∙ sym (append_assoc before (text_of (lines state)) (text_of (flat_map lines rest)))
 
 -- else none
-pub told_past : (advert : Advertised) (weights : PathWeights) (kept : List Path) (table : List ℕ) (paths : List Path) (state : State) (lane : ℕ) (lanes : List ℕ) (before : List ℕ) → (state.boundary + 1 == lane) ≡ false
-    → before ++ text_of (told_on advert weights kept table paths state (lane ∷ lanes)) ≡ before ++ text_of (told_on advert weights kept table paths state lanes)
+pub told_past : (basis : Basis) (paths : List Path) (state : State) (lane : ℕ) (lanes before : List ℕ) → (state.boundary + 1 == lane) ≡ false
+    → before ++ text_of (told_on basis paths state (lane ∷ lanes)) ≡ before ++ text_of (told_on basis paths state lanes)
 unfolding states_on
-told_past advert weights kept table paths state lane lanes before is =
-    let lines = state_lines advert weights kept table paths in
-    let rest = states_on advert weights paths (next_state advert weights paths state) lanes in
-    ap (λ (b : Bool). before ++ text_of (flat_map lines (cond b (state ∷ rest) (states_on advert weights paths state lanes)))) is
+told_past basis paths state lane lanes before is =
+    let lines = state_lines basis paths in
+    let rest = states_on basis paths (next_state basis paths state) lanes in
+    ap (λ (b : Bool). before ++ text_of (flat_map lines (cond b (state ∷ rest) (states_on basis paths state lanes)))) is

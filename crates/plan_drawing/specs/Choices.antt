@@ -3,36 +3,27 @@
 use Rattle.std.specs.Prelude.{ℕ, ◌+◌, ◌&&◌, ◌||◌, Bool, nat_lt, nat_le, if◌then◌else◌, List, [], ◌∷◌, ◌++◌, Option, Some, None, filter, find, flat_map, map}
 use Rattle.std.specs.List.{insert, list_all, position_or_len}
 use Rattle.applications.specs.declared.app.App.{App}
-use Rattle.applications.specs.Advertised.{Advertised}
-use Rattle.applications.specs.AppWeights.{PathWeights}
 use Rattle.plan_certificate.specs.declared.path.Path.{Path}
 use Rattle.plan_certificate.specs.declared.state.State.{State}
 use Rattle.plan_certificate.specs.Paths.{path_weight}
 use Rattle.plan_certificate.specs.KeptPaths.{is_among, may_stay_free}
-use Rattle.plan_certificate.specs.States.{fits, free_decision, path_decision, paths_of_app}
+use Rattle.plan_certificate.specs.States.{fits, paths_of_app}
 use Rattle.lane_planner.specs.Tables.{gain_at}
-use Rattle.plan_drawing.specs.declared.choice.Choice.{Choice}
+use Rattle.plan_drawing.specs.declared.choices.Choice.{Choice}
+use Rattle.plan_drawing.specs.Walks.{Basis, decision_of}
 
 -- the path fits, and weighs something or is kept
-abbrev pub is_worth : Advertised → PathWeights → List Path → State → Path → Bool
-is_worth advert weights kept state path =
-    fits advert kept state path && (nat_lt 0 (path_weight weights path) || is_among kept path)
+abbrev pub is_worth : Basis → State → Path → Bool
+is_worth basis state path =
+    fits basis.advert basis.kept state path && (nat_lt 0 (path_weight basis.weights path) || is_among basis.kept path)
 
--- its weight, and what can be gained after it
-abbrev pub path_choice : Advertised → PathWeights → List ℕ → State → Path → Choice
-path_choice advert weights table state path = record {
-  path = Some path;
-  weight = path_weight weights path;
-  rest = gain_at table (path_decision advert weights state path).end;
-  sum = path_weight weights path + gain_at table (path_decision advert weights state path).end;
-}
-
-abbrev pub free_choice : List ℕ → State → Choice
-free_choice table state = record {
-  path = None;
-  weight = 0;
-  rest = gain_at table (free_decision state).end;
-  sum = gain_at table (free_decision state).end;
+-- what the decision weighs, and what can be gained after it
+abbrev pub choice_of : Basis → State → Option Path → Choice
+choice_of basis state path = record {
+  path = path;
+  weight = (decision_of basis state path).weight;
+  rest = gain_at basis.table (decision_of basis state path).end;
+  sum = (decision_of basis state path).weight + gain_at basis.table (decision_of basis state path).end;
 }
 
 -- none of the choices has a greater sum
@@ -43,39 +34,34 @@ is_greatest choices choice = list_all (λ (other : Choice). nat_le other.sum cho
 abbrev pub greatest : List Choice → Option Choice
 greatest choices = find (is_greatest choices) choices
 
--- those of these paths that are worth it
-abbrev pub worth_choices : Advertised → PathWeights → List Path → List ℕ → State → List Path → List Choice
-worth_choices advert weights kept table state paths =
-    map (path_choice advert weights table state) (filter (is_worth advert weights kept state) paths)
+abbrev pub path_on : ℕ → ℕ → ℕ → Path
+path_on host app media = record { app = app; host = host; media = media }
 
--- of an Application's paths, by rising media lane
-unfoldable pub app_choices : Advertised → PathWeights → List Path → List ℕ → State → App → List Choice
-app_choices advert weights kept table state app =
-    worth_choices advert weights kept table state (paths_of_app (state.boundary + 1) app.number)
+-- those of these paths that are worth it
+unfoldable pub worth_choices : Basis → State → List Path → List Choice
+worth_choices basis state paths = map (λ path. choice_of basis state (Some path)) (filter (is_worth basis state) paths)
 
 abbrev pub listed : Option Choice → List Choice
 listed (Some choice) = choice ∷ []
 listed None = []
 
--- an Application's path on its best media lane, if it has one
-abbrev pub best_of_app : Advertised → PathWeights → List Path → List ℕ → State → App → Option Choice
-best_of_app advert weights kept table state app = greatest (app_choices advert weights kept table state app)
+-- an Application's path on its best media lane, if it has one; of equal ones the lowest
+abbrev pub best_of_app : Basis → State → App → Option Choice
+best_of_app basis state app = greatest (worth_choices basis state (paths_of_app (state.boundary + 1) app.number))
 
-abbrev pub free_if_may : Bool → List ℕ → State → Option Choice
-free_if_may may table state = if may then Some (free_choice table state) else None
+-- the free lane, if it may stay free
+abbrev pub free_if_may : Basis → State → Option Choice
+free_if_may basis state =
+    if may_stay_free basis.advert basis.kept (state.boundary + 1) then Some (choice_of basis state None) else None
 
 -- the best media lane of each Application, and the free lane if it may stay free
-abbrev pub choices_in : Advertised → PathWeights → List Path → List ℕ → State → List Choice
-choices_in advert weights kept table state =
-    flat_map (λ app. listed (best_of_app advert weights kept table state app)) advert.apps
-    ++ listed (free_if_may (may_stay_free advert kept (state.boundary + 1)) table state)
-
-abbrev pub is_smaller : ℕ → Choice → Bool
-is_smaller sum other = nat_lt other.sum sum
+abbrev pub choices_in : Basis → State → List Choice
+choices_in basis state =
+    flat_map (λ app. listed (best_of_app basis state app)) basis.advert.apps ++ listed (free_if_may basis state)
 
 -- where the first is whose sum is smaller, or else the end
 abbrev pub first_smaller : List Choice → ℕ → ℕ
-first_smaller choices sum = position_or_len (is_smaller sum) choices
+first_smaller choices sum = position_or_len (λ (other : Choice). nat_lt other.sum sum) choices
 
 -- among others before the first whose sum is smaller
 unfoldable pub placed : Choice → List Choice → List Choice

@@ -11,26 +11,20 @@ use Rattle.plan_reports.specs.PlanText.{plan_lines}
 use Rattle.plan_drawing.specs.Picture.{picture_lines}
 use Rattle.plan_drawing.specs.Svg.{svg_lines}
 use Rattle.plan_drawing.specs.UsedApps.{app_lines}
+use Rattle.plan_drawing.specs.Walks.{Basis}
 use Rattle.plan_drawing.specs.Why.{why_lines}
 
--- what is told besides the picture, of a plan, by the gains of the states
-abbrev pub told_lines : ℕ → Advertised → PathWeights → List Path → List ℕ → List Path → List (List ℕ)
-told_lines media_type advert weights kept table paths =
-    app_lines media_type paths advert.apps ++ [] ∷ why_lines advert weights kept table paths
+-- what is told besides the picture, of a plan
+abbrev pub told_lines : ℕ → Basis → List Path → List (List ℕ)
+told_lines media_type basis paths = app_lines media_type paths basis.advert.apps ++ [] ∷ why_lines basis paths
 
-abbrev pub drawing_lines : ℕ → Advertised → PathWeights → List Path → List ℕ → List Path → List (List ℕ)
-drawing_lines media_type advert weights kept table paths =
-    plan_lines advert weights paths ++ [] ∷ picture_lines advert kept paths ++ told_lines media_type advert weights kept table paths
-
--- the same with an SVG in place of the picture
-abbrev pub drawing_svg : ℕ → Advertised → PathWeights → List Path → List ℕ → List Path → List (List ℕ)
-drawing_svg media_type advert weights kept table paths =
-    svg_lines advert kept paths (text_of (plan_lines advert weights paths ++ told_lines media_type advert weights kept table paths))
-
--- one of both
-abbrev pub lines_as : Bool → ℕ → Advertised → PathWeights → List Path → List ℕ → List Path → List (List ℕ)
-lines_as false = drawing_lines
-lines_as true = drawing_svg
+-- the plan and what is told, with its picture between them, or as an SVG
+abbrev pub lines_as : Bool → ℕ → Basis → List Path → List (List ℕ)
+lines_as false media_type basis paths =
+    plan_lines basis.advert basis.weights paths ++ [] ∷ picture_lines basis.advert basis.kept paths ++ told_lines media_type basis paths
+lines_as true media_type basis paths =
+    svg_lines basis.advert basis.kept paths
+    (text_of (plan_lines basis.advert basis.weights paths ++ told_lines media_type basis paths))
 
 -- the drawing of the first of the best plans with the kept paths, whose paths stand by rising host lane, by what can be gained from each
 -- state that decisions from the start reach; and whether the plan has a path
@@ -41,5 +35,5 @@ pub record IsDrawing (as_svg : Bool) (media_type : ℕ) (advert : Advertised) (w
   pub first : IsFirstBest advert weights kept paths
   pub rising : AllPairs (λ path later. path.host < later.host) paths
   pub gains : HasGains advert weights kept 0 table
-  pub drawn : text ≡ text_of (lines_as as_svg media_type advert weights kept table paths)
+  pub drawn : text ≡ text_of (lines_as as_svg media_type (record { advert = advert; weights = weights; kept = kept; table = table }) paths)
   pub some : has_paths ≡ nat_lt 0 (length paths)

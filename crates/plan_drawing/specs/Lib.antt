@@ -1,8 +1,8 @@
 pub mod Owners
 pub mod Picture
 pub mod UsedApps
-pub mod Choices
 pub mod Walks
+pub mod Choices
 pub mod Why
 pub mod Alternatives
 pub mod Svg

@@ -6,8 +6,8 @@ use Rattle.field_tables.specs.LaneSets.{Lanes}
 use Rattle.applications.specs.Advertised.{Advertised}
 use Rattle.plan_certificate.specs.declared.path.Path.{Path}
 use Rattle.plan_certificate.specs.Paths.{host_lanes, media_lanes}
-use Rattle.plan_drawing.specs.declared.side.Side.{Side}
-use Rattle.plan_drawing.specs.declared.side.Side.TheVariants.{Host, Media}
+use Rattle.plan_drawing.specs.declared.owners.Side.{Side}
+use Rattle.plan_drawing.specs.declared.owners.Side.TheVariants.{Host, Media}
 
 -- the lanes of a path
 abbrev pub lanes_on : Side → Advertised → Path → Lanes

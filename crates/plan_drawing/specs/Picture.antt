@@ -8,7 +8,8 @@ use Rattle.applications.specs.Advertised.{Advertised}
 use Rattle.plan_certificate.specs.declared.path.Path.{Path}
 use Rattle.plan_certificate.specs.KeptPaths.{is_among}
 use Rattle.control_sets.specs.ControlBytes.{control_bytes}
-use Rattle.plan_drawing.specs.declared.side.Side.TheVariants.{Host, Media}
+use Rattle.plan_drawing.specs.declared.owners.Side.{Side}
+use Rattle.plan_drawing.specs.declared.owners.Side.TheVariants.{Host, Media}
 use Rattle.plan_drawing.specs.declared.row.Row.{Row}
 use Rattle.plan_drawing.specs.declared.row.Row.TheVariants.{Frame, Names, Control}
 use Rattle.plan_drawing.specs.Owners.{lanes_on, owners}
@@ -39,13 +40,11 @@ inside Names labels control index before owner =
 inside Control labels control index before owner =
     if owner == 0 then codes "       " else 32 ∷ encode_lower (unwrap_or (slice_get control index) 0 ∷ []) ++ codes "    "
 
-unfoldable pub cell : Row → List (List ℕ) → List ℕ → ℕ → ℕ → ℕ → List ℕ
-cell row labels control index before owner = edge row before owner ∷ inside row labels control index before owner
-
 -- the lanes from an index on, and the last edge
 unfoldable pub cells : Row → List (List ℕ) → List ℕ → ℕ → ℕ → List ℕ → List ℕ
 cells row labels control index before [] = edge row before 0 ∷ []
-cells row labels control index before (owner ∷ more) = cell row labels control index before owner ++ cells row labels control (index + 1) owner more
+cells row labels control index before (owner ∷ more) =
+    (edge row before owner ∷ inside row labels control index before owner) ++ cells row labels control (index + 1) owner more
 
 -- as wide as what names the lanes
 abbrev pub margin : List ℕ
@@ -58,33 +57,23 @@ trimmed line = take (length line - suffix_len is_ascii_whitespace line) line
 unfoldable pub row_line : Row → List (List ℕ) → List ℕ → List ℕ → List ℕ
 row_line row labels control lanes = trimmed (margin ++ cells row labels control 0 0 lanes)
 
--- ---- the rows of both sides
+-- ---- both sides
 
-unfoldable pub host_numbers : List ℕ
-host_numbers = codes "host lanes        1       2       3       4       5       6       7       8"
+-- what the lanes are called, and their numbers
+unfoldable pub numbers_of : Side → List ℕ
+numbers_of Host = codes "host lanes " ++ codes "       1       2       3       4       5       6       7       8"
+numbers_of Media = codes "media lanes" ++ codes "       1       2       3       4       5       6       7       8"
 
-unfoldable pub media_numbers : List ℕ
-media_numbers = codes "media lanes       1       2       3       4       5       6       7       8"
+-- control bytes are those of host lanes
+abbrev pub rows_of : Side → List Row
+rows_of Host = Frame ∷ Names ∷ Control ∷ Frame ∷ []
+rows_of Media = Frame ∷ Names ∷ Frame ∷ []
 
-unfoldable pub host_rows : List (List ℕ) → List ℕ → List ℕ → List (List ℕ)
-host_rows labels control lanes =
-    host_numbers
-    ∷ row_line Frame labels control lanes
-    ∷ row_line Names labels control lanes
-    ∷ row_line Control labels control lanes
-    ∷ row_line Frame labels control lanes
-    ∷ []
-
-unfoldable pub media_rows : List (List ℕ) → List ℕ → List ℕ → List (List ℕ)
-media_rows labels control lanes =
-    media_numbers
-    ∷ row_line Frame labels control lanes
-    ∷ row_line Names labels control lanes
-    ∷ row_line Frame labels control lanes
-    ∷ []
+unfoldable pub side_lines : Side → List (List ℕ) → List ℕ → List ℕ → List (List ℕ)
+side_lines side labels control lanes = numbers_of side ∷ map (λ row. row_line row labels control lanes) (rows_of side)
 
 -- the picture of a plan with these kept paths
 abbrev pub picture_lines : Advertised → List Path → List Path → List (List ℕ)
 picture_lines advert kept paths =
-    host_rows (labels_of kept paths) (control_bytes advert paths) (owners (lanes_on Host advert) paths)
-    ++ media_rows (labels_of kept paths) (control_bytes advert paths) (owners (lanes_on Media advert) paths)
+    side_lines Host (labels_of kept paths) (control_bytes advert paths) (owners (lanes_on Host advert) paths)
+    ++ side_lines Media (labels_of kept paths) (control_bytes advert paths) (owners (lanes_on Media advert) paths)

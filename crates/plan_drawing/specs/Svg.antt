@@ -30,9 +30,8 @@ escaped byte =
 unfoldable pub attribute : List ℕ → ℕ → List ℕ
 attribute name value = 32 ∷ name ++ codes "=\"" ++ decimal value ++ codes "\""
 
--- the class of a path by its number, which gives its color: its letter
-abbrev pub class_of : ℕ → List ℕ
-class_of number = codes " class=\"" ++ (64 + number) ∷ codes "\""
+unfoldable pub class_attribute : List ℕ → List ℕ
+class_attribute class = codes " class=\"" ++ class ++ codes "\""
 
 unfoldable pub text_at : ℕ → ℕ → List ℕ → List ℕ
 text_at x y content = codes "<text" ++ attribute (codes "x") x ++ attribute (codes "y") y ++ codes ">" ++ content ++ codes "</text>"
@@ -45,50 +44,49 @@ left_of lane = 20 + 80 * lane
 
 unfoldable pub rectangle : List ℕ → ℕ → ℕ → ℕ → ℕ → List ℕ
 rectangle class x y width height =
-    codes "<rect" ++ class ++ attribute (codes "x") x ++ attribute (codes "y") y ++ attribute (codes "width") width ++ attribute (codes "height") height ++ codes "/>"
+    codes "<rect" ++ class_attribute class
+    ++ attribute (codes "x") x ++ attribute (codes "y") y ++ attribute (codes "width") width ++ attribute (codes "height") height
+    ++ codes "/>"
 
--- ---- what is drawn
-
-unfoldable pub lane_class : List ℕ
-lane_class = codes " class=\"lane\""
-
--- the two boxes of a lane, and its numbers above and below them
-unfoldable pub lane_elements : ℕ → List ℕ
-lane_elements lane =
-    rectangle lane_class (left_of lane) 30 80 60
-    ++ rectangle lane_class (left_of lane) 190 80 40
-    ++ text_at (left_of lane + 36) 22 (decimal lane)
-    ++ text_at (left_of lane + 36) 248 (decimal lane)
-
-unfoldable pub point : ℕ → ℕ → List ℕ
-point x y = decimal x ++ codes "," ++ decimal y
+-- a point, and the character after it
+unfoldable pub point : ℕ → ℕ → ℕ → List ℕ
+point x y end = decimal x ++ codes "," ++ decimal y ++ end ∷ []
 
 unfoldable pub points_begin : List ℕ
 points_begin = codes " opacity=\"0.4\" points=\""
 
 unfoldable pub points : ℕ → ℕ → ℕ → ℕ → List ℕ
 points host host_end media media_end =
-    point host 90 ++ codes " " ++ point host_end 90 ++ codes " " ++ point media_end 190 ++ codes " " ++ point media 190
+    point host 90 32 ++ point host_end 90 32 ++ point media_end 190 32 ++ point media 190 34
 
 -- the band from a path's host lanes to its media lanes
-unfoldable pub band : ℕ → ℕ → ℕ → ℕ → ℕ → List ℕ
-band number host host_end media media_end =
-    codes "<polygon" ++ class_of number ++ points_begin ++ points host host_end media media_end ++ codes "\"/>"
+unfoldable pub band : List ℕ → ℕ → ℕ → ℕ → ℕ → List ℕ
+band class host host_end media media_end =
+    codes "<polygon" ++ class_attribute class ++ points_begin ++ points host host_end media media_end ++ codes "/>"
 
--- its boxes, and its label in both
-unfoldable pub path_boxes : List ℕ → ℕ → ℕ → ℕ → ℕ → ℕ → List ℕ
-path_boxes label number host host_width media media_width =
-    rectangle (class_of number) host 30 host_width 60
-    ++ rectangle (class_of number) media 190 media_width 40
+-- ---- what is drawn
+
+-- the two boxes of a lane, and its numbers above and below them
+unfoldable pub lane_elements : ℕ → List ℕ
+lane_elements lane =
+    rectangle (codes "lane") (left_of lane) 30 80 60
+    ++ rectangle (codes "lane") (left_of lane) 190 80 40
+    ++ text_at (left_of lane + 36) 22 (decimal lane)
+    ++ text_at (left_of lane + 36) 248 (decimal lane)
+
+-- the band of a path, its boxes, and its label in both
+unfoldable pub path_shapes : List ℕ → List ℕ → ℕ → ℕ → ℕ → ℕ → List ℕ
+path_shapes class label host host_width media media_width =
+    band class host (host + host_width) media (media + media_width)
+    ++ rectangle class host 30 host_width 60
+    ++ rectangle class media 190 media_width 40
     ++ text_at (host + 8) 54 label
     ++ text_at (media + 8) 215 label
 
+-- its class gives its color: its letter, as in its label
 unfoldable pub path_elements : Advertised → List Path → ℕ × Path → List ℕ
 path_elements advert kept (number, path) =
-    band number
-    (left_of path.host) (left_of path.host + 80 * (app_of advert path).host_lanes)
-    (left_of path.media) (left_of path.media + 80 * (app_of advert path).media_lanes)
-    ++ path_boxes (label_of kept (number, path)) number
+    path_shapes ((64 + number) ∷ []) (label_of kept (number, path))
     (left_of path.host) (80 * (app_of advert path).host_lanes)
     (left_of path.media) (80 * (app_of advert path).media_lanes)
 

@@ -3,16 +3,14 @@
 use Rattle.std.specs.Prelude.{ℕ, ◌+◌, ◌-◌, ◌==◌, Bool, true, false, not, if◌then◌else◌, List, ◌∷◌, ◌++◌, Option, Some, None, codes, flat_map, length, map, replicate}
 use Rattle.std.specs.List.{list_any, range_with_len}
 use Rattle.std.specs.Fmt.{decimal}
-use Rattle.applications.specs.Advertised.{Advertised}
-use Rattle.applications.specs.AppWeights.{PathWeights}
 use Rattle.plan_certificate.specs.declared.path.Path.{Path}
 use Rattle.plan_certificate.specs.declared.state.State.{State}
 use Rattle.plan_certificate.specs.KeptPaths.{is_among}
 use Rattle.plan_certificate.specs.States.{start}
 use Rattle.lane_planner.specs.Tables.{gain_at}
-use Rattle.plan_drawing.specs.declared.choice.Choice.{Choice}
+use Rattle.plan_drawing.specs.declared.choices.Choice.{Choice}
 use Rattle.plan_drawing.specs.Choices.{choices_in, ranked}
-use Rattle.plan_drawing.specs.Walks.{begins_at, states_on}
+use Rattle.plan_drawing.specs.Walks.{Basis, begins_at, states_on}
 
 abbrev pub blanks : ℕ → List ℕ
 blanks count = replicate count 32
@@ -55,16 +53,15 @@ unfoldable pub lane_line : ℕ → ℕ → List ℕ
 lane_line lane gain = codes "host lane " ++ decimal lane ++ codes ", " ++ decimal gain ++ codes " to gain"
 
 -- of a state: the next host lane, what can still be gained, and the choices
-unfoldable pub state_lines : Advertised → PathWeights → List Path → List ℕ → List Path → State → List (List ℕ)
-state_lines advert weights kept table paths state =
-    lane_line (state.boundary + 1) (gain_at table state)
-    ∷ map (choice_line paths (state.boundary + 1) (gain_at table state)) (ranked (choices_in advert weights kept table state))
+unfoldable pub state_lines : Basis → List Path → State → List (List ℕ)
+state_lines basis paths state =
+    lane_line (state.boundary + 1) (gain_at basis.table state)
+    ∷ map (choice_line paths (state.boundary + 1) (gain_at basis.table state)) (ranked (choices_in basis state))
 
 -- of the states in which the plan decides on these host lanes
-abbrev pub told_on : Advertised → PathWeights → List Path → List ℕ → List Path → State → List ℕ → List (List ℕ)
-told_on advert weights kept table paths state lanes =
-    flat_map (state_lines advert weights kept table paths) (states_on advert weights paths state lanes)
+abbrev pub told_on : Basis → List Path → State → List ℕ → List (List ℕ)
+told_on basis paths state lanes = flat_map (state_lines basis paths) (states_on basis paths state lanes)
 
 -- from the start on
-abbrev pub why_lines : Advertised → PathWeights → List Path → List ℕ → List Path → List (List ℕ)
-why_lines advert weights kept table paths = told_on advert weights kept table paths start (range_with_len 1 8)
+abbrev pub why_lines : Basis → List Path → List (List ℕ)
+why_lines basis paths = told_on basis paths start (range_with_len 1 8)

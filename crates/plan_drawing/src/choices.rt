@@ -1,41 +1,47 @@
 // The choices in a state.
-ghost use Rattle.std.specs.Prelude.{◌≡◌, ◌+◌, ◌≤◌, ◌<◌, ◌++◌, ◌∷◌, [], length, true};
+ghost use Rattle.std.specs.Prelude.{◌≡◌, ◌+◌, ◌≤◌, ◌<◌, [], length, map, true, IfSome};
 ghost use Rattle.plan_certificate.specs.Paths.{is_allowed};
 ghost use Rattle.plan_certificate.specs.Plans.{AreAllowed};
-ghost use Rattle.plan_certificate.specs.KeptPaths as kept_spec;
 ghost use Rattle.plan_certificate.specs.States.{fits};
 ghost use Rattle.lane_planner.specs.Tables.{IsTable};
 ghost use Rattle.plan_drawing.specs.Choices as spec;
+ghost use Rattle.plan_drawing.specs.Walks.{basis_of, decision_of};
 
-use crate::choice::Choice;
-use applications::{Advert, App, AppWeights};
+use applications::App;
 use arrayvec::ArrayVec;
-use lane_planner::Table;
-use plan_certificate::{Path, State, is_among, is_eligible_as, may_stay_free};
+use field_tables::LaneNumber;
+use lane_planner::{Problem, Table};
+use plan_certificate::{Decision, Path, State, is_among, is_eligible_as, may_stay_free};
 
 /// How many choices there are at most: one for each Application, and the free lane.
 pub const MAX_CHOICES: usize = 16;
 
+/// What can be done at a host lane, with what it weighs in the end.
+#[derive(Clone, Copy, Debug, PartialEq, Eq, Default)]
+pub struct Choice {
+    /// The path that begins there; if none does, the lane stays free.
+    pub path: Option<Path>,
+    /// What the path weighs.
+    pub weight: u64,
+    /// What can still be gained after it.
+    pub rest: u64,
+    /// Both together.
+    pub sum: u64,
+}
+
 /// The best media lane of each Application, and the free lane, by falling sums.
 #[tactic(auto, using(crate::proofs::RankedChoices::ranked_append))]
-pub fn choices_in(
-    advert: &Advert,
-    weights: &AppWeights,
-    kept: &[Path],
-    gains: &Table,
-    state: &State,
-) -> ArrayVec<Choice, MAX_CHOICES>
-    requires kept { AreAllowed advert.now kept.now }
+pub fn choices_in(problem: &Problem, gains: &Table, state: &State) -> ArrayVec<Choice, MAX_CHOICES>
+    requires kept { AreAllowed problem.now.advert.now problem.now.kept.now }
     requires gains { IsTable gains.now }
     requires open { state.now.boundary < 8 }
-    ensures { result.items ≡ spec.ranked (spec.choices_in advert.now weights.now kept.now gains.now state.now) }
+    ensures { result.items ≡ spec.ranked (spec.choices_in (basis_of problem.now gains.now) state.now) }
 {
     let mut choices = ArrayVec::new();
-    for app in advert.apps() {
-        let best = best_of_app(advert, weights, kept, gains, state, app);
-        place_if_some(&mut choices, best);
+    for app in problem.advert.apps() {
+        place_if_some(&mut choices, best_of_app(problem, gains, state, app));
     }
-    place_if_some(&mut choices, free_if_may(advert, kept, gains, state));
+    place_if_some(&mut choices, free_if_may(problem, gains, state));
     choices
 }
 
@@ -90,139 +96,115 @@ fn is_greatest(choices: &[Choice], choice: &Choice) -> bool
     choices.iter().all(|other| other.sum <= choice.sum)
 }
 
-// An Application's path on its best media lane, if it has one.
-fn best_of_app(
-    advert: &Advert,
-    weights: &AppWeights,
-    kept: &[Path],
-    gains: &Table,
-    state: &State,
-    app: &App,
-) -> Option<Choice>
-    requires kept { AreAllowed advert.now kept.now }
+// An Application's path on its best media lane, if it has one; of equal ones the lowest.
+fn best_of_app(problem: &Problem, gains: &Table, state: &State, app: &App) -> Option<Choice>
+    requires kept { AreAllowed problem.now.advert.now problem.now.kept.now }
     requires gains { IsTable gains.now }
     requires open { state.now.boundary < 8 }
-    ensures { result ≡ spec.best_of_app advert.now weights.now kept.now gains.now state.now app.now }
+    ensures { result ≡ spec.best_of_app (basis_of problem.now gains.now) state.now app.now }
 {
-    let choices = app_choices(advert, weights, kept, gains, state, app);
+    let choices = worth_choices(problem, gains, state, app, &LaneNumber::all());
     greatest(choices.as_slice())
 }
 
-// The choices of an Application that are worth it, by rising media lane.
-#[tactic(auto, unfolding(crate::specs::Choices::app_choices))]
-fn app_choices(
-    advert: &Advert,
-    weights: &AppWeights,
-    kept: &[Path],
+// The choices of an Application that are worth it, on these media lanes.
+#[tactic(auto, unfolding(crate::specs::Choices::worth_choices))]
+fn worth_choices(
+    problem: &Problem,
     gains: &Table,
     state: &State,
     app: &App,
+    lanes: &[LaneNumber],
 ) -> ArrayVec<Choice, 8>
-    requires kept { AreAllowed advert.now kept.now }
+    requires kept { AreAllowed problem.now.advert.now problem.now.kept.now }
     requires gains { IsTable gains.now }
     requires open { state.now.boundary < 8 }
-    ensures { result.items ≡ spec.app_choices advert.now weights.now kept.now gains.now state.now app.now }
+    requires few { length lanes.now ≤ 8 }
+    ensures { result.items ≡ spec.worth_choices (basis_of problem.now gains.now) state.now (map (spec.path_on (state.now.boundary + 1) app.now.number) lanes.now) }
 {
     let mut choices = ArrayVec::new();
-    for media in 1..9 {
+    for lane in lanes {
         let path = Path {
             app: app.number,
             host: state.boundary + 1,
-            media,
+            media: lane.number(),
         };
-        push_if_worth(&mut choices, advert, weights, kept, gains, state, path);
+        if is_worth(problem, state, path) {
+            choices.push(choice_of(problem, gains, state, Some(path)));
+        }
     }
     choices
 }
 
-fn push_if_worth(
-    choices: &mut ArrayVec<Choice, 8>,
-    advert: &Advert,
-    weights: &AppWeights,
-    kept: &[Path],
-    gains: &Table,
-    state: &State,
-    path: Path,
-)
-    requires kept { AreAllowed advert.now kept.now }
+// Whether the path fits, and weighs something or is kept.
+fn is_worth(problem: &Problem, state: &State, path: Path) -> bool
+    requires { AreAllowed problem.now.advert.now problem.now.kept.now }
+    ensures { result ≡ spec.is_worth (basis_of problem.now []) state.now path }
+{
+    let kept = problem.kept;
+    let kept = kept.paths.as_slice();
+    fits(problem, kept, state, path) && (path.weight(problem.weights) > 0 || is_among(kept, path))
+}
+
+fn fits(problem: &Problem, kept: &[Path], state: &State, path: Path) -> bool
+    requires { AreAllowed problem.now.advert.now kept.now }
+    ensures { result ≡ fits problem.now.advert.now kept.now state.now path }
+{
+    let app = path.application(problem.advert);
+    is_eligible_as(problem.advert, kept, &app, path.may_begin(&app), path)
+        && path.media_lanes(problem.advert).is_disjoint(state.used)
+}
+
+fn choice_of(problem: &Problem, gains: &Table, state: &State, path: Option<Path>) -> Choice
     requires gains { IsTable gains.now }
     requires open { state.now.boundary < 8 }
-    requires begins { path.host ≡ state.now.boundary + 1 }
-    requires room { length choices.old.items < 8 }
-    ensures pushed { choices.new.items ≡ choices.old.items ++ spec.worth_choices advert.now weights.now kept.now gains.now state.now (path ∷ []) }
-    ensures few { length choices.new.items ≤ length choices.old.items + 1 }
+    requires allowed { IfSome path (λ path. is_allowed problem.now.advert.now path ≡ true) }
+    requires begins { IfSome path (λ path. path.host ≡ state.now.boundary + 1) }
+    ensures { result ≡ spec.choice_of (basis_of problem.now gains.now) state.now path }
 {
-    if is_worth(advert, weights, kept, state, path) {
-        choices.push(path_choice(advert, weights, gains, state, path));
+    let decision = decision_of(problem, state, path);
+    let rest = gains.of(&decision.end);
+    Choice {
+        path,
+        weight: decision.weight,
+        rest,
+        sum: decision.weight + rest,
     }
 }
 
-// Whether the path fits, and weighs something or is kept.
-fn is_worth(advert: &Advert, weights: &AppWeights, kept: &[Path], state: &State, path: Path) -> bool
-    requires { AreAllowed advert.now kept.now }
-    ensures { result ≡ spec.is_worth advert.now weights.now kept.now state.now path }
-{
-    fits(advert, kept, state, path) && (path.weight(weights) > 0 || is_among(kept, path))
-}
-
-fn fits(advert: &Advert, kept: &[Path], state: &State, path: Path) -> bool
-    requires { AreAllowed advert.now kept.now }
-    ensures { result ≡ fits advert.now kept.now state.now path }
-{
-    let app = path.application(advert);
-    is_eligible_as(advert, kept, &app, path.may_begin(&app), path)
-        && path.media_lanes(advert).is_disjoint(state.used)
-}
-
+/// The decision of the path that begins in a state, or of the free lane.
 #[tactic(auto, unfolding(plan_certificate::specs::Paths::is_allowed))]
-fn path_choice(
-    advert: &Advert,
-    weights: &AppWeights,
-    gains: &Table,
-    state: &State,
-    path: Path,
-) -> Choice
-    requires gains { IsTable gains.now }
-    requires begins { path.host ≡ state.now.boundary + 1 }
-    requires allowed { is_allowed advert.now path ≡ true }
-    ensures { result ≡ spec.path_choice advert.now weights.now gains.now state.now path }
+pub fn decision_of(problem: &Problem, state: &State, path: Option<Path>) -> Decision
+    requires open { state.now.boundary < 8 }
+    requires allowed { IfSome path (λ path. is_allowed problem.now.advert.now path ≡ true) }
+    requires begins { IfSome path (λ path. path.host ≡ state.now.boundary + 1) }
+    ensures decision { result ≡ decision_of (basis_of problem.now []) state.now path }
+    ensures small { result.weight ≤ 17179869180 }
+    ensures within { result.end.boundary ≤ 8 }
 {
-    let weight = path.weight(weights);
-    let end = State {
-        boundary: state.boundary + path.application(advert).host_lanes,
-        used: state.used.union(path.media_lanes(advert)),
-    };
-    let rest = gains.of(&end);
-    Choice {
-        path: Some(path),
-        weight,
-        rest,
-        sum: weight + rest,
+    match path {
+        Some(path) => Decision {
+            weight: path.weight(problem.weights),
+            end: State {
+                boundary: state.boundary + path.application(problem.advert).host_lanes,
+                used: state.used.union(path.media_lanes(problem.advert)),
+            },
+        },
+        None => state.free_decision(),
     }
 }
 
 // The free lane, if it may stay free.
-fn free_if_may(advert: &Advert, kept: &[Path], gains: &Table, state: &State) -> Option<Choice>
-    requires kept { AreAllowed advert.now kept.now }
+fn free_if_may(problem: &Problem, gains: &Table, state: &State) -> Option<Choice>
+    requires kept { AreAllowed problem.now.advert.now problem.now.kept.now }
+    requires gains { IsTable gains.now }
     requires open { state.now.boundary < 8 }
-    ensures { result ≡ spec.free_if_may (kept_spec.may_stay_free advert.now kept.now (state.now.boundary + 1)) gains.now state.now }
+    ensures { result ≡ spec.free_if_may (basis_of problem.now gains.now) state.now }
 {
-    if may_stay_free(advert, kept, state.boundary + 1) {
-        Some(free_choice(gains, state))
+    let kept = problem.kept;
+    if may_stay_free(problem.advert, kept.paths.as_slice(), state.boundary + 1) {
+        Some(choice_of(problem, gains, state, None))
     } else {
         None
-    }
-}
-
-fn free_choice(gains: &Table, state: &State) -> Choice
-    requires open { state.now.boundary < 8 }
-    ensures { result ≡ spec.free_choice gains.now state.now }
-{
-    let rest = gains.of(&state.free_decision().end);
-    Choice {
-        path: None,
-        weight: 0,
-        rest,
-        sum: rest,
     }
 }

@@ -33,6 +33,7 @@ pub fn push_left(out: &mut Vec<u8>, width: usize, text: &[u8]) -> Result<(), All
     push_blanks(out, width.saturating_sub(text.len()))
 }
 
+#[tactic(auto, using(std::proofs::lemmas::List::replicate_more))]
 fn push_blanks(out: &mut Vec<u8>, count: usize) -> Result<(), AllocError>
     ensures { OnOk result (out.new.items ≡ out.old.items ++ blanks count) }
 {

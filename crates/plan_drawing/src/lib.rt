@@ -1,7 +1,6 @@
 //! The drawing of a plan: a picture of its lanes, the Applications that it uses, and why no plan weighs more.
 #![tactic(auto)]
 
-mod choice;
 mod choices;
 mod columns;
 mod drawn;
@@ -10,7 +9,6 @@ pub mod laws;
 mod owners;
 mod picture;
 mod row;
-mod side;
 mod svg;
 mod used_apps;
 mod why;

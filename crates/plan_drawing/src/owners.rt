@@ -4,10 +4,17 @@ ghost use Rattle.plan_certificate.specs.Paths.{is_allowed};
 ghost use Rattle.plan_certificate.specs.Plans.{AreAllowed};
 ghost use Rattle.plan_drawing.specs.Owners.{lanes_on, owner_from, owners};
 
-use crate::side::Side;
 use applications::Advert;
 use field_tables::LaneSet;
 use plan_certificate::Path;
+use std::array;
+
+/// A side of the module.
+#[derive(Clone, Copy, Debug, PartialEq, Eq)]
+pub enum Side {
+    Host,
+    Media,
+}
 
 /// The numbers of the paths that take lanes 1 to 8 of a side, 0 for a lane that none takes.
 #[tactic(auto, unfolding(crate::specs::Owners::owners))]
@@ -16,11 +23,7 @@ pub fn owners(advert: &Advert, side: Side, paths: &[Path]) -> [u8; 8]
     requires few { length paths.now ≤ 8 }
     ensures { result ≡ owners (lanes_on side advert.now) paths.now }
 {
-    let mut owners = [0; 8];
-    for (index, owner) in owners.iter_mut().enumerate() {
-        *owner = owner_of(advert, side, paths, index as u8 + 1);
-    }
-    owners
+    array::from_fn(|index| owner_of(advert, side, paths, index as u8 + 1))
 }
 
 #[tactic(auto, unfolding(crate::specs::Owners::owner_from))]

@@ -2,86 +2,69 @@
 ghost use Rattle.std.specs.Prelude.{◌≡◌, ◌++◌, ◌∷◌, [], ◌≤◌, length, OnOk};
 ghost use Rattle.text_lines.specs.Lines.{text_of};
 ghost use Rattle.plan_certificate.specs.Plans.{IsAdmissible};
-ghost use Rattle.plan_drawing.specs.Picture.{host_numbers, host_rows, label_of, labels_of, media_numbers, media_rows, picture_lines};
+ghost use Rattle.plan_drawing.specs.Picture.{label_of, labels_of, numbers_of, picture_lines, side_lines};
 
-use crate::owners::owners;
+use crate::owners::{Side, owners};
 use crate::row::{Row, RowContents, push_row};
-use crate::side::Side;
-use applications::Advert;
 use arrayvec::ArrayVec;
 use control_sets::bytes_of;
+use lane_planner::Problem;
 use plan_certificate::{Path, Plan, is_among};
-use std::alloc::{AllocError, Global};
+use std::alloc::AllocError;
 
 /// Adds the picture of a plan, in which kept paths have a star.
-pub fn push_picture(
-    alloc: Global,
-    out: &mut Vec<u8>,
-    advert: &Advert,
-    kept: &[Path],
-    plan: &Plan,
-) -> Result<(), AllocError>
-    requires { IsAdmissible advert.now plan.now }
-    ensures { OnOk result (out.new.items ≡ out.old.items ++ text_of (picture_lines advert.now kept.now plan.now)) }
+pub fn push_picture(out: &mut Vec<u8>, problem: &Problem, plan: &Plan) -> Result<(), AllocError>
+    requires { IsAdmissible problem.now.advert.now plan.now }
+    ensures { OnOk result (out.new.items ≡ out.old.items ++ text_of (picture_lines problem.now.advert.now problem.now.kept.now plan.now)) }
 {
+    let (advert, kept) = (problem.advert, problem.kept);
     let paths = plan.paths.as_slice();
     let contents = RowContents {
-        labels: labels_of(kept, paths),
+        labels: labels_of(kept.paths.as_slice(), paths),
         control: bytes_of(advert, plan),
     };
-    push_host_rows(alloc, out, &contents, &owners(advert, Side::Host, paths))?;
-    push_media_rows(alloc, out, &contents, &owners(advert, Side::Media, paths))
+    push_side(
+        out,
+        Side::Host,
+        &contents,
+        &owners(advert, Side::Host, paths),
+    )?;
+    push_side(
+        out,
+        Side::Media,
+        &contents,
+        &owners(advert, Side::Media, paths),
+    )
 }
 
-#[tactic(auto, unfolding(crate::specs::Picture::host_rows))]
-fn push_host_rows(
-    alloc: Global,
+#[tactic(auto, unfolding(crate::specs::Picture::side_lines))]
+fn push_side(
     out: &mut Vec<u8>,
+    side: Side,
     contents: &RowContents,
     lanes: &[u8],
 ) -> Result<(), AllocError>
-    ensures { OnOk result (out.new.items ≡ out.old.items ++ text_of (host_rows contents.now.labels.items contents.now.control lanes.now)) }
+    ensures { OnOk result (out.new.items ≡ out.old.items ++ text_of (side_lines side contents.now.labels.items contents.now.control lanes.now)) }
 {
-    push_host_numbers(out)?;
-    push_row(alloc, out, Row::Frame, contents, lanes)?;
-    push_row(alloc, out, Row::Names, contents, lanes)?;
-    push_row(alloc, out, Row::Control, contents, lanes)?;
-    push_row(alloc, out, Row::Frame, contents, lanes)
+    push_numbers(out, side)?;
+    push_row(out, Row::Frame, contents, lanes)?;
+    push_row(out, Row::Names, contents, lanes)?;
+    match side {
+        Side::Host => push_row(out, Row::Control, contents, lanes)?,
+        Side::Media => (),
+    }
+    push_row(out, Row::Frame, contents, lanes)
 }
 
-#[tactic(auto, unfolding(crate::specs::Picture::media_rows))]
-fn push_media_rows(
-    alloc: Global,
-    out: &mut Vec<u8>,
-    contents: &RowContents,
-    lanes: &[u8],
-) -> Result<(), AllocError>
-    ensures { OnOk result (out.new.items ≡ out.old.items ++ text_of (media_rows contents.now.labels.items contents.now.control lanes.now)) }
+#[tactic(auto, unfolding(crate::specs::Picture::numbers_of))]
+fn push_numbers(out: &mut Vec<u8>, side: Side) -> Result<(), AllocError>
+    ensures { OnOk result (out.new.items ≡ out.old.items ++ (numbers_of side ++ 10 ∷ [])) }
 {
-    push_media_numbers(out)?;
-    push_row(alloc, out, Row::Frame, contents, lanes)?;
-    push_row(alloc, out, Row::Names, contents, lanes)?;
-    push_row(alloc, out, Row::Frame, contents, lanes)
-}
-
-#[tactic(auto, unfolding(crate::specs::Picture::host_numbers))]
-fn push_host_numbers(out: &mut Vec<u8>) -> Result<(), AllocError>
-    ensures { OnOk result (out.new.items ≡ out.old.items ++ (host_numbers ++ 10 ∷ [])) }
-{
-    out.extend_from_slice(
-        b"host lanes        1       2       3       4       5       6       7       8\n",
-    )?;
-    Ok(())
-}
-
-#[tactic(auto, unfolding(crate::specs::Picture::media_numbers))]
-fn push_media_numbers(out: &mut Vec<u8>) -> Result<(), AllocError>
-    ensures { OnOk result (out.new.items ≡ out.old.items ++ (media_numbers ++ 10 ∷ [])) }
-{
-    out.extend_from_slice(
-        b"media lanes       1       2       3       4       5       6       7       8\n",
-    )?;
-    Ok(())
+    out.extend_from_slice(match side {
+        Side::Host => b"host lanes ",
+        Side::Media => b"media lanes",
+    })?;
+    out.extend_from_slice(b"       1       2       3       4       5       6       7       8\n")
 }
 
 #[tactic(auto, unfolding(crate::specs::Picture::labels_of))]
@@ -100,20 +83,11 @@ pub fn label_of(kept: &[Path], number: u8, path: Path) -> [u8; 7]
     requires { number ≤ 8 }
     ensures { result ≡ label_of kept.now (number, path) }
 {
-    let letter = 64 + number;
     let mark = if is_among(kept, path) { b'*' } else { b' ' };
-    let app = path.app;
-    if app < 10 {
-        [letter, mark, b'a', b'p', b'p', 48 + app, b' ']
+    let (first, second) = if path.app < 10 {
+        (48 + path.app, b' ')
     } else {
-        [
-            letter,
-            mark,
-            b'a',
-            b'p',
-            b'p',
-            48 + app / 10 % 10,
-            48 + app % 10,
-        ]
-    }
+        (48 + path.app / 10 % 10, 48 + path.app % 10)
+    };
+    [64 + number, mark, b'a', b'p', b'p', first, second]
 }

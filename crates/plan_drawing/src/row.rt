@@ -1,11 +1,11 @@
 // A row of the picture.
-ghost use Rattle.std.specs.Prelude.{◌≡◌, ◌-◌, ◌≤◌, ◌++◌, ◌∷◌, [], OnOk, codes, unwrap_or, slice_get};
+ghost use Rattle.std.specs.Prelude.{◌≡◌, ◌++◌, ◌∷◌, [], OnOk, codes};
 ghost use Rattle.hex.specs.Hex.{encode_lower};
-ghost use Rattle.plan_drawing.specs.Picture.{cell, cells, edge, inside, row_line, trimmed};
+ghost use Rattle.plan_drawing.specs.Picture.{cells, edge, inside, row_line, trimmed};
 
 use arrayvec::ArrayVec;
 use control_sets::ControlSet;
-use std::alloc::{AllocError, Global};
+use std::alloc::AllocError;
 use text_lines::HexByte;
 
 /// What a row shows of each lane.
@@ -29,7 +29,6 @@ pub struct RowContents {
 /// Adds a row of the lanes that these paths take, 0 for none.
 #[tactic(auto, unfolding(crate::specs::Picture::row_line))]
 pub fn push_row(
-    alloc: Global,
     out: &mut Vec<u8>,
     row: Row,
     contents: &RowContents,
@@ -37,7 +36,7 @@ pub fn push_row(
 ) -> Result<(), AllocError>
     ensures { OnOk result (out.new.items ≡ out.old.items ++ (row_line row contents.now.labels.items contents.now.control owners.now ++ 10 ∷ [])) }
 {
-    let mut line = b"             ".to_vec(alloc)?;
+    let mut line = b"             ".to_vec(*out.allocator())?;
     push_cells(&mut line, row, contents, owners)?;
     push_trimmed(out, &line)
 }
@@ -50,6 +49,7 @@ fn push_trimmed(out: &mut Vec<u8>, line: &[u8]) -> Result<(), AllocError>
     Ok(())
 }
 
+#[tactic(auto, unfolding(crate::specs::Picture::cells))]
 fn push_cells(
     out: &mut Vec<u8>,
     row: Row,
@@ -60,26 +60,11 @@ fn push_cells(
 {
     let mut before = 0;
     for (index, owner) in owners.iter().enumerate() {
-        push_cell(out, row, contents, index, before, *owner)?;
+        out.push(edge(row, before, *owner))?;
+        out.extend_from_slice(&inside(row, contents, index, before, *owner))?;
         before = *owner;
     }
     out.push(edge(row, before, 0))?;
-    Ok(())
-}
-
-#[tactic(auto, unfolding(crate::specs::Picture::cell))]
-fn push_cell(
-    out: &mut Vec<u8>,
-    row: Row,
-    contents: &RowContents,
-    index: usize,
-    before: u8,
-    owner: u8,
-) -> Result<(), AllocError>
-    ensures { OnOk result (out.new.items ≡ out.old.items ++ cell row contents.now.labels.items contents.now.control index before owner) }
-{
-    out.push(edge(row, before, owner))?;
-    out.extend_from_slice(&inside(row, contents, index, before, owner))?;
     Ok(())
 }
 
@@ -104,7 +89,8 @@ fn inside(row: Row, contents: &RowContents, index: usize, before: u8, owner: u8)
         } else if before == owner {
             [b' '; 7]
         } else {
-            label(contents.labels.as_slice(), owner)
+            let label = contents.labels.get(usize::from(owner) - 1);
+            label.copied().unwrap_or([b' '; 7])
         },
         Row::Control => if owner == 0 {
             [b' '; 7]
@@ -112,16 +98,6 @@ fn inside(row: Row, contents: &RowContents, index: usize, before: u8, owner: u8)
             byte(contents.control.get(index).copied().unwrap_or(0))
         },
     }
-}
-
-fn label(labels: &[[u8; 7]], owner: u8) -> [u8; 7]
-    requires { 1 ≤ owner }
-    ensures { result ≡ unwrap_or (slice_get labels.now (owner - 1)) (codes "       ") }
-{
-    labels
-        .get(usize::from(owner) - 1)
-        .copied()
-        .unwrap_or([b' '; 7])
 }
 
 fn byte(value: u8) -> [u8; 7]

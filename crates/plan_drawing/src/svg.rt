@@ -1,66 +1,56 @@
 // The drawing as an SVG.
-ghost use Rattle.std.specs.Prelude.{◌≡◌, ◌++◌, ◌∷◌, [], ◌^◌, ◌≤◌, ◌<◌, codes, flat_map, length, map, OnOk};
-ghost use Rattle.std.specs.List.{enumerate_from, range_with_len};
+ghost use Rattle.std.specs.Prelude.{◌≡◌, ◌++◌, ◌∷◌, [], ◌≤◌, flat_map, length, map, IfOk, OnOk};
+ghost use Rattle.std.specs.List.{enumerate_from};
 ghost use Rattle.text_lines.specs.Lines.{text_of};
 ghost use Rattle.plan_certificate.specs.Plans.{IsAdmissible};
-ghost use Rattle.plan_drawing.specs.Svg.{band, block_begin, control_element, control_text, escaped, head, head_begin, head_end, height_of, lane_elements, path_boxes, path_elements, shape_lines, sides, style, svg_lines, text_at, text_block};
+ghost use Rattle.plan_drawing.specs.Svg.{block_begin, control_element, escaped, head, head_begin, head_end, height_of, lane_elements, path_elements, shape_lines, sides, style, svg_lines, text_block};
 
-use crate::elements::{
-    class_of, lane_class, left_of, push_box, push_points, push_points_begin, push_text_at,
-};
+use crate::elements::{left_of, push_band, push_box, push_text_at};
 use crate::picture::label_of;
 use applications::Advert;
 use control_sets::bytes_of;
+use field_tables::LaneNumber;
 use itoa::Buffer;
+use lane_planner::Problem;
 use plan_certificate::{Path, Plan};
-use std::alloc::AllocError;
+use std::alloc::{AllocError, Global};
 use text_lines::HexByte;
 
-/// Adds the SVG of a plan, in which kept paths have a star, and a text below it.
-pub fn push_svg(
-    out: &mut Vec<u8>,
-    advert: &Advert,
-    kept: &[Path],
+/// The SVG of a plan, in which kept paths have a star, with a text below it.
+pub fn svg_of(
+    alloc: Global,
+    problem: &Problem,
     plan: &Plan,
     text: &[u8],
-) -> Result<(), AllocError>
-    requires { IsAdmissible advert.now plan.now }
-    ensures { OnOk result (out.new.items ≡ out.old.items ++ text_of (svg_lines advert.now kept.now plan.now text.now)) }
+) -> Result<Vec<u8>, AllocError>
+    requires { IsAdmissible problem.now.advert.now plan.now }
+    ensures { IfOk result (λ svg. svg.items ≡ text_of (svg_lines problem.now.advert.now problem.now.kept.now plan.now text.now)) }
 {
-    push_head(out, text)?;
-    push_shapes(out, advert, kept, plan)?;
-    push_end(out, text)
+    let mut out = Vec::new(alloc);
+    push_head(&mut out, text)?;
+    push_shapes(&mut out, problem, plan)?;
+    push_text(&mut out, text)?;
+    out.extend_from_slice(b"</svg>\n")?;
+    Ok(out)
 }
 
-fn push_shapes(
-    out: &mut Vec<u8>,
-    advert: &Advert,
-    kept: &[Path],
-    plan: &Plan,
-) -> Result<(), AllocError>
-    requires { IsAdmissible advert.now plan.now }
-    ensures { OnOk result (out.new.items ≡ out.old.items ++ text_of (shape_lines advert.now kept.now plan.now)) }
+fn push_shapes(out: &mut Vec<u8>, problem: &Problem, plan: &Plan) -> Result<(), AllocError>
+    requires { IsAdmissible problem.now.advert.now plan.now }
+    ensures { OnOk result (out.new.items ≡ out.old.items ++ text_of (shape_lines problem.now.advert.now problem.now.kept.now plan.now)) }
 {
-    push_paths(out, advert, kept, plan.paths.as_slice())?;
-    push_lanes(out)?;
+    let (advert, kept) = (problem.advert, problem.kept);
+    push_paths(out, advert, kept.paths.as_slice(), plan.paths.as_slice())?;
+    push_lanes(out, &LaneNumber::all())?;
     push_control(out, &bytes_of(advert, plan))
-}
-
-fn push_end(out: &mut Vec<u8>, text: &[u8]) -> Result<(), AllocError>
-    ensures { OnOk result (out.new.items ≡ out.old.items ++ text_of (text_block text.now ∷ codes "</svg>" ∷ [])) }
-{
-    push_text(out, text)?;
-    out.extend_from_slice(b"</svg>\n")
 }
 
 // ---- lanes
 
-#[tactic(auto, using(crate::proofs::PathsFrom::lanes_from))]
-fn push_lanes(out: &mut Vec<u8>) -> Result<(), AllocError>
-    ensures { OnOk result (out.new.items ≡ out.old.items ++ text_of (map lane_elements (range_with_len 1 8))) }
+fn push_lanes(out: &mut Vec<u8>, lanes: &[LaneNumber]) -> Result<(), AllocError>
+    ensures { OnOk result (out.new.items ≡ out.old.items ++ text_of (map lane_elements lanes.now)) }
 {
-    for lane in 1..9 {
-        push_lane(out, lane)?;
+    for lane in lanes {
+        push_lane(out, lane.number())?;
     }
     Ok(())
 }
@@ -70,9 +60,8 @@ fn push_lane(out: &mut Vec<u8>, lane: u8) -> Result<(), AllocError>
     ensures { OnOk result (out.new.items ≡ out.old.items ++ (lane_elements lane ++ 10 ∷ [])) }
 {
     let left = left_of(lane);
-    let class = lane_class();
-    push_box(out, &class, left, 30, 80, 60)?;
-    push_box(out, &class, left, 190, 80, 40)?;
+    push_box(out, b"lane", left, 30, 80, 60)?;
+    push_box(out, b"lane", left, 190, 80, 40)?;
     let mut buffer = Buffer::new();
     let number = buffer.format(lane).as_bytes();
     push_text_at(out, left + 36, 22, number)?;
@@ -95,18 +84,13 @@ fn push_control(out: &mut Vec<u8>, control: &[u8]) -> Result<(), AllocError>
 fn push_control_byte(out: &mut Vec<u8>, lane: u8, byte: u8) -> Result<(), AllocError>
     ensures { OnOk result (out.new.items ≡ out.old.items ++ (control_element (lane, byte) ++ 10 ∷ [])) }
 {
-    push_control_text(out, left_of(lane) + 8, byte)?;
+    let left = left_of(lane) + 8;
+    match byte {
+        0 => push_text_at(out, left, 80, b"-")?,
+        _ => push_text_at(out, left, 80, &HexByte(byte).digits())?,
+    }
     out.push(b'\n')?;
     Ok(())
-}
-
-fn push_control_text(out: &mut Vec<u8>, left: u64, byte: u8) -> Result<(), AllocError>
-    ensures { OnOk result (out.new.items ≡ out.old.items ++ text_at left 80 (control_text byte)) }
-{
-    match byte {
-        0 => push_text_at(out, left, 80, b"-"),
-        _ => push_text_at(out, left, 80, &HexByte(byte).digits()),
-    }
 }
 
 // ---- paths
@@ -126,7 +110,7 @@ fn push_paths(
     Ok(())
 }
 
-#[tactic(auto, unfolding(crate::specs::Svg::path_elements))]
+#[tactic(auto, unfolding(crate::specs::Svg::path_elements, crate::specs::Svg::path_shapes))]
 fn push_path(
     out: &mut Vec<u8>,
     advert: &Advert,
@@ -138,63 +122,25 @@ fn push_path(
     ensures { OnOk result (out.new.items ≡ out.old.items ++ (path_elements advert.now kept.now (number, path) ++ 10 ∷ [])) }
 {
     let app = path.application(advert);
+    let class = [64 + number];
+    let label = label_of(kept, number, path);
     let (host, media) = (left_of(path.host), left_of(path.media));
     let host_width = 80 * u64::from(app.host_lanes);
     let media_width = 80 * u64::from(app.media_lanes);
     push_band(
         out,
-        number,
+        &class,
         host,
         host + host_width,
         media,
         media + media_width,
     )?;
-    let label = label_of(kept, number, path);
-    push_boxes(out, &label, number, host, host_width, media, media_width)?;
-    out.push(b'\n')?;
-    Ok(())
-}
-
-// The band from a path's host lanes to its media lanes.
-#[tactic(auto, unfolding(crate::specs::Svg::band))]
-fn push_band(
-    out: &mut Vec<u8>,
-    number: u8,
-    host: u64,
-    host_end: u64,
-    media: u64,
-    media_end: u64,
-) -> Result<(), AllocError>
-    requires { number ≤ 8 }
-    ensures { OnOk result (out.new.items ≡ out.old.items ++ band number host host_end media media_end) }
-{
-    out.extend_from_slice(b"<polygon")?;
-    out.extend_from_slice(&class_of(number))?;
-    push_points_begin(out)?;
-    push_points(out, host, host_end, media, media_end)?;
-    out.extend_from_slice(b"\"/>")
-}
-
-#[tactic(auto, unfolding(crate::specs::Svg::path_boxes))]
-fn push_boxes(
-    out: &mut Vec<u8>,
-    label: &[u8],
-    number: u8,
-    host: u64,
-    host_width: u64,
-    media: u64,
-    media_width: u64,
-) -> Result<(), AllocError>
-    requires number { number ≤ 8 }
-    requires host { host < 2 ^ 32 }
-    requires media { media < 2 ^ 32 }
-    ensures { OnOk result (out.new.items ≡ out.old.items ++ path_boxes label.now number host host_width media media_width) }
-{
-    let class = class_of(number);
     push_box(out, &class, host, 30, host_width, 60)?;
     push_box(out, &class, media, 190, media_width, 40)?;
-    push_text_at(out, host + 8, 54, label)?;
-    push_text_at(out, media + 8, 215, label)
+    push_text_at(out, host + 8, 54, &label)?;
+    push_text_at(out, media + 8, 215, &label)?;
+    out.push(b'\n')?;
+    Ok(())
 }
 
 // ---- the head, and the text below

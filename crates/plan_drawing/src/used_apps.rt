@@ -4,9 +4,9 @@ ghost use Rattle.code_names.specs.Rows.{meaning_of};
 ghost use Rattle.text_lines.specs.Lines.{text_of};
 ghost use Rattle.plan_drawing.specs.UsedApps.{app_line, app_lines, interface_text, is_used, unnamed_text};
 
+use crate::columns::push_number;
 use applications::{Advert, App};
 use code_names::{Name, Table, media_interface_name, name_of};
-use itoa::Buffer;
 use plan_certificate::Path;
 use std::alloc::AllocError;
 use text_lines::HexByte;
@@ -40,7 +40,7 @@ fn push_app(out: &mut Vec<u8>, media_type: u8, app: &App) -> Result<(), AllocErr
     ensures { OnOk result (out.new.items ≡ out.old.items ++ (app_line media_type app.now ++ 10 ∷ [])) }
 {
     out.extend_from_slice(b"app ")?;
-    out.extend_from_slice(Buffer::new().format(app.number).as_bytes())?;
+    push_number(out, u64::from(app.number))?;
     out.extend_from_slice(b": ")?;
     push_interface(
         out,

@@ -1,43 +1,37 @@
 // Why no plan weighs more.
-ghost use Rattle.std.specs.Prelude.{◌≡◌, ◌+◌, ◌++◌, ◌∷◌, [], ◌≤◌, ◌<◌, ℕ, List, true, IfOk, OnOk, map};
+ghost use Rattle.std.specs.Prelude.{◌≡◌, ◌+◌, ◌++◌, ◌∷◌, [], ◌≤◌, ◌<◌, ℕ, List, IfOk, OnOk, map};
 ghost use Rattle.std.specs.List.{list_any};
 ghost use Rattle.text_lines.specs.Lines.{text_of};
-ghost use Rattle.applications.specs.AppWeights.{PathWeights};
-ghost use Rattle.plan_certificate.specs.Paths.{is_allowed};
 ghost use Rattle.plan_certificate.specs.Plans.{AreAllowed};
-ghost use Rattle.plan_certificate.specs.States.{path_decision};
+ghost use Rattle.plan_certificate.specs.States.{start};
 ghost use Rattle.lane_planner.specs.Tables.{IsTable};
-ghost use Rattle.plan_drawing.specs.Choices.{choices_in};
-ghost use Rattle.plan_drawing.specs.Walks.{begins_at, next_state};
-ghost use Rattle.plan_drawing.specs.Why.{choice_line, is_taken, lane_line, name_of, note_of, state_lines, told_on, why_lines};
+ghost use Rattle.plan_drawing.specs.Walks.{basis_of, begins_at, next_state};
+ghost use Rattle.plan_drawing.specs.Why.{choice_line, is_taken, lane_line, name_of, note_of, state_lines, told_on};
 
-use crate::choice::Choice;
-use crate::choices::choices_in;
+use crate::choices::{Choice, choices_in, decision_of};
 use crate::columns::{push_left, push_number, push_right};
-use applications::{Advert, AppWeights};
-use lane_planner::Table;
+use field_tables::LaneNumber;
+use lane_planner::{Problem, Table};
 use plan_certificate::{Path, State, is_among};
 use std::alloc::{AllocError, Global};
 
-/// Adds, for each host lane that the plan decides on, what could have been done there.
+/// Adds, for each of these host lanes that the plan decides on, what could have been done there.
 #[tactic(auto, unfolding(crate::specs::Walks::states_on))]
 pub fn push_why(
-    alloc: Global,
     out: &mut Vec<u8>,
-    advert: &Advert,
-    weights: &AppWeights,
-    kept: &[Path],
+    problem: &Problem,
     gains: &Table,
     paths: &[Path],
+    lanes: &[LaneNumber],
 ) -> Result<(), AllocError>
-    requires kept { AreAllowed advert.now kept.now }
-    requires paths { AreAllowed advert.now paths.now }
+    requires kept { AreAllowed problem.now.advert.now problem.now.kept.now }
+    requires paths { AreAllowed problem.now.advert.now paths.now }
     requires gains { IsTable gains.now }
-    ensures { OnOk result (out.new.items ≡ out.old.items ++ text_of (why_lines advert.now weights.now kept.now gains.now paths.now)) }
+    ensures { OnOk result (out.new.items ≡ out.old.items ++ text_of (told_on (basis_of problem.now gains.now) paths.now start lanes.now)) }
 {
     let mut state = State::start();
-    for lane in 1..9 {
-        state = push_lane_if_next(alloc, out, advert, weights, kept, gains, paths, state, lane)?;
+    for lane in lanes {
+        state = push_lane_if_next(out, problem, gains, paths, state, lane.number())?;
     }
     Ok(())
 }
@@ -45,83 +39,79 @@ pub fn push_why(
 // Adds what could have been done at a host lane if the plan decides on it in this state, and says where the plan comes to.
 #[tactic(auto, using(crate::proofs::ToldStates::told_here, crate::proofs::ToldStates::told_past))]
 fn push_lane_if_next(
-    alloc: Global,
     out: &mut Vec<u8>,
-    advert: &Advert,
-    weights: &AppWeights,
-    kept: &[Path],
+    problem: &Problem,
     gains: &Table,
     paths: &[Path],
     state: State,
     lane: u8,
 ) -> Result<State, AllocError>
-    requires kept { AreAllowed advert.now kept.now }
-    requires paths { AreAllowed advert.now paths.now }
+    requires kept { AreAllowed problem.now.advert.now problem.now.kept.now }
+    requires paths { AreAllowed problem.now.advert.now paths.now }
     requires gains { IsTable gains.now }
     requires lane { lane ≤ 8 }
     requires within { state.boundary ≤ 8 }
     ensures told { IfOk result (λ next. (lanes : List ℕ)
-        → out.old.items ++ text_of (told_on advert.now weights.now kept.now gains.now paths.now state (lane ∷ lanes))
-        ≡ out.new.items ++ text_of (told_on advert.now weights.now kept.now gains.now paths.now next lanes)) }
+        → out.old.items ++ text_of (told_on (basis_of problem.now gains.now) paths.now state (lane ∷ lanes))
+        ≡ out.new.items ++ text_of (told_on (basis_of problem.now gains.now) paths.now next lanes)) }
     ensures within { IfOk result (λ next. next.boundary ≤ 8) }
 {
     if state.boundary + 1 != lane {
         return Ok(state);
     }
-    push_state(alloc, out, advert, weights, kept, gains, paths, &state)?;
-    Ok(next_state(advert, paths, &state))
+    push_state(out, problem, gains, paths, &state)?;
+    Ok(next_state(problem, paths, &state))
 }
 
 // Where the plan comes to from a state.
-fn next_state(advert: &Advert, paths: &[Path], state: &State) -> State
+fn next_state(problem: &Problem, paths: &[Path], state: &State) -> State
     requires open { state.now.boundary < 8 }
-    requires paths { AreAllowed advert.now paths.now }
-    ensures next { (weights : PathWeights) → result ≡ next_state advert.now weights paths.now state.now }
+    requires paths { AreAllowed problem.now.advert.now paths.now }
+    ensures next { result ≡ next_state (basis_of problem.now []) paths.now state.now }
     ensures within { result.boundary ≤ 8 }
 {
     let lane = state.boundary + 1;
     for path in paths {
         if path.host == lane {
-            return after_path(advert, state, *path);
+            return decision_of(problem, state, Some(*path)).end;
         }
     }
     state.free_decision().end
 }
 
-#[tactic(auto, unfolding(plan_certificate::specs::Paths::is_allowed))]
-fn after_path(advert: &Advert, state: &State, path: Path) -> State
-    requires begins { path.host ≡ state.now.boundary + 1 }
-    requires allowed { is_allowed advert.now path ≡ true }
-    ensures next { (weights : PathWeights) → result ≡ (path_decision advert.now weights state.now path).end }
-    ensures within { result.boundary ≤ 8 }
-{
-    State {
-        boundary: state.boundary + path.application(advert).host_lanes,
-        used: state.used.union(path.media_lanes(advert)),
-    }
-}
-
 #[tactic(auto, unfolding(crate::specs::Why::state_lines))]
 fn push_state(
-    alloc: Global,
     out: &mut Vec<u8>,
-    advert: &Advert,
-    weights: &AppWeights,
-    kept: &[Path],
+    problem: &Problem,
     gains: &Table,
     paths: &[Path],
     state: &State,
 ) -> Result<(), AllocError>
-    requires kept { AreAllowed advert.now kept.now }
+    requires kept { AreAllowed problem.now.advert.now problem.now.kept.now }
     requires gains { IsTable gains.now }
     requires open { state.now.boundary < 8 }
-    ensures { OnOk result (out.new.items ≡ out.old.items ++ text_of (state_lines advert.now weights.now kept.now gains.now paths.now state.now)) }
+    ensures { OnOk result (out.new.items ≡ out.old.items ++ text_of (state_lines (basis_of problem.now gains.now) paths.now state.now)) }
 {
     let lane = state.boundary + 1;
     let gain = gains.of(state);
     push_lane(out, lane, gain)?;
-    let choices = choices_in(advert, weights, kept, gains, state);
-    push_choices(alloc, out, paths, lane, gain, choices.as_slice())
+    let choices = choices_in(problem, gains, state);
+    push_choices(out, paths, lane, gain, choices.as_slice())
+}
+
+fn push_choices(
+    out: &mut Vec<u8>,
+    paths: &[Path],
+    lane: u8,
+    gain: u64,
+    choices: &[Choice],
+) -> Result<(), AllocError>
+    ensures { OnOk result (out.new.items ≡ out.old.items ++ text_of (map (choice_line paths.now lane gain) choices.now)) }
+{
+    for choice in choices {
+        push_choice(out, paths, lane, gain, choice)?;
+    }
+    Ok(())
 }
 
 #[tactic(auto, unfolding(crate::specs::Why::lane_line))]
@@ -135,25 +125,8 @@ fn push_lane(out: &mut Vec<u8>, lane: u8, gain: u64) -> Result<(), AllocError>
     out.extend_from_slice(b" to gain\n")
 }
 
-fn push_choices(
-    alloc: Global,
-    out: &mut Vec<u8>,
-    paths: &[Path],
-    lane: u8,
-    gain: u64,
-    choices: &[Choice],
-) -> Result<(), AllocError>
-    ensures { OnOk result (out.new.items ≡ out.old.items ++ text_of (map (choice_line paths.now lane gain) choices.now)) }
-{
-    for choice in choices {
-        push_choice(alloc, out, paths, lane, gain, choice)?;
-    }
-    Ok(())
-}
-
 #[tactic(auto, unfolding(crate::specs::Why::choice_line))]
 fn push_choice(
-    alloc: Global,
     out: &mut Vec<u8>,
     paths: &[Path],
     lane: u8,
@@ -163,7 +136,7 @@ fn push_choice(
     ensures { OnOk result (out.new.items ≡ out.old.items ++ (choice_line paths.now lane gain choice.now ++ 10 ∷ [])) }
 {
     out.extend_from_slice(b"  ")?;
-    push_left(out, 24, &name_of(alloc, choice.path)?)?;
+    push_left(out, 24, &name_of(*out.allocator(), choice.path)?)?;
     out.extend_from_slice(b" ")?;
     push_right(out, 6, choice.weight)?;
     out.extend_from_slice(b" + ")?;

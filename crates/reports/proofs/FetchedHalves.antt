@@ -1,6 +1,6 @@
 -- What is read of an image over a scripted bus with a window of it behind: the halves agree with the image's.
 use Rattle.std.proofs.Common.{◌≡◌, inl, inr, ℕ, ◌<◌, ◌&&◌, Bool, true, false, List, [], ◌∷◌, map, take, Option, Some, None, Ok, reverse, refl, sym, ap, subst, ◌∙◌, arith}
-use Rattle.std.proofs.lemmas.Bool.{cases_Bool, some_since}
+use Rattle.std.proofs.lemmas.Bool.{some_since}
 use Rattle.std.specs.Prelude.{IsTrue, MatchOption, is_some, not, option_map, pos, slice_index, unsigned_abs, unwrap_or}
 use Rattle.std.specs.FinMap as map
 use Rattle.std.specs.List.{AllByRecursion}
@@ -16,6 +16,7 @@ use Rattle.bus_model.specs.Runs.{IsFull, Ran, Seen}
 use Rattle.bus_model.specs.ScriptedBus.{script_rules, transacted}
 use Rattle.bus_model.proofs.Histories.{AnyPin, found_keeps, may_each}
 use Rattle.bus_model.proofs.ScriptRuns.{all_allow, fetched_at, step_keeps}
+use Rattle.control_sets.specs.OutcomeSteps.{Gives}
 use Rattle.conversations.specs.Selecting.{IsFetch, WasTaken}
 use Rattle.paged_memory.specs.declared.family.Family.{Family}
 use Rattle.paged_memory.specs.declared.family.Family.TheVariants.{Cmis, Sff8636, Sff8472}
@@ -40,43 +41,39 @@ use Rattle.field_tables.proofs.SameValues.{Agree, same_absent, same_number}
 use Rattle.module_decoding.specs.ModuleFamilies.{identifier}
 use Rattle.reports.specs.FetchedImages.{IsFetching}
 use Rattle.module_reading.specs.ReadImages.{IsImageOf, IsLeftOut, IsRead, IsSettled, IsShown, SomeStep, StoresNothing}
-use Rattle.module_reading.specs.Regions.{everything, has_diagnostics, key_of, operation, addressing_in, addressing_of, regions_in, regions_of, sfp_regions}
+use Rattle.module_reading.specs.Regions.{everything, has_diagnostics, key_of, operation, page_of, addressing_in, addressing_of, regions_in, regions_of, sfp_regions}
 use Rattle.module_reading.specs.declared.region.Region.{Region}
 use Rattle.module_reading.specs.declared.region.Region.TheVariants.{Lower, FirstPage, Page}
 use Rattle.module_reading.proofs.RegionLaws.{begins_lower}
 use Rattle.reports.proofs.SameFamilies.{AllAgree}
-use Rattle.reports.proofs.SameRows.{KeysAgree}
+use Rattle.reports.proofs.SameIf.{each_agree}
 
 -- ---- what a fetch of a half was answered by
 
-abbrev offset_of : Region → ℕ
-offset_of (Lower dev) = 0
-offset_of _ = 128
-
-abbrev device_of : Region → Dev
-device_of (Lower dev) = dev
-device_of _ = A0
-
-is_fetch : (region : Region) → operation region ≡ Fetch (device_of region) (offset_of region) 128
-is_fetch (Lower dev) = refl
-is_fetch _ = refl
-
--- before the steps the half was shown, and it was answered with these bytes
-record WasRead (addressing : PageAddressing) (region : Region) (bytes : List ℕ) (state : State) : Type 0 where
+-- a step of which this holds, with the steps before it
+record Found (P : Step → History → Type 0) (state : State) : Type 0 where
+  step : Step
   before : History
-  may : May state before
-  shown : IsShown false addressing region before
-  answer : (window_fetched (found (left state before)) (device_of region) (offset_of region) 128).0 ≡ Some bytes
+  may : May state (step ∷ before)
+  is : P step before
 
-was_read : (addressing : PageAddressing) (region : Region) (bytes : List ℕ) (state : State) (history : History) → May state history → IsRead false addressing region bytes history → WasRead addressing region bytes state
-was_read addressing region bytes state [] may read = absurd read
-was_read addressing region bytes state (step ∷ before) may (inl now) =
-    let there = left state before in
-    let gives = now.0 in
-    let reply : Bytes (record { items = bytes }) ≡ (transacted window_conduct (Fetch (device_of region) (offset_of region) 128) there).0 =
-    sym gives.1 ∙ may.0 ∙ ap (λ (op : Op). (transacted window_conduct op there).0) (gives.0 ∙ is_fetch region) in
-    record { before = before; may = may.1; shown = now.1; answer = (fetched_at window_conduct (device_of region) (offset_of region) 128 (record { items = bytes }) there reply).answer }
-was_read addressing region bytes state (step ∷ before) may (inr earlier) = was_read addressing region bytes state before may.1 earlier
+found_step : (P : Step → History → Type 0) (state : State) (history : History) → May state history → SomeStep P history → Found P state
+found_step P state [] may some = absurd some
+found_step P state (step ∷ before) may (inl now) = record { step = step; before = before; may = may; is = now }
+found_step P state (step ∷ before) may (inr earlier) = found_step P state before may.1 earlier
+
+-- the half was shown, and its fetch gave these bytes
+abbrev WasRead : PageAddressing → Region → List ℕ → State → Type 0
+WasRead addressing region bytes state = Found (λ step before. Gives (operation region) bytes step × IsShown false addressing region before) state
+
+answer_of : (addressing : PageAddressing) (region : Region) (bytes : List ℕ) (state : State) (dev : Dev) (offset : ℕ) → operation region ≡ Fetch dev offset 128 → (read : WasRead addressing region bytes state) →
+    (window_fetched (found (left state read.before)) dev offset 128).0 ≡ Some bytes
+answer_of addressing region bytes state dev offset fetch read =
+    let there = left state read.before in
+    let gives = read.is.0 in
+    let reply : Bytes (record { items = bytes }) ≡ (transacted window_conduct (Fetch dev offset 128) there).0 =
+    sym gives.1 ∙ read.may.0 ∙ ap (λ (op : Op). (transacted window_conduct op there).0) (gives.0 ∙ fetch) in
+    (fetched_at window_conduct dev offset 128 (record { items = bytes }) there reply).answer
 
 -- ---- which page is shown
 
@@ -103,20 +100,40 @@ shows_chosen memory addressing by page state (step ∷ before) has of may (inl a
 shows_chosen memory addressing by page state (step ∷ before) has of may (inr (fetch, earlier)) =
     shows_next memory page (left state before) step fetch (shows_chosen memory addressing by page state before has of may.1 earlier)
 
+-- ---- how its pages are selected
+
+value_of_byte : (bytes : List ℕ) → slice_index bytes 0 < 256 → unsigned_abs (value_in bytes CIdentifier 1) ≡ slice_index bytes 0
+unfolding value_in
+value_of_byte bytes small = number-bits_up (byte_in bytes) 0 0 8 ∙ omega (arith, small)
+
+identifier_is : (memory : Memory) (half : List ℕ) → IsImage memory → map.get memory (lower_key A0) ≡ Some half → identifier memory ≡ slice_index half 0
+unfolding reading_at
+identifier_is memory half image has =
+    let page = half_page memory (lower_key A0) half image has in
+    ap (λ (bytes : Option (List ℕ)). unsigned_abs (unwrap_or (option_map (λ bytes. value_in bytes CIdentifier 1) bytes) (pos 0))) has ∙ value_of_byte half (page.bytes 0)
+
+selecting_is : (memory : Memory) (half : List ℕ) → map.get memory (lower_key A0) ≡ Some half → selecting_on memory A0 ≡ selecting_by (slice_index half 0)
+selecting_is memory half has = ap (λ (bytes : Option (List ℕ)). unwrap_or (option_map selecting_by (option_map (λ bytes. slice_index bytes 0) bytes)) (Some BankAndPage)) has
+
 -- ---- the halves agree
 
--- pages are selected as the memory has it
+-- if it is a page that is selected, it is as the memory has it
 abbrev SelectsBy : Memory → PageAddressing → Region → Type 0
-SelectsBy memory addressing (Lower dev) = Unit {0}
-SelectsBy memory addressing FirstPage = Unit {0}
-SelectsBy memory addressing (Page page) = selecting_on memory A0 ≡ selecting_of addressing
+SelectsBy memory addressing region = is_some (page_of region) ≡ true → selecting_on memory A0 ≡ selecting_of addressing
 
 no_half : (b : Bool) (half : Option (List ℕ)) → is_some half ≡ b → (b ≡ true → ⊥) → half ≡ None
 no_half b None e none = refl
 no_half b (Some bytes) e none = absurd (none (sym e))
 
+half_of : (half : Option (List ℕ)) → not (is_some half) ≡ false → (bytes : List ℕ) × (half ≡ Some bytes)
+half_of None e = absurd cc
+half_of (Some bytes) e = (bytes, refl)
+
 -- the memory of the window behind the bus, and what is kept of its halves
-module _ (memory copy : Memory) (addressing : PageAddressing) (state : State) (image : IsImage memory) (start : state.1 ≡ started memory) where
+module _ (memory copy : Memory) (state : State) (history : History) (image : IsImage memory) (start : state.1 ≡ started memory) (may : May state history) where
+  abbrev addressing : PageAddressing
+  addressing = addressing_of copy
+
   of_start : IsOf memory state.1
   of_start = ap (λ (window : Windowed). window.memory) start
 
@@ -143,113 +160,66 @@ module _ (memory copy : Memory) (addressing : PageAddressing) (state : State) (i
       ap (option_map (take n)) held ∙ ap (λ (xs : List ℕ). Some xs) read.same ∙ sym (ap (option_map (take n)) read.has)
 
   agrees_read : (region : Region) (bytes : List ℕ) → SelectsBy memory addressing region → WasRead addressing region bytes state → map.get copy (key_of region) ≡ Some bytes → Agree copy memory (key_of region)
-  agrees_read (Lower dev) bytes by read held = same_lower dev (left state read.before) bytes (of_after memory state read.before of_start) read.answer held
-  agrees_read FirstPage bytes by read held = same_page 0 (left state read.before) bytes (shows_first memory state read.before read.shown shows_start) read.answer held
-  agrees_read (Page page) bytes by read held = same_page page (left state read.before) bytes (shows_confirmed memory addressing by page state read.before sound_start read.may read.shown) read.answer held
+  agrees_read (Lower dev) bytes by read held =
+      same_lower dev (left state read.before) bytes (of_after memory state read.before of_start) (answer_of addressing (Lower dev) bytes state dev 0 refl read) held
+  agrees_read FirstPage bytes by read held =
+      same_page 0 (left state read.before) bytes (shows_first memory state read.before read.is.1 shows_start) (answer_of addressing FirstPage bytes state A0 128 refl read) held
+  agrees_read (Page page) bytes by read held =
+      let shows = shows_confirmed memory addressing (by refl) page state read.before sound_start read.may.1 read.is.1 in
+      same_page page (left state read.before) bytes shows (answer_of addressing (Page page) bytes state A0 128 refl read) held
 
-  lacks_step : (page : ℕ) → selecting_on memory A0 ≡ selecting_of addressing → 0 < page → (step : Step) (before : History) → May state (step ∷ before) → IsTrue (reads_back addressing 0 step) → WasTaken addressing page before →
+  lacks : (page : ℕ) → selecting_on memory A0 ≡ selecting_of addressing → 0 < page → Found (λ step before. IsTrue (reads_back addressing 0 step) × WasTaken addressing page before) state →
       map.contains_key memory (upper_key A0 0 page) ≡ true → ⊥
-  lacks_step page by above step before may reads selected has =
-      let there = left state before in
-      let zeroth = (shows_read_back memory addressing by 0 there step reads may.0 (sound_after memory addressing by state before sound_start)).0 in
-      let chosen = found_keeps window_conduct (Shows memory page) (always (Shows memory page)) there (shows_chosen memory addressing by page state before has of_start may.1 selected) in
+  lacks page by above out has =
+      let there = left state out.before in
+      let zeroth = (shows_read_back memory addressing by 0 there out.step out.is.0 out.may.0 (sound_after memory addressing by state out.before sound_start)).0 in
+      let chosen = found_keeps window_conduct (Shows memory page) (always (Shows memory page)) there (shows_chosen memory addressing by page state out.before has of_start out.may.1 out.is.1) in
       omega (arith, above, zeroth.number, chosen.number)
 
-  lacks : (page : ℕ) → selecting_on memory A0 ≡ selecting_of addressing → 0 < page → (history : History) → May state history →
-      SomeStep (λ step before. IsTrue (reads_back addressing 0 step) × WasTaken addressing page before) history → map.contains_key memory (upper_key A0 0 page) ≡ true → ⊥
-  lacks page by above [] may out = absurd out
-  lacks page by above (step ∷ before) may (inl now) = lacks_step page by above step before may now.0 now.1
-  lacks page by above (step ∷ before) may (inr earlier) = lacks page by above before may.1 earlier
-
-  agrees_out : (region : Region) (history : History) → SelectsBy memory addressing region → May state history → IsLeftOut false addressing region history → map.get copy (key_of region) ≡ None → Agree copy memory (key_of region)
-  agrees_out (Lower dev) history by may out held = absurd out
-  agrees_out FirstPage history by may out held = absurd out
-  agrees_out (Page page) history by may out held =
+  agrees_by : (region : Region) (half : Option (List ℕ)) → SelectsBy memory addressing region → map.get copy (key_of region) ≡ half →
+      MatchOption half (IsLeftOut false addressing region history) (λ bytes. IsRead false addressing region bytes history) → Agree copy memory (key_of region)
+  agrees_by region (Some bytes) by held read = agrees_read region bytes by (found_step _ state history may read) held
+  agrees_by (Lower dev) None by held out = absurd out
+  agrees_by FirstPage None by held out = absurd out
+  agrees_by (Page page) None by held out =
       let key = upper_key A0 0 page in
-      let none : map.get memory key ≡ None = no_half (map.contains_key memory key) (map.get memory key) refl (lacks page by out.0 history may out.1) in
+      let none : map.get memory key ≡ None = no_half (map.contains_key memory key) (map.get memory key) refl (lacks page (by refl) out.0 (found_step _ state history may out.1)) in
       ap (option_map (take 128)) (held ∙ sym none)
 
-  agrees_by : (region : Region) (history : History) (half : Option (List ℕ)) → SelectsBy memory addressing region → May state history → map.get copy (key_of region) ≡ half →
-      MatchOption half (IsLeftOut false addressing region history) (λ bytes. IsRead false addressing region bytes history) → Agree copy memory (key_of region)
-  agrees_by region history None by may held out = agrees_out region history by may out held
-  agrees_by region history (Some bytes) by may held read = agrees_read region bytes by (was_read addressing region bytes state history may read) held
+  agrees_settled : (region : Region) → SelectsBy memory addressing region → IsSettled false history copy region → Agree copy memory (key_of region)
+  agrees_settled region by settled = agrees_by region (map.get copy (key_of region)) by refl settled
 
--- ---- how its pages are selected
+  -- ---- all of them
 
-value_of_byte : (bytes : List ℕ) → slice_index bytes 0 < 256 → unsigned_abs (value_in bytes CIdentifier 1) ≡ slice_index bytes 0
-unfolding value_in
-value_of_byte bytes small = number-bits_up (byte_in bytes) 0 0 8 ∙ omega (arith, small)
-
-identifier_is : (memory : Memory) (half : List ℕ) → IsImage memory → map.get memory (lower_key A0) ≡ Some half → identifier memory ≡ slice_index half 0
-unfolding reading_at
-identifier_is memory half image has =
-    let page = half_page memory (lower_key A0) half image has in
-    ap (λ (bytes : Option (List ℕ)). unsigned_abs (unwrap_or (option_map (λ bytes. value_in bytes CIdentifier 1) bytes) (pos 0))) has ∙ value_of_byte half (page.bytes 0)
-
--- a module of this family is asked for more than its lower halves
-abbrev asks_pages : Option Family → Bool
-asks_pages (Some Cmis) = true
-asks_pages (Some Sff8636) = true
-asks_pages _ = false
-
--- and it selects pages as it is asked to
-selecting_right : (family : Option Family) → asks_pages family ≡ true → selecting_in family ≡ selecting_of (addressing_in family)
-selecting_right (Some Sff8472) asks = absurd cc
-selecting_right _ asks = refl
-
-selecting_is : (memory : Memory) (half : List ℕ) → map.get memory (lower_key A0) ≡ Some half → selecting_on memory A0 ≡ selecting_by (slice_index half 0)
-selecting_is memory half has = ap (λ (bytes : Option (List ℕ)). unwrap_or (option_map selecting_by (option_map (λ bytes. slice_index bytes 0) bytes)) (Some BankAndPage)) has
-
--- ---- all of them
-
-half_of : (half : Option (List ℕ)) → not (is_some half) ≡ false → (bytes : List ℕ) × (half ≡ Some bytes)
-half_of None e = absurd cc
-half_of (Some bytes) e = (bytes, refl)
-
-lowers_alone : (family : Option Family) (copy : Memory) → asks_pages family ≡ false → regions_in everything family copy ≡ sfp_regions everything (is_family Sff8472 family && has_diagnostics copy)
-lowers_alone (Some Cmis) copy none = absurd cc
-lowers_alone (Some Sff8636) copy none = absurd cc
-lowers_alone (Some Sff8472) copy none = refl
-lowers_alone None copy none = refl
-
-module _ (memory copy : Memory) (state : State) (history : History) (image : IsImage memory) (start : state.1 ≡ started memory) (may : May state history) where
-  agrees_settled : (region : Region) → SelectsBy memory (addressing_of copy) region → IsSettled false history copy region → Agree copy memory (key_of region)
-  agrees_settled region by settled =
-      agrees_by memory copy (addressing_of copy) state image start region history (map.get copy (key_of region)) by may refl settled
-
-  agree_all : (regions : List Region) → ((region : Region) → SelectsBy memory (addressing_of copy) region) → AllByRecursion (IsSettled false history copy) regions → KeysAgree copy memory (map key_of regions)
+  agree_all : (regions : List Region) → ((region : Region) → SelectsBy memory addressing region) → AllByRecursion (IsSettled false history copy) regions → AllByRecursion (Agree copy memory) (map key_of regions)
   agree_all [] by settled = tt
   agree_all (region ∷ regions) by settled = (agrees_settled region (by region) settled.0, agree_all regions by settled.1)
 
-  agree_lowers : (diagnosed : Bool) → AllByRecursion (IsSettled false history copy) (sfp_regions everything diagnosed) → KeysAgree copy memory (map key_of (sfp_regions everything diagnosed))
-  agree_lowers true settled = (agrees_settled (Lower A0) tt settled.0, (agrees_settled (Lower A2) tt settled.1.0, tt))
-  agree_lowers false settled = (agrees_settled (Lower A0) tt settled.0, tt)
+  agree_lowers : (diagnosed : Bool) → AllByRecursion (IsSettled false history copy) (sfp_regions everything diagnosed) → AllByRecursion (Agree copy memory) (map key_of (sfp_regions everything diagnosed))
+  agree_lowers true settled = (agrees_settled (Lower A0) (λ paged. absurd cc) settled.0, (agrees_settled (Lower A2) (λ paged. absurd cc) settled.1.0, tt))
+  agree_lowers false settled = (agrees_settled (Lower A0) (λ paged. absurd cc) settled.0, tt)
 
-  selects_all : selecting_on memory A0 ≡ selecting_of (addressing_of copy) → (region : Region) → SelectsBy memory (addressing_of copy) region
-  selects_all by (Lower dev) = tt
-  selects_all by FirstPage = tt
-  selects_all by (Page page) = by
-
-  same_selecting : Agree copy memory (lower_key A0) → is_absent memory (lower_key A0) ≡ false → asks_pages (managed_by (identifier copy)) ≡ true → selecting_on memory A0 ≡ selecting_of (addressing_of copy)
-  same_selecting low there paged =
+  same_selecting : Agree copy memory (lower_key A0) → is_absent memory (lower_key A0) ≡ false → (family : Option Family) → managed_by (identifier copy) ≡ family → selecting_in family ≡ selecting_of (addressing_in family) →
+      selecting_on memory A0 ≡ selecting_of addressing
+  same_selecting low there family is right =
       let (half, has) = half_of (map.get memory (lower_key A0)) there in
       let id : identifier copy ≡ slice_index half 0 = same_number copy memory CIdentifier low refl refl ∙ identifier_is memory half image has in
-      selecting_is memory half has ∙ ap selecting_by (sym id) ∙ selecting_right (managed_by (identifier copy)) paged
+      selecting_is memory half has ∙ ap selecting_by (sym id) ∙ ap selecting_in is ∙ right ∙ sym (ap (λ (family : Option Family). selecting_of (addressing_in family)) is)
+
+  -- all but modules of SFF-8472, which are asked for lower halves alone, select pages as they are asked to
+  agree_in : Agree copy memory (lower_key A0) → is_absent memory (lower_key A0) ≡ false → (family : Option Family) → managed_by (identifier copy) ≡ family → AllByRecursion (IsSettled false history copy) (regions_in everything family copy) →
+      AllByRecursion (Agree copy memory) (map key_of (regions_in everything family copy))
+  agree_in low there (Some Sff8472) is settled = agree_lowers (has_diagnostics copy) settled
+  agree_in low there other is settled = agree_all (regions_in everything other copy) (λ region paged. same_selecting low there other is refl) settled
 
   halves_agree : IsImageOf false everything history copy → AllAgree copy memory
   halves_agree is =
       let each = is.each in
       let first : IsSettled false history copy (Lower A0) = (subst (AllByRecursion (IsSettled false history copy)) (begins_lower everything copy) each).0 in
-      let low : Agree copy memory (lower_key A0) = agrees_settled (Lower A0) tt first in
+      let low : Agree copy memory (lower_key A0) = agrees_settled (Lower A0) (λ paged. absurd cc) first in
       let present : is_absent copy (lower_key A0) ≡ false = ap not (some_since (map.get copy (lower_key A0)) ⊥ (λ bytes. IsRead false (addressing_of copy) (Lower A0) bytes history) first (λ none. none)) in
-      let there : is_absent memory (lower_key A0) ≡ false = sym (same_absent copy memory (lower_key A0) low) ∙ present in
-      elim (cases_Bool (asks_pages (managed_by (identifier copy)))) [
-        | inl paged ↦ agree_all (regions_of everything copy) (selects_all (same_selecting low there paged)) each
-        | inr other ↦
-            let regions = lowers_alone (managed_by (identifier copy)) copy other in
-            let diagnosed = is_family Sff8472 (managed_by (identifier copy)) && has_diagnostics copy in
-            subst (λ (rs : List Region). KeysAgree copy memory (map key_of rs)) (sym regions) (agree_lowers diagnosed (subst (AllByRecursion (IsSettled false history copy)) regions each))
-      ]
+      each_agree copy memory (map key_of (regions_of everything copy))
+      (agree_in low (sym (same_absent copy memory (lower_key A0) low) ∙ present) (managed_by (identifier copy)) refl each)
 
 -- what is read over a scripted bus
 pub fetched_agree : (old new : Seen (List Directive × Windowed)) (history : History) (memory copy : Memory) → IsImage memory → old.state.1 ≡ started memory → Ran (script_rules window_conduct) old new (reverse history) →

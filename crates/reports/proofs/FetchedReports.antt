@@ -2,8 +2,7 @@
 use Rattle.module_decoding.specs.declared.report.Report.TheVariants.{Flags, Inventory, Monitors}
 use Rattle.reports.specs.SameReports.{FetchedReportsSame}
 use Rattle.reports.proofs.FetchedHalves.{fetched_agree}
-use Rattle.reports.proofs.SameApps.{same_apps}
-use Rattle.reports.proofs.SameSaid.{same_details, same_report, same_told}
+use Rattle.reports.proofs.SameSaid.{same_apps, same_details, same_report, same_told_flags}
 
 pub fetched_reports : FetchedReportsSame
 fetched_reports old new history memory copy image start ran fetching =
@@ -14,5 +13,5 @@ fetched_reports old new history memory copy image start ran fetching =
       monitors = same_report Monitors copy memory agree;
       flags = same_report Flags copy memory agree;
       details = same_details copy memory agree;
-      told = same_told copy memory agree;
+      told = same_told_flags copy memory agree;
     }

@@ -1,54 +1,59 @@
 -- Memories that agree in the halves that a report needs have the same report, and those of their family the same details.
-use Rattle.std.proofs.Common.{◌≡◌, Bool, true, false, List, [], ◌∷◌, ◌++◌, None, drop, map, refl, ap, ◌∙◌, if◌then◌else◌, ◌&&◌, ◌==◌, Option, Some}
+use Rattle.std.proofs.Common.{◌≡◌, ◌∙◌, ◌&&◌, ℕ, Bool, true, false, List, [], ◌∷◌, ◌++◌, Option, Some, None, map, refl, ap, if◌then◌else◌}
 use Rattle.std.proofs.lemmas.Bool.{and_from, not-false}
 use Rattle.std.specs.Prelude.{not}
-use Rattle.std.specs.List.{list_all}
 use Rattle.std.specs.Option.{option_or}
 use Rattle.bus_model.specs.declared.device.Dev.TheVariants.{A0, A2}
 use Rattle.paged_memory.specs.declared.family.Family.{Family}
 use Rattle.paged_memory.specs.declared.family.Family.TheVariants.{Cmis, Sff8636, Sff8472}
 use Rattle.paged_memory.specs.declared.key.Key.{Key}
+use Rattle.paged_memory.specs.Families.{family_by, is_family, is_of, managed_by}
 use Rattle.paged_memory.specs.Images.{Memory}
 use Rattle.paged_memory.specs.Keys.{lower_key, upper_key}
-use Rattle.field_tables.specs.declared.sff_fault.SffFault.{SffFault}
-use Rattle.field_tables.specs.Readings.{bit}
-use Rattle.field_tables.specs.Reasons.{Reason, judged}
-use Rattle.field_tables.proofs.SameRefusals.{AgreeInTurn, same_refusal}
-use Rattle.field_tables.proofs.SameValues.{Agree, same_absent, same_number}
-use Rattle.module_decoding.specs.declared.report.DecodeFault.TheVariants.{Sff}
-use Rattle.module_decoding.specs.declared.report.Report.{Report}
-use Rattle.module_decoding.specs.declared.report.Report.TheVariants.{Inventory, Monitors, Flags}
-use Rattle.module_decoding.specs.CmisPages.{is_flat}
-use Rattle.module_decoding.specs.Reports.{fault_in, lacked, of_sff, pages_of, sff8472_fault, sff8636_fault}
-use Rattle.module_reading.specs.Regions.{has_diagnostics}
-use Rattle.report_entries.specs.FlagRows.{flags_entry, rows_flags}
-use Rattle.report_entries.specs.Flags.{raised}
-use Rattle.report_entries.specs.Rows.{rows_entries}
-use Rattle.reports.specs.Reports.{entries_in, entries_of, flag_rows_of, flags_fault, flags_told, is_flat_in, report_fault, rows_of, said_in, told_in}
-use Rattle.reports.specs.SameReports.{IsSame}
-use Rattle.reports.proofs.SameFamilies.{AllAgree, FamilyAgrees, by_family, common_half, half, keys_by, low_agrees, none_applies, none_mapped, same_absent_page, same_flat, same_qsfp_flat, by_detail_family}
-use Rattle.reports.proofs.SameRows.{KeysAgree, is_among, flag_row_in, flag_rows_same, row_in, rows_same, each_same}
 use Rattle.field_tables.specs.declared.field.Field.TheVariants.{QFlatMemory, SAddressChange, SDiagPresent}
+use Rattle.field_tables.specs.declared.sff_fault.SffFault.{SffFault}
 use Rattle.field_tables.specs.Halves.{is_absent}
-use Rattle.module_details.specs.Details as rows_of_details
-use Rattle.module_details.specs.Families.{cmis_entries, qsfp_entries, sfp_entries, tables_entries}
-use Rattle.module_details.specs.Rows.{Row}
-use Rattle.reports.specs.declared.fault.ReportFault.{ReportFault}
-use Rattle.reports.specs.declared.fault.ReportFault.TheVariants.{Absent}
-use Rattle.reports.specs.Details.{details_entries, details_fault}
-use Rattle.reports.proofs.SameApps.{same_apps_said}
-use Rattle.reports.proofs.SameDetailRows.{detail_in, details_same}
-use Rattle.field_tables.specs.declared.field.Field.TheVariants as fields
+use Rattle.field_tables.specs.Readings.{bit}
+use Rattle.field_tables.specs.Reasons.{judged}
+use Rattle.field_tables.proofs.SameRefusals.{AgreeInTurn, same_refusal}
+use Rattle.field_tables.proofs.SameValues.{Agree}
 use Rattle.sff8472_map.specs.Refusals as sfp_refusals
 use Rattle.sff8636_map.specs.Refusals as qsfp_refusals
-use Rattle.reports.specs.FlagRows as flags
-use Rattle.reports.specs.InventoryRows as inventory
-use Rattle.reports.specs.MonitorRows as monitors
+use Rattle.applications.specs.declared.fault.AdvertFault.{AdvertFault}
+use Rattle.applications.specs.Advertised.{advertised_by}
+use Rattle.applications.specs.Refusals.{advert_fault, is_read_revision, module_reasons, page_reasons}
+use Rattle.module_decoding.specs.declared.module_family.ModuleFault.{ModuleFault}
+use Rattle.module_decoding.specs.declared.report.DecodeFault.{DecodeFault}
+use Rattle.module_decoding.specs.declared.report.DecodeFault.TheVariants.{Module, Sff}
+use Rattle.module_decoding.specs.declared.report.Report.{Report}
+use Rattle.module_decoding.specs.declared.report.Report.TheVariants.{Inventory, Monitors, Flags}
+use Rattle.module_decoding.specs.CmisPages.{absent_page, is_flat}
+use Rattle.module_decoding.specs.ModuleFamilies as families
+use Rattle.module_decoding.specs.ModuleFamilies.{family_of, identifier}
+use Rattle.module_decoding.specs.Reports.{fault_in, fault_of, lacked, of_sff, pages_of, sff8472_fault, sff8636_fault}
+use Rattle.module_reading.specs.Regions.{has_diagnostics}
+use Rattle.module_details.specs.AppDetails as app_details
 use Rattle.module_details.specs.CmisDetails as cmis
 use Rattle.module_details.specs.QsfpDetails as qsfp
 use Rattle.module_details.specs.SfpDetails as sfp
+use Rattle.module_details.specs.Families.{cmis_entries, qsfp_entries, sfp_entries, tables_entries}
+use Rattle.report_entries.specs.FlagRows.{flags_entry, rows_flags}
+use Rattle.report_entries.specs.Flags.{raised}
+use Rattle.report_entries.specs.Rows.{rows_entries}
+use Rattle.reports.specs.declared.fault.ReportFault.TheVariants.{Absent, Advert}
+use Rattle.reports.specs.Apps.{apps_entries, apps_fault}
 use Rattle.reports.specs.Details as details
 use Rattle.reports.specs.Families as refusals
+use Rattle.reports.specs.FlagRows as flags
+use Rattle.reports.specs.InventoryRows as inventory
+use Rattle.reports.specs.MonitorRows as monitors
+use Rattle.reports.specs.Reports.{entries_in, entries_of, flag_rows_of, flags_fault, flags_told, is_flat_in, report_fault, rows_of, said_in, told_in}
+use Rattle.reports.specs.SameReports.{IsSame}
+use Rattle.reports.proofs.SameApps.{advertised_same, details_of, details_same}
+use Rattle.reports.proofs.SameDetailRows.{tables_same}
+use Rattle.reports.proofs.SameFamilies.{AllAgree, FamilyAgrees, by_told, family_agrees, is_managed, keys_by, low_agrees, none_applies, none_mapped, same_found, same_renamed, same_told}
+use Rattle.reports.proofs.SameIf.{KeysAgree, SameIf, absent_read, and_if, by, each_agree, first, is_among}
+use Rattle.reports.proofs.SameRows.{flag_rows_same, rows_same}
 
 -- ---- the halves that rows read
 
@@ -59,33 +64,40 @@ keys_of Sff8636 report flat = keys_by Sff8636 flat
 keys_of Sff8472 Inventory flat = lower_key A0 ∷ []
 keys_of Sff8472 report flat = keys_by Sff8472 true
 
-lines_in : (report : Report) (family : Family) (flat : Bool) → list_all (row_in flat (keys_of family report flat)) (rows_of report family) ≡ true
-unfolding inventory.cmis_rows monitors.cmis_rows flags.state_rows inventory.qsfp_rows inventory.sfp_rows monitors.qsfp_rows monitors.sfp_rows
-lines_in Inventory Cmis true = refl
-lines_in Inventory Sff8636 true = refl
-lines_in Monitors Cmis true = refl
-lines_in Monitors Sff8636 true = refl
-lines_in Flags Cmis true = refl
-lines_in _ _ _ = refl
+module _ {a b : Memory} where
+  lines_in : (report : Report) (family : Family) (flat : Bool) (agree : KeysAgree a b (keys_of family report flat)) → (rows_same agree flat (rows_of report family)).test ≡ true
+  unfolding rows_same inventory.cmis_rows monitors.cmis_rows flags.state_rows inventory.qsfp_rows inventory.sfp_rows monitors.qsfp_rows monitors.sfp_rows
+  lines_in Inventory Cmis true agree = refl
+  lines_in Inventory Sff8636 true agree = refl
+  lines_in Monitors Cmis true agree = refl
+  lines_in Monitors Sff8636 true agree = refl
+  lines_in Flags Cmis true agree = refl
+  lines_in _ _ _ agree = refl
 
-flags_in : (family : Family) (flat : Bool) → list_all (flag_row_in flat (keys_of family Flags flat)) (flag_rows_of family) ≡ true
-unfolding flags.cmis_rows flags.qsfp_rows flags.sfp_rows
-flags_in Cmis true = refl
-flags_in Sff8636 true = refl
-flags_in _ _ = refl
+  flags_in : (family : Family) (flat : Bool) (agree : KeysAgree a b (keys_of family Flags flat)) → (flag_rows_same agree flat (flag_rows_of family)).test ≡ true
+  unfolding flag_rows_same flags.cmis_rows flags.qsfp_rows flags.sfp_rows
+  flags_in Cmis true agree = refl
+  flags_in Sff8636 true agree = refl
+  flags_in _ _ agree = refl
 
-pages_in : (report : Report) (flat : Bool) → list_all (λ page. is_among (keys_by Cmis flat) (upper_key A0 0 page)) (pages_of report flat) ≡ true
-pages_in Inventory true = refl
-pages_in Monitors true = refl
-pages_in Flags true = refl
-pages_in _ _ = refl
+  -- pages that a CMIS module needs
+  abbrev pages_same : {keys : List Key} → KeysAgree a b keys → (pages : List ℕ) → SameIf (absent_page pages a) (absent_page pages b)
+  unfolding absent_page
+  pages_same agree pages = first (is_absent a) (is_absent b) (absent_read agree) (map (λ (page : ℕ). upper_key A0 0 page) pages)
+
+  pages_in : (report : Report) (flat : Bool) (agree : KeysAgree a b (keys_by Cmis flat)) → (pages_same agree (pages_of report flat)).test ≡ true
+  unfolding pages_same
+  pages_in Inventory true agree = refl
+  pages_in Monitors true agree = refl
+  pages_in Flags true agree = refl
+  pages_in _ _ agree = refl
 
 -- ---- what reports say
 
 module _ (a b : Memory) (low : Agree a b (lower_key A0)) where
   flat_same : (family : Family) → is_flat_in family a ≡ is_flat_in family b
-  flat_same Cmis = same_flat a b low
-  flat_same Sff8636 = same_qsfp_flat a b low
+  flat_same Cmis = same_told a b low Cmis
+  flat_same Sff8636 = same_told a b low Sff8636
   flat_same Sff8472 = refl
 
   abbrev ReportAgrees : Report → Family → Type 0
@@ -94,13 +106,13 @@ module _ (a b : Memory) (low : Agree a b (lower_key A0)) where
   lines_same : (report : Report) (family : Family) → ReportAgrees report family → said_in report family a ≡ said_in report family b
   lines_same report family agree =
       let flat = is_flat_in family a in
-      rows_same a b (keys_of family report flat) agree flat (rows_of report family) (lines_in report family flat)
+      (rows_same agree flat (rows_of report family)).same (lines_in report family flat agree)
       ∙ ap (λ (flat : Bool). rows_entries b flat (rows_of report family)) (flat_same family)
 
   told_same : (family : Family) → ReportAgrees Flags family → told_in family a ≡ told_in family b
   told_same family agree =
       let flat = is_flat_in family a in
-      flag_rows_same a b (keys_of family Flags flat) agree flat (flag_rows_of family) (flags_in family flat)
+      (flag_rows_same agree flat (flag_rows_of family)).same (flags_in family flat agree)
       ∙ ap (λ (flat : Bool). rows_flags b flat (flag_rows_of family)) (flat_same family)
 
   said_same : (report : Report) (family : Family) → ReportAgrees report family → entries_in report family a ≡ entries_in report family b
@@ -110,154 +122,130 @@ module _ (a b : Memory) (low : Agree a b (lower_key A0)) where
 
   -- ---- why there is none
 
-  module _ (agree : FamilyAgrees a b Sff8636) where
-    pub same_qsfp_fault : qsfp_refusals.identity_fault a ≡ qsfp_refusals.identity_fault b
-    unfolding qsfp_refusals.identity_fault
-    same_qsfp_fault = same_refusal a b qsfp_refusals.identity_reasons refl (low, λ here. (low, λ of. (common_half a b Sff8636 agree (upper_key A0 0 0x00) refl refl, λ there. tt)))
-
-    same_qsfp_module : qsfp_refusals.module_fault a ≡ qsfp_refusals.module_fault b
-    unfolding qsfp_refusals.module_fault
-    same_qsfp_module = same_refusal a b qsfp_refusals.module_reasons refl (low, λ here. (low, λ of. tt))
-
-    same_threshold_fault : qsfp_refusals.threshold_fault a ≡ qsfp_refusals.threshold_fault b
-    unfolding qsfp_refusals.threshold_fault
-    same_threshold_fault =
-        same_refusal a b qsfp_refusals.threshold_reasons refl (low, λ here. (low, λ of. (low, λ paged. (half a b Sff8636 agree false paged (upper_key A0 0 0x03) refl, λ there. tt))))
-
-    same_measured : qsfp_refusals.measured_fault a ≡ qsfp_refusals.measured_fault b
-    unfolding qsfp_refusals.measured_fault
-    same_measured = λ i. option_or (same_qsfp_module i) (if same_qsfp_flat a b low i then None else same_threshold_fault i)
-
-    same_qsfp_faults : (report : Report) → sff8636_fault report a ≡ sff8636_fault report b
-    same_qsfp_faults Inventory = same_qsfp_fault
-    same_qsfp_faults Monitors = same_measured
-    same_qsfp_faults Flags = same_qsfp_module
+  same_qsfp_faults : FamilyAgrees a b Sff8636 → (report : Report) → sff8636_fault report a ≡ sff8636_fault report b
+  unfolding qsfp_refusals.identity_fault qsfp_refusals.module_fault qsfp_refusals.threshold_fault qsfp_refusals.measured_fault
+  same_qsfp_faults agree Inventory =
+      let zeroth = (agree (bit a QFlatMemory) refl).half (upper_key A0 0 0x00) (has_zeroth (bit a QFlatMemory)) in
+      same_refusal a b qsfp_refusals.identity_reasons refl (low, λ here. (low, λ of. (zeroth, λ there. tt))) where
+        has_zeroth : (flat : Bool) → is_among (keys_by Sff8636 flat) (upper_key A0 0 0x00) ≡ true
+        has_zeroth true = refl
+        has_zeroth false = refl
+  same_qsfp_faults agree Flags = same_refusal a b qsfp_refusals.module_reasons refl (low, λ here. (low, λ of. tt))
+  same_qsfp_faults agree Monitors =
+      let limits = same_refusal a b qsfp_refusals.threshold_reasons refl (low, λ here. (low, λ of. (low, λ paged. ((agree false paged).half (upper_key A0 0 0x03) refl, λ there. tt)))) in
+      let module_fault = same_refusal a b qsfp_refusals.module_reasons refl (low, λ here. (low, λ of. tt)) in
+      λ i. option_or (module_fault i) (if same_told a b low Sff8636 i then None else limits i)
 
   -- diagnostics are there, and can be read without an address change
-  are_diagnosed : not (bit a fields.SDiagPresent) ≡ false → bit a fields.SAddressChange ≡ false → has_diagnostics a ≡ true
-  are_diagnosed present unchanged =
-      and_from (bit a fields.SDiagPresent) (not (bit a fields.SAddressChange)) (not-false (bit a fields.SDiagPresent) present) (ap not unchanged)
+  are_diagnosed : not (bit a SDiagPresent) ≡ false → bit a SAddressChange ≡ false → has_diagnostics a ≡ true
+  are_diagnosed present unchanged = and_from (bit a SDiagPresent) (not (bit a SAddressChange)) (not-false (bit a SDiagPresent) present) (ap not unchanged)
 
   module _ (agree : FamilyAgrees a b Sff8472) where
-    diagnostics : has_diagnostics a ≡ true → Agree a b (lower_key A2)
-    diagnostics has = half a b Sff8472 agree true has (lower_key A2) refl
-
-    -- the halves agree that are looked at in turn until diagnostics are found, and for what comes then
-    agree_diagnosed : (later : List (Reason SffFault)) → (has_diagnostics a ≡ true → AgreeInTurn a b later) → AgreeInTurn a b (sfp_refusals.diagnostics_reasons ++ later)
-    agree_diagnosed later after = (low, λ here. (low, λ of. (low, λ present. (low, λ unchanged. after (are_diagnosed present unchanged)))))
-
-    pub same_sfp_fault : sfp_refusals.module_fault a ≡ sfp_refusals.module_fault b
-    unfolding sfp_refusals.module_fault
-    same_sfp_fault = same_refusal a b sfp_refusals.module_reasons refl (low, λ here. (low, λ of. tt))
+    diagnostics : not (bit a SDiagPresent) ≡ false → bit a SAddressChange ≡ false → Agree a b (lower_key A2)
+    diagnostics present unchanged = (agree true (are_diagnosed present unchanged)).half (lower_key A2) refl
 
     same_sfp_faults : (report : Report) → sff8472_fault report a ≡ sff8472_fault report b
-    unfolding sfp_refusals.measured_fault sfp_refusals.flags_fault
-    same_sfp_faults Inventory = same_sfp_fault
+    unfolding sfp_refusals.module_fault sfp_refusals.measured_fault sfp_refusals.flags_fault
+    same_sfp_faults Inventory = same_refusal a b sfp_refusals.module_reasons refl (low, λ here. (low, λ of. tt))
     same_sfp_faults Monitors =
-        same_refusal a b sfp_refusals.measured_reasons refl (agree_diagnosed (drop 4 sfp_refusals.measured_reasons) (λ has. (low, λ internal. (diagnostics has, λ there. tt))))
-    same_sfp_faults Flags = same_refusal a b sfp_refusals.flags_reasons refl (agree_diagnosed (drop 4 sfp_refusals.flags_reasons) (λ has. (diagnostics has, λ there. tt)))
+        same_refusal a b sfp_refusals.measured_reasons refl
+        (low, λ here. (low, λ of. (low, λ present. (low, λ unchanged. (low, λ internal. (diagnostics present unchanged, λ there. tt))))))
+    same_sfp_faults Flags =
+        same_refusal a b sfp_refusals.flags_reasons refl (low, λ here. (low, λ of. (low, λ present. (low, λ unchanged. (diagnostics present unchanged, λ there. tt)))))
 
     sfp_agrees : (report : Report) → sff8472_fault report a ≡ None → ReportAgrees report Sff8472
     unfolding sfp_refusals.measured_fault sfp_refusals.flags_fault
-    sfp_agrees Inventory none = (low, tt)
+    sfp_agrees Inventory none = each_agree a b (lower_key A0 ∷ []) (low, tt)
     sfp_agrees Monitors none = let applies = none_applies (map (judged a) sfp_refusals.measured_reasons) none in agree true (are_diagnosed applies.1.1.0 applies.1.1.1.0)
     sfp_agrees Flags none = let applies = none_applies (map (judged a) sfp_refusals.flags_reasons) none in agree true (are_diagnosed applies.1.1.0 applies.1.1.1.0)
 
   -- ---- by family
 
   faults_same : (report : Report) (family : Family) → FamilyAgrees a b family → fault_in report family a ≡ fault_in report family b
-  faults_same report Cmis agree = ap lacked (same_absent_page a b low agree (pages_of report) (pages_in report))
+  faults_same report Cmis agree =
+      ap lacked (by_told a b low Cmis (λ flat m. absent_page (pages_of report flat) m) agree (λ flat agree. pages_same agree (pages_of report flat)) (pages_in report true) (pages_in report false))
   faults_same report Sff8636 agree = ap of_sff (same_qsfp_faults agree report)
   faults_same report Sff8472 agree = ap of_sff (same_sfp_faults agree report)
 
   report_agrees : (report : Report) (family : Family) → FamilyAgrees a b family → fault_in report family a ≡ None → ReportAgrees report family
   report_agrees report Cmis agree none = agree (is_flat a) refl
-  report_agrees report Sff8636 agree none = agree (bit a fields.QFlatMemory) refl
+  report_agrees report Sff8636 agree none = agree (bit a QFlatMemory) refl
   report_agrees report Sff8472 agree none = sfp_agrees agree report (none_mapped (λ (f : SffFault). Sff f) (sff8472_fault report a) none)
+
+-- what is the same of each family, if its halves agree, is the same of any
+by_family : {A : Type 0} (report : Report) (said : Family → Memory → A) (a b : Memory) → AllAgree a b → ((low : Agree a b (lower_key A0)) (family : Family) → ReportAgrees a b low report family → said family a ≡ said family b)
+    → IsSame (report_fault report) (λ m. said (family_of m) m) a b
+unfolding report_fault fault_of families.module_fault family_of
+by_family report said a b all each =
+    let low = low_agrees a b all in
+    same_renamed (λ (fault : DecodeFault). refusals.reported fault) (fault_of report) (λ m. said (family_of m) m) a b
+    (same_found family_by is_read_revision (λ (fault : ModuleFault). Module fault) (fault_in report) said a b all is_managed
+    (λ family agree. record { fault = faults_same a b low report family agree; said = λ none. each low family (report_agrees a b low report family agree none) }))
 
 pub same_report : (report : Report) (a b : Memory) → AllAgree a b → IsSame (report_fault report) (entries_of report) a b
 unfolding entries_of
-same_report report a b all =
-    let low = low_agrees a b all in
-    by_family (entries_in report) a b all report
-    (λ family agree. record { fault = faults_same a b low report family agree; said = λ none. said_same a b low report family (report_agrees a b low report family agree none) })
+same_report report a b all = by_family report (entries_in report) a b all (λ low family agree. said_same a b low report family agree)
 
-pub same_told : (a b : Memory) → AllAgree a b → IsSame flags_fault flags_told a b
+pub same_told_flags : (a b : Memory) → AllAgree a b → IsSame flags_fault flags_told a b
 unfolding flags_told
-same_told a b all =
+same_told_flags a b all = by_family Flags told_in a b all (λ low family agree. told_same a b low family agree)
+
+-- ---- what a module advertises
+
+is_cmis : (family : Option Family) → is_family Cmis family ≡ true → family ≡ Some Cmis
+is_cmis (Some Cmis) e = refl
+is_cmis _ e = absurd cc
+
+-- no fault is left only of a paged CMIS module
+pub same_apps : (a b : Memory) → AllAgree a b → IsSame apps_fault (λ (m : Memory). apps_entries (advertised_by m)) a b
+unfolding advert_fault advertised_same
+same_apps a b all =
     let low = low_agrees a b all in
-    by_family told_in a b all Flags
-    (λ family agree. record { fault = faults_same a b low Flags family agree; said = λ none. told_same a b low family (report_agrees a b low Flags family agree none) })
+    same_renamed (λ (fault : AdvertFault). Advert fault) advert_fault (λ (m : Memory). apps_entries (advertised_by m)) a b (record {
+      fault = same_refusal a b (module_reasons ++ page_reasons) refl (low, λ here. (low, λ of. (low, λ read. (low, λ lanes. (low, λ paged. pages_agree (paged_agree of paged))))));
+      said = λ none.
+          let applies = none_applies (map (judged a) (module_reasons ++ page_reasons)) none in
+          ap apps_entries ((advertised_same (paged_agree applies.1.0 applies.1.1.1.1.0)).same refl);
+    }) where
+      paged_agree : not (is_of Cmis (identifier a)) ≡ false → is_flat a ≡ false → KeysAgree a b (keys_by Cmis false)
+      paged_agree of paged =
+          let cmis = is_cmis (family_by (identifier a)) (not-false (is_of Cmis (identifier a)) of) in
+          family_agrees a b Cmis (is_managed (identifier a) Cmis cmis) all false paged
 
--- ---- the tables of details
+      pages_agree : KeysAgree a b (keys_by Cmis false) → AgreeInTurn a b page_reasons
+      pages_agree agree =
+          let zeroth = agree.half (upper_key A0 0 0x00) refl in
+          let first = agree.half (upper_key A0 0 0x01) refl in
+          (zeroth, λ there. (first, λ both. (zeroth, λ right. (first, λ rights. tt))))
 
-abbrev tables_in : Bool → List Key → List (List Row) → Bool
-tables_in flat keys tables = list_all (λ rows. list_all (detail_in flat keys) rows) tables
-
-tables_same : (a b : Memory) (keys : List Key) → KeysAgree a b keys → (flat : Bool) (tables : List (List Row)) → tables_in flat keys tables ≡ true → tables_entries a flat tables ≡ tables_entries b flat tables
-tables_same a b keys all flat tables e = each_same (rows_of_details.rows_entries a flat) (rows_of_details.rows_entries b flat) (λ rows. list_all (detail_in flat keys) rows) (details_same a b keys all flat) tables e
-
-cmis_in : (flat : Bool) → tables_in flat (keys_by Cmis flat) cmis.tables_of_rows ≡ true
-unfolding cmis.identity_rows cmis.characteristics_rows cmis.controls_rows cmis.status_rows cmis.lanes_rows
-cmis_in true = refl
-cmis_in false = refl
-
-qsfp_in : (flat : Bool) → tables_in false (keys_by Sff8636 flat) qsfp.tables_of_rows ≡ true
-unfolding qsfp.identity_rows qsfp.compliance_rows qsfp.options_rows qsfp.status_rows
-qsfp_in true = refl
-qsfp_in false = refl
-
-sfp_in : (diagnosed : Bool) → tables_in (not diagnosed) (keys_by Sff8472 diagnosed) sfp.tables_of_rows ≡ true
-unfolding sfp.identity_rows sfp.compliance_rows sfp.options_rows sfp.status_rows sfp.calibrated_rows
-sfp_in true = refl
-sfp_in false = refl
-
--- ---- details by family
+-- ---- details
 
 module _ (a b : Memory) (low : Agree a b (lower_key A0)) where
-  same_cmis : FamilyAgrees a b Cmis → cmis_entries a ≡ cmis_entries b
-  unfolding cmis_entries
-  same_cmis agree =
-      let flat = is_flat a in
-      let rows = tables_same a b (keys_by Cmis flat) (agree flat refl) flat cmis.tables_of_rows (cmis_in flat) ∙ ap (λ (flat : Bool). tables_entries b flat cmis.tables_of_rows) (same_flat a b low) in
-      λ i. rows i ++ same_apps_said a b agree i
+  details_said_same : (family : Family) → FamilyAgrees a b family → details.entries_in family a ≡ details.entries_in family b
+  unfolding app_details.apps_entries details_same cmis_entries qsfp_entries sfp_entries tables_same cmis.identity_rows cmis.characteristics_rows cmis.controls_rows cmis.status_rows cmis.lanes_rows qsfp.identity_rows qsfp.compliance_rows qsfp.options_rows qsfp.status_rows sfp.identity_rows sfp.compliance_rows sfp.options_rows sfp.status_rows sfp.calibrated_rows
+  details_said_same Cmis agree =
+      let rows = by_told a b low Cmis (λ flat m. tables_entries m flat cmis.tables_of_rows) agree (λ flat agree. tables_same agree flat cmis.tables_of_rows) (λ agree. refl) (λ agree. refl) in
+      let apps = by_told a b low Cmis (λ flat m. details_of m flat) agree (λ flat agree. details_same agree flat) (λ agree. refl) (λ agree. refl) in
+      λ i. rows i ++ apps i
+  details_said_same Sff8636 agree =
+      by_told a b low Sff8636 (λ flat m. tables_entries m false qsfp.tables_of_rows) agree (λ flat agree. tables_same agree false qsfp.tables_of_rows) (λ agree. refl) (λ agree. refl)
+  details_said_same Sff8472 agree =
+      by_told a b low Sff8472 (λ told m. tables_entries m (not told) sfp.tables_of_rows) agree (λ told agree. tables_same agree (not told) sfp.tables_of_rows) (λ agree. refl) (λ agree. refl)
 
-  same_qsfp : FamilyAgrees a b Sff8636 → qsfp_entries a ≡ qsfp_entries b
-  unfolding qsfp_entries
-  same_qsfp agree = let flat = bit a QFlatMemory in tables_same a b (keys_by Sff8636 flat) (agree flat refl) false qsfp.tables_of_rows (qsfp_in flat)
+  details_fault_same : (family : Family) → FamilyAgrees a b family → details.fault_in family a ≡ details.fault_in family b
+  unfolding pages_same
+  details_fault_same Cmis agree =
+      let pages : Bool → List ℕ = λ flat. if flat then 0x00 ∷ [] else 0x00 ∷ 0x01 ∷ 0x11 ∷ [] in
+      ap refusals.lacks (by_told a b low Cmis (λ flat m. absent_page (pages flat) m) agree (λ flat agree. pages_same agree (pages flat)) (λ agree. refl) (λ agree. refl))
+  details_fault_same Sff8636 agree = ap refusals.of_sff (same_qsfp_faults a b low agree Inventory)
+  details_fault_same Sff8472 agree =
+      let absent = by_told a b low Sff8472 (λ told m. if not (not told) && is_absent m (lower_key A2) then Some (Absent (lower_key A2)) else None) agree
+      (λ told agree. by (λ lacking. if lacking then Some (Absent (lower_key A2)) else None) (and_if (not (not told)) (absent_read agree (lower_key A2)))) (λ agree. refl) (λ agree. refl) in
+      λ i. option_or (refusals.of_sff (same_sfp_faults a b low agree Inventory i)) (absent i)
 
-  same_diagnosed : has_diagnostics a ≡ has_diagnostics b
-  same_diagnosed =
-      λ i. (same_number a b SDiagPresent low refl refl i == 1) && not (same_number a b SAddressChange low refl refl i == 1)
-
-  same_sfp : FamilyAgrees a b Sff8472 → sfp_entries a ≡ sfp_entries b
-  unfolding sfp_entries
-  same_sfp agree =
-      let diagnosed = has_diagnostics a in
-      tables_same a b (keys_by Sff8472 diagnosed) (agree diagnosed refl) (not diagnosed) sfp.tables_of_rows (sfp_in diagnosed)
-      ∙ ap (λ (diagnosed : Bool). tables_entries b (not diagnosed) sfp.tables_of_rows) same_diagnosed
-
-  abbrev lacking_fault : Bool → Bool → Option ReportFault
-  lacking_fault diagnosed absent = if not (not diagnosed) && absent then Some (Absent (lower_key A2)) else None
-
-  same_absent_diagnostics : FamilyAgrees a b Sff8472 → (diagnosed : Bool) → has_diagnostics a ≡ diagnosed → lacking_fault diagnosed (is_absent a (lower_key A2)) ≡ lacking_fault diagnosed (is_absent b (lower_key A2))
-  same_absent_diagnostics agree true is = ap (lacking_fault true) (same_absent a b (lower_key A2) (half a b Sff8472 agree true is (lower_key A2) refl))
-  same_absent_diagnostics agree false is = refl
-
-  same_in : (family : Family) → FamilyAgrees a b family → IsSame (details.fault_in family) (details.entries_in family) a b
-  same_in Cmis agree = record {
-    fault = ap refusals.lacks (same_absent_page a b low agree (λ flat. if flat then 0x00 ∷ [] else 0x00 ∷ 0x01 ∷ 0x11 ∷ []) detail_pages_in);
-    said = λ none. same_cmis agree;
-  } where
-    detail_pages_in : (flat : Bool) → list_all (λ page. is_among (keys_by Cmis flat) (upper_key A0 0 page)) (if flat then 0x00 ∷ [] else 0x00 ∷ 0x01 ∷ 0x11 ∷ []) ≡ true
-    detail_pages_in true = refl
-    detail_pages_in false = refl
-  same_in Sff8636 agree = record { fault = ap refusals.of_sff (same_qsfp_fault a b low agree); said = λ none. same_qsfp agree }
-  same_in Sff8472 agree =
-      let module_fault = ap refusals.of_sff (same_sfp_fault a b low agree) in
-      let absent = same_absent_diagnostics agree (has_diagnostics a) refl ∙ ap (λ (diagnosed : Bool). lacking_fault diagnosed (is_absent b (lower_key A2))) same_diagnosed in
-      record { fault = λ i. option_or (module_fault i) (absent i); said = λ none. same_sfp agree }
-
-pub same_details : (a b : Memory) → AllAgree a b → IsSame details_fault details_entries a b
-unfolding details_fault details_entries
-same_details a b all = by_detail_family details.entries_in a b all details.fault_in (same_in a b (low_agrees a b all))
+pub same_details : (a b : Memory) → AllAgree a b → IsSame details.details_fault details.details_entries a b
+unfolding details.details_fault details.details_entries refusals.detail_fault families.detail_fault families.detail_family_of
+same_details a b all =
+    let low = low_agrees a b all in
+    same_found managed_by families.is_detail_revision (λ (fault : ModuleFault). refusals.unread fault) details.fault_in details.entries_in a b all (λ id family is. is)
+    (λ family agree. record { fault = details_fault_same a b low family agree; said = λ none. details_said_same a b low family agree })

@@ -1,5 +1,5 @@
 ghost use Rattle.std.specs.Prelude.{◌≡◌};
-ghost use Rattle.reports.specs.declared.fault.ReportFault.TheVariants.{Memory, Sff};
+ghost use Rattle.reports.specs.declared.fault.ReportFault.TheVariants.{Memory};
 
 use applications::AdvertFault;
 use bus_model::BusFault;
@@ -36,14 +36,6 @@ impl From<AllocError> for ReportFault {
 
     fn from(_error: AllocError) -> ReportFault {
         ReportFault::Memory
-    }
-}
-
-impl From<SffFault> for ReportFault {
-    ghost from_gives = { λ refused fault. fault ≡ Sff refused };
-
-    fn from(fault: SffFault) -> ReportFault {
-        ReportFault::Sff(fault)
     }
 }
 

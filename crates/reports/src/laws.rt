@@ -12,6 +12,7 @@ pub fn what_is_fetched_has_the_reports_of_the_module()
 {}
 
 /// No key stands twice in what the rows of a module's details say.
+#[tactic(auto, using(crate::proofs::UniqueDetails::details_have_unique_keys))]
 pub fn no_detail_has_a_key_twice()
     ensures { DetailsHaveUniqueKeys }
 {}

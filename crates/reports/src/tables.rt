@@ -5,9 +5,7 @@ ghost use Rattle.std.specs.List.{list_all};
 ghost use Rattle.report_entries.specs.FlagRows.{flag_row_fits};
 ghost use Rattle.report_entries.specs.RowTables.{rows_in};
 ghost use Rattle.report_entries.specs.Rows.{row_fits};
-ghost use Rattle.reports.specs.FlagRows as spec_flags;
 ghost use Rattle.reports.specs.InventoryRows as spec_inventory;
-ghost use Rattle.reports.specs.MonitorRows as spec_monitors;
 ghost use Rattle.reports.specs.Reports.{flag_rows_of, rows_of};
 
 use field_tables::{Field, Sum, TextField};
@@ -18,6 +16,7 @@ use report_entries::{
 };
 
 /// The lines of a report of a module of this family; of flags, those before them.
+#[tactic(auto, unfolding(crate::specs::MonitorRows::cmis_rows, crate::specs::MonitorRows::qsfp_rows, crate::specs::MonitorRows::sfp_rows, crate::specs::FlagRows::state_rows))]
 pub fn rows(report: Report, family: Family) -> &'static [Line]
     ensures rows { rows_in result.now ≡ rows_of report family }
     ensures fit { IsTrue (list_all row_fits (rows_in result.now)) }
@@ -26,24 +25,12 @@ pub fn rows(report: Report, family: Family) -> &'static [Line]
         (Report::Inventory, Family::Cmis) => cmis_inventory_lines(),
         (Report::Inventory, Family::Sff8636) => qsfp_inventory_lines(),
         (Report::Inventory, Family::Sff8472) => sfp_inventory_lines(),
-        (Report::Monitors, Family::Cmis) => cmis_monitors(),
-        (Report::Monitors, Family::Sff8636) => qsfp_monitors(),
-        (Report::Monitors, Family::Sff8472) => sfp_monitors(),
-        (Report::Flags, Family::Cmis) => cmis_states(),
+        (Report::Monitors, Family::Cmis) => CMIS_MONITORS,
+        (Report::Monitors, Family::Sff8636) => QSFP_MONITORS,
+        (Report::Monitors, Family::Sff8472) => SFP_MONITORS,
+        (Report::Flags, Family::Cmis) => CMIS_STATES,
         (Report::Flags, Family::Sff8636) => &[],
         (Report::Flags, Family::Sff8472) => &[],
-    }
-}
-
-/// The flags of a module of this family.
-pub fn flag_rows(family: Family) -> &'static [FlagRow]
-    ensures rows { result.now ≡ flag_rows_of family }
-    ensures fit { IsTrue (list_all flag_row_fits result.now) }
-{
-    match family {
-        Family::Cmis => cmis_flags(),
-        Family::Sff8636 => qsfp_flags(),
-        Family::Sff8472 => sfp_flags(),
     }
 }
 
@@ -131,6 +118,7 @@ pub fn cmis_inventory_lines() -> &'static [Line]
     CMIS_INVENTORY
 }
 
+// What a CMIS module measures.
 const CMIS_MONITORS: &[Line] = line_table! {
     "temperature": [Amount CTemperature];
     "temperature-limits": [Limits CTempLimits] paged;
@@ -145,15 +133,6 @@ const CMIS_MONITORS: &[Line] = line_table! {
     "sum-02h": [Right CSum02] paged;
 };
 
-// What a CMIS module measures.
-#[tactic(auto, unfolding(crate::specs::MonitorRows::cmis_rows))]
-fn cmis_monitors() -> &'static [Line]
-    ensures rows { rows_in result.now ≡ spec_monitors.cmis_rows }
-    ensures fit { IsTrue (list_all row_fits (rows_in result.now)) }
-{
-    CMIS_MONITORS
-}
-
 const QSFP_INVENTORY: &[Line] = sff_inventory! {
     "SFF-8636": QIdentifier QConnector QOui, QSumBase QSumExt, QVendor QPart QPartRevision QSerial QDate
 };
@@ -167,6 +146,7 @@ pub fn qsfp_inventory_lines() -> &'static [Line]
     QSFP_INVENTORY
 }
 
+// What a module of SFF-8636 measures.
 const QSFP_MONITORS: &[Line] = line_table! {
     "temperature": [Amount QTemperature];
     "temperature-limits": [Limits QTempLimits] paged;
@@ -179,15 +159,6 @@ const QSFP_MONITORS: &[Line] = line_table! {
     "rx-power": [Lanes QRxPower];
     "rx-power-limits": [Limits QRxPowerLimits] paged;
 };
-
-// What a module of SFF-8636 measures.
-#[tactic(auto, unfolding(crate::specs::MonitorRows::qsfp_rows))]
-fn qsfp_monitors() -> &'static [Line]
-    ensures rows { rows_in result.now ≡ spec_monitors.qsfp_rows }
-    ensures fit { IsTrue (list_all row_fits (rows_in result.now)) }
-{
-    QSFP_MONITORS
-}
 
 const SFP_INVENTORY: &[Line] = sff_inventory! {
     "SFF-8472": SIdentifier SConnector SOui, SSumBase SSumExt, SVendor SPart SPartRevision SSerial SDate
@@ -202,6 +173,7 @@ pub fn sfp_inventory_lines() -> &'static [Line]
     SFP_INVENTORY
 }
 
+// What a module of SFF-8472 measures.
 const SFP_MONITORS: &[Line] = line_table! {
     "temperature": [Amount STemperature];
     "temperature-limits": [Limits STempLimits];
@@ -216,28 +188,11 @@ const SFP_MONITORS: &[Line] = line_table! {
     "sum-a2": [Right SSumDmi];
 };
 
-// What a module of SFF-8472 measures.
-#[tactic(auto, unfolding(crate::specs::MonitorRows::sfp_rows))]
-fn sfp_monitors() -> &'static [Line]
-    ensures rows { rows_in result.now ≡ spec_monitors.sfp_rows }
-    ensures fit { IsTrue (list_all row_fits (rows_in result.now)) }
-{
-    SFP_MONITORS
-}
-
+// The states of a CMIS module and of its lanes.
 const CMIS_STATES: &[Line] = line_table! {
     "state": [State CModuleState];
     "lane": [LaneStates CPathStates CConfigStatus] paged;
 };
-
-// The states of a CMIS module and of its lanes.
-#[tactic(auto, unfolding(crate::specs::FlagRows::state_rows))]
-fn cmis_states() -> &'static [Line]
-    ensures rows { rows_in result.now ≡ spec_flags.state_rows }
-    ensures fit { IsTrue (list_all row_fits (rows_in result.now)) }
-{
-    CMIS_STATES
-}
 
 macro_rules! flag_name {
     ($condition:ident) => { FlagName::Holds(Condition::$condition) };
@@ -261,112 +216,92 @@ macro_rules! flag_table {
     };
 }
 
-const CMIS_FLAGS: &[FlagRow] = flag_table! {
-    Temperature HighAlarm: [CModuleFlag 1];
-    Temperature LowAlarm: [CModuleFlag 2];
-    Temperature HighWarning: [CModuleFlag 3];
-    Temperature LowWarning: [CModuleFlag 4];
-    Vcc HighAlarm: [CModuleFlag 5];
-    Vcc LowAlarm: [CModuleFlag 6];
-    Vcc HighWarning: [CModuleFlag 7];
-    Vcc LowWarning: [CModuleFlag 8];
-    PathStateChanged: [CPathStateChanged lanes] paged;
-    TxFailure: [CTxFailure lanes] paged;
-    TxLos: [CTxLos lanes] paged;
-    TxLol: [CTxLol lanes] paged;
-    TxEqFail: [CTxEqFail lanes] paged;
-    TxPower HighAlarm: [CTxPowerHighAlarm lanes] paged;
-    TxPower LowAlarm: [CTxPowerLowAlarm lanes] paged;
-    TxPower HighWarning: [CTxPowerHighWarning lanes] paged;
-    TxPower LowWarning: [CTxPowerLowWarning lanes] paged;
-    TxBias HighAlarm: [CTxBiasHighAlarm lanes] paged;
-    TxBias LowAlarm: [CTxBiasLowAlarm lanes] paged;
-    TxBias HighWarning: [CTxBiasHighWarning lanes] paged;
-    TxBias LowWarning: [CTxBiasLowWarning lanes] paged;
-    RxLos: [CRxLos lanes] paged;
-    RxLol: [CRxLol lanes] paged;
-    RxPower HighAlarm: [CRxPowerHighAlarm lanes] paged;
-    RxPower LowAlarm: [CRxPowerLowAlarm lanes] paged;
-    RxPower HighWarning: [CRxPowerHighWarning lanes] paged;
-    RxPower LowWarning: [CRxPowerLowWarning lanes] paged;
-};
-
-// What a CMIS module warns of.
-#[tactic(auto, unfolding(crate::specs::FlagRows::cmis_rows))]
-fn cmis_flags() -> &'static [FlagRow]
-    ensures rows { result.now ≡ spec_flags.cmis_rows }
+/// The flags of a module of this family.
+#[tactic(auto, unfolding(crate::specs::FlagRows::cmis_rows, crate::specs::FlagRows::qsfp_rows, crate::specs::FlagRows::sfp_rows))]
+pub fn flag_rows(family: Family) -> &'static [FlagRow]
+    ensures rows { result.now ≡ flag_rows_of family }
     ensures fit { IsTrue (list_all flag_row_fits result.now) }
 {
-    CMIS_FLAGS
-}
-
-const QSFP_FLAGS: &[FlagRow] = flag_table! {
-    Temperature HighAlarm: [QTempFlag 1];
-    Temperature LowAlarm: [QTempFlag 2];
-    Temperature HighWarning: [QTempFlag 3];
-    Temperature LowWarning: [QTempFlag 4];
-    Vcc HighAlarm: [QVccFlag 1];
-    Vcc LowAlarm: [QVccFlag 2];
-    Vcc HighWarning: [QVccFlag 3];
-    Vcc LowWarning: [QVccFlag 4];
-    TxLos: [QTxLos lanes];
-    RxLos: [QRxLos lanes];
-    TxFault: [QTxFault lanes];
-    TxLol: [QTxLol lanes];
-    RxLol: [QRxLol lanes];
-    RxPower HighAlarm: [QRxPowerHighAlarm lanes];
-    RxPower LowAlarm: [QRxPowerLowAlarm lanes];
-    RxPower HighWarning: [QRxPowerHighWarning lanes];
-    RxPower LowWarning: [QRxPowerLowWarning lanes];
-    TxBias HighAlarm: [QTxBiasHighAlarm lanes];
-    TxBias LowAlarm: [QTxBiasLowAlarm lanes];
-    TxBias HighWarning: [QTxBiasHighWarning lanes];
-    TxBias LowWarning: [QTxBiasLowWarning lanes];
-    TxPower HighAlarm: [QTxPowerHighAlarm lanes];
-    TxPower LowAlarm: [QTxPowerLowAlarm lanes];
-    TxPower HighWarning: [QTxPowerHighWarning lanes];
-    TxPower LowWarning: [QTxPowerLowWarning lanes];
-};
-
-// What a module of SFF-8636 warns of.
-#[tactic(auto, unfolding(crate::specs::FlagRows::qsfp_rows))]
-fn qsfp_flags() -> &'static [FlagRow]
-    ensures rows { result.now ≡ spec_flags.qsfp_rows }
-    ensures fit { IsTrue (list_all flag_row_fits result.now) }
-{
-    QSFP_FLAGS
-}
-
-const SFP_FLAGS: &[FlagRow] = flag_table! {
-    Temperature HighAlarm: [SAlarms 1];
-    Temperature LowAlarm: [SAlarms 2];
-    Temperature HighWarning: [SWarnings 1];
-    Temperature LowWarning: [SWarnings 2];
-    Vcc HighAlarm: [SAlarms 3];
-    Vcc LowAlarm: [SAlarms 4];
-    Vcc HighWarning: [SWarnings 3];
-    Vcc LowWarning: [SWarnings 4];
-    TxBias HighAlarm: [SAlarms 5 lane 1];
-    TxBias LowAlarm: [SAlarms 6 lane 1];
-    TxBias HighWarning: [SWarnings 5 lane 1];
-    TxBias LowWarning: [SWarnings 6 lane 1];
-    TxPower HighAlarm: [SAlarms 7 lane 1];
-    TxPower LowAlarm: [SAlarms 8 lane 1];
-    TxPower HighWarning: [SWarnings 7 lane 1];
-    TxPower LowWarning: [SWarnings 8 lane 1];
-    RxPower HighAlarm: [SRxAlarms 1 lane 1];
-    RxPower LowAlarm: [SRxAlarms 2 lane 1];
-    RxPower HighWarning: [SRxWarnings 1 lane 1];
-    RxPower LowWarning: [SRxWarnings 2 lane 1];
-    TxFault: [STxFault 1 lane 1];
-    RxLos: [SRxLos 1 lane 1];
-};
-
-// What a module of SFF-8472 warns of.
-#[tactic(auto, unfolding(crate::specs::FlagRows::sfp_rows))]
-fn sfp_flags() -> &'static [FlagRow]
-    ensures rows { result.now ≡ spec_flags.sfp_rows }
-    ensures fit { IsTrue (list_all flag_row_fits result.now) }
-{
-    SFP_FLAGS
+    match family {
+        Family::Cmis => flag_table! {
+            Temperature HighAlarm: [CModuleFlag 1];
+            Temperature LowAlarm: [CModuleFlag 2];
+            Temperature HighWarning: [CModuleFlag 3];
+            Temperature LowWarning: [CModuleFlag 4];
+            Vcc HighAlarm: [CModuleFlag 5];
+            Vcc LowAlarm: [CModuleFlag 6];
+            Vcc HighWarning: [CModuleFlag 7];
+            Vcc LowWarning: [CModuleFlag 8];
+            PathStateChanged: [CPathStateChanged lanes] paged;
+            TxFailure: [CTxFailure lanes] paged;
+            TxLos: [CTxLos lanes] paged;
+            TxLol: [CTxLol lanes] paged;
+            TxEqFail: [CTxEqFail lanes] paged;
+            TxPower HighAlarm: [CTxPowerHighAlarm lanes] paged;
+            TxPower LowAlarm: [CTxPowerLowAlarm lanes] paged;
+            TxPower HighWarning: [CTxPowerHighWarning lanes] paged;
+            TxPower LowWarning: [CTxPowerLowWarning lanes] paged;
+            TxBias HighAlarm: [CTxBiasHighAlarm lanes] paged;
+            TxBias LowAlarm: [CTxBiasLowAlarm lanes] paged;
+            TxBias HighWarning: [CTxBiasHighWarning lanes] paged;
+            TxBias LowWarning: [CTxBiasLowWarning lanes] paged;
+            RxLos: [CRxLos lanes] paged;
+            RxLol: [CRxLol lanes] paged;
+            RxPower HighAlarm: [CRxPowerHighAlarm lanes] paged;
+            RxPower LowAlarm: [CRxPowerLowAlarm lanes] paged;
+            RxPower HighWarning: [CRxPowerHighWarning lanes] paged;
+            RxPower LowWarning: [CRxPowerLowWarning lanes] paged;
+        },
+        Family::Sff8636 => flag_table! {
+            Temperature HighAlarm: [QTempFlag 1];
+            Temperature LowAlarm: [QTempFlag 2];
+            Temperature HighWarning: [QTempFlag 3];
+            Temperature LowWarning: [QTempFlag 4];
+            Vcc HighAlarm: [QVccFlag 1];
+            Vcc LowAlarm: [QVccFlag 2];
+            Vcc HighWarning: [QVccFlag 3];
+            Vcc LowWarning: [QVccFlag 4];
+            TxLos: [QTxLos lanes];
+            RxLos: [QRxLos lanes];
+            TxFault: [QTxFault lanes];
+            TxLol: [QTxLol lanes];
+            RxLol: [QRxLol lanes];
+            RxPower HighAlarm: [QRxPowerHighAlarm lanes];
+            RxPower LowAlarm: [QRxPowerLowAlarm lanes];
+            RxPower HighWarning: [QRxPowerHighWarning lanes];
+            RxPower LowWarning: [QRxPowerLowWarning lanes];
+            TxBias HighAlarm: [QTxBiasHighAlarm lanes];
+            TxBias LowAlarm: [QTxBiasLowAlarm lanes];
+            TxBias HighWarning: [QTxBiasHighWarning lanes];
+            TxBias LowWarning: [QTxBiasLowWarning lanes];
+            TxPower HighAlarm: [QTxPowerHighAlarm lanes];
+            TxPower LowAlarm: [QTxPowerLowAlarm lanes];
+            TxPower HighWarning: [QTxPowerHighWarning lanes];
+            TxPower LowWarning: [QTxPowerLowWarning lanes];
+        },
+        Family::Sff8472 => flag_table! {
+            Temperature HighAlarm: [SAlarms 1];
+            Temperature LowAlarm: [SAlarms 2];
+            Temperature HighWarning: [SWarnings 1];
+            Temperature LowWarning: [SWarnings 2];
+            Vcc HighAlarm: [SAlarms 3];
+            Vcc LowAlarm: [SAlarms 4];
+            Vcc HighWarning: [SWarnings 3];
+            Vcc LowWarning: [SWarnings 4];
+            TxBias HighAlarm: [SAlarms 5 lane 1];
+            TxBias LowAlarm: [SAlarms 6 lane 1];
+            TxBias HighWarning: [SWarnings 5 lane 1];
+            TxBias LowWarning: [SWarnings 6 lane 1];
+            TxPower HighAlarm: [SAlarms 7 lane 1];
+            TxPower LowAlarm: [SAlarms 8 lane 1];
+            TxPower HighWarning: [SWarnings 7 lane 1];
+            TxPower LowWarning: [SWarnings 8 lane 1];
+            RxPower HighAlarm: [SRxAlarms 1 lane 1];
+            RxPower LowAlarm: [SRxAlarms 2 lane 1];
+            RxPower HighWarning: [SRxWarnings 1 lane 1];
+            RxPower LowWarning: [SRxWarnings 2 lane 1];
+            TxFault: [STxFault 1 lane 1];
+            RxLos: [SRxLos 1 lane 1];
+        },
+    }
 }

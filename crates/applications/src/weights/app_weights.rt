@@ -2,13 +2,14 @@
 ghost use Rattle.std.specs.Prelude.{◌≡◌, ◌≤◌, ◌<◌, ◌==◌, ℕ, find, map, option_copied, slice_index};
 ghost use Rattle.std.specs.List.{range_with_len};
 ghost use Rattle.applications.specs.declared.app.App.{App};
-ghost use Rattle.applications.specs.AppWeights.{active_app, is_active_from, weight_of_number};
+ghost use Rattle.applications.specs.AppWeights.{active_app, weight_of_number};
 ghost use Rattle.applications.specs.Weights.{weight_at};
 
 use super::Weights;
 use crate::active::number_of_lane;
 use crate::advert::Advert;
 use crate::app::App;
+use std::array;
 use std::marker::Model;
 
 /// What the data paths of each Application weigh, and which of them weigh more, as they are active.
@@ -83,11 +84,10 @@ impl AppWeights {
         ensures weight { result ≡ weight_at self.now.by_app number }
         ensures small { result ≤ 12884901885 }
     {
-        if number < 16 {
-            self.by_number[usize::from(number)]
-        } else {
-            0
-        }
+        self.by_number
+            .get(usize::from(number))
+            .copied()
+            .unwrap_or(0)
     }
 
     fn of_staying(&self, number: u8, host: u8) -> u64
@@ -112,23 +112,14 @@ fn weights_by_number(
     ensures weights { (stay : ℕ) → result ≡ map (weight_of_number advert.now (record { by_host = by_host.now; by_media = by_media.now; by_app = by_app.now; stay = stay })) (range_with_len 0 16) }
     ensures small { (k : ℕ) → k < 16 → slice_index result k ≤ 12884901885 }
 {
-    let mut by_number = [0; 16];
-    for (number, weight) in by_number.iter_mut().enumerate() {
-        *weight = weight_of_number(advert, by_host, by_media, by_app, number as u8);
-    }
-    by_number
+    array::from_fn(|number| weight_of_number(advert, by_host, by_media, by_app, number as u8))
 }
 
 // The Application of which an active path begins at each host lane.
-#[tactic(auto, using(std::proofs::lemmas::List::FromFn::fill_by_all))]
 fn active_apps(advert: &Advert) -> [u8; 8]
     ensures { result ≡ map (active_app advert.now) (range_with_len 1 8) }
 {
-    let mut apps = [0; 8];
-    for (before, app) in apps.iter_mut().enumerate() {
-        *app = active_app(advert, before + 1);
-    }
-    apps
+    array::from_fn(|before| active_app(advert, before + 1))
 }
 
 // The same of one lane.
@@ -137,23 +128,10 @@ fn active_app(advert: &Advert, host: usize) -> u8
     requires { host ≤ 8 }
     ensures { result ≡ active_app advert.now host }
 {
-    let number = advert.active().app_sel_code(host);
-    if is_active_from(advert, number, host) {
-        number
-    } else {
-        0
-    }
-}
-
-// Whether the path of the Application with this number from a host lane on is among the active ones.
-fn is_active_from(advert: &Advert, number: u8, host: usize) -> bool
-    requires { host ≤ 8 }
-    ensures { result ≡ is_active_from advert.now number host }
-{
-    match app_with(advert, number) {
-        Some(app) => advert.active().is_active(app, host),
-        None => false,
-    }
+    let active = advert.active();
+    let number = active.app_sel_code(host);
+    let is_active = app_with(advert, number).is_some_and(|app| active.is_active(app, host));
+    if is_active { number } else { 0 }
 }
 
 // What a data path of the Application with this number weighs, by tables of weights.
@@ -189,8 +167,5 @@ fn weight_at(table: &[u32], number: u8) -> u64
     ensures weight { result ≡ weight_at table.now number }
     ensures small { result ≤ 4294967295 }
 {
-    match table.get(usize::from(number)) {
-        Some(weight) => u64::from(*weight),
-        None => 0,
-    }
+    u64::from(table.get(usize::from(number)).copied().unwrap_or(0))
 }

@@ -1,9 +1,8 @@
-ghost use Rattle.std.specs.Prelude.{◌≡◌, IsTrue, Some, is_none, is_some, option_map};
+ghost use Rattle.std.specs.Prelude.{◌≡◌, IsTrue, Some, option_map};
 ghost use Rattle.toml.specs.Data.{get_member};
 ghost use Rattle.toml.specs.View.{table_view, view};
-ghost use Rattle.field_tables.specs.FirstFault.{first_fault};
 ghost use Rattle.applications.specs.WeightTables.{KeysRise, members_in, members_of, stay_in, table_in, weights_in, weights_of};
-ghost use Rattle.applications.specs.WeightFaults.{AnswersWith, faults_in, has_more, has_other_key, is_known, is_no_stay, is_no_table, judges_keys, names_table, weights_fault};
+ghost use Rattle.applications.specs.WeightFaults.{AnswersWith, fault_in, has_more, has_other_key, is_known, is_no_stay, is_no_table, judges_keys, weights_fault};
 ghost use Rattle.applications.specs.declared.weights.table.WeightTable.{WeightTable};
 
 use super::Weights;
@@ -16,13 +15,13 @@ use toml::{Table, Value};
 const STAY: &str = "stay";
 
 /// The weights that the tables of a document list.
-#[tactic(auto, using(crate::proofs::WeightAnswers::fault_no_host, crate::proofs::WeightAnswers::fault_more, crate::proofs::WeightAnswers::fault_tables))]
+#[tactic(auto, using(crate::proofs::WeightAnswers::fault_no_host, crate::proofs::WeightAnswers::fault_more, crate::proofs::WeightAnswers::fault_tables, crate::proofs::DocumentKeys::each_table))]
 pub fn read_document(document: &Table) -> Result<Weights, WeightsFault>
     ensures answer { let read = Some (table_view document.now) in
         AnswersWith (weights_fault read) (weights_in read) result }
     ensures in_byte_order { IsTrue (judges_keys result) → (table : WeightTable) → KeysRise (members_in table (Some (table_view document.now))) }
 {
-    if has_no_table(document, WeightTable::Host) {
+    if table_in(document, WeightTable::Host).is_none() {
         return Err(WeightsFault::NoHostTable);
     }
     if has_more(document) {
@@ -43,7 +42,7 @@ pub fn read_document(document: &Table) -> Result<Weights, WeightsFault>
 #[tactic(auto, using(crate::proofs::TableMembers::weights_of_none, crate::proofs::DocumentKeys::rise_none))]
 fn read_table(document: &Table, table: WeightTable) -> Result<[u32; 256], WeightsFault>
     ensures answer { let read = Some (table_view document.now) in
-        AnswersWith (first_fault (faults_in table read)) (weights_of table (members_in table read)) result }
+        AnswersWith (fault_in table read) (weights_of table (members_in table read)) result }
     ensures in_byte_order { KeysRise (members_in table (Some (table_view document.now))) }
 {
     match table_in(document, table) {
@@ -55,10 +54,7 @@ fn read_table(document: &Table, table: WeightTable) -> Result<[u32; 256], Weight
 fn table_in(document: &Table, table: WeightTable) -> Option<&Table>
     ensures { option_map (λ members. table_view members.now) result ≡ table_in table (table_view document.now) }
 {
-    match value_at(document, table.name()) {
-        Some(value) => value.as_table(),
-        None => None,
-    }
+    value_at(document, table.name())?.as_table()
 }
 
 #[tactic(auto, using(toml::proofs::Views::table_get))]
@@ -73,10 +69,7 @@ fn value_at<'a>(document: &'a Table, key: &str) -> Option<&'a Value>
 fn stay_in(document: &Table) -> u32
     ensures { result ≡ stay_in (table_view document.now) }
 {
-    match value_at(document, STAY) {
-        Some(value) => weight_of_value(value).unwrap_or(0),
-        None => 0,
-    }
+    value_at(document, STAY).map_or(0, |value| weight_of_value(value).unwrap_or(0))
 }
 
 // Whether a document has more than the three tables and the weight of staying.
@@ -99,13 +92,7 @@ fn has_other_key(document: &Table) -> bool
 fn is_no_table(document: &Table, table: WeightTable) -> bool
     ensures { result ≡ is_no_table table (table_view document.now) }
 {
-    value_at(document, table.name()).is_some() && has_no_table(document, table)
-}
-
-fn has_no_table(document: &Table, table: WeightTable) -> bool
-    ensures { result ≡ is_none (table_in table (table_view document.now)) }
-{
-    table_in(document, table).is_none()
+    value_at(document, table.name()).is_some_and(|value| !value.is_table())
 }
 
 // Whether what stands as the weight of staying is no weight.
@@ -113,24 +100,16 @@ fn has_no_table(document: &Table, table: WeightTable) -> bool
 fn is_no_stay(document: &Table) -> bool
     ensures { result ≡ is_no_stay (table_view document.now) }
 {
-    match value_at(document, STAY) {
-        Some(value) => weight_of_value(value).is_none(),
-        None => false,
-    }
+    value_at(document, STAY).is_some_and(|value| weight_of_value(value).is_none())
 }
 
-#[tactic(auto, unfolding(crate::specs::WeightKeys::stay_name))]
+// The name of a table, or of the weight of staying.
+#[tactic(auto, unfolding(crate::specs::WeightFaults::is_known, crate::specs::WeightKeys::stay_name))]
 fn is_known(key: &str) -> bool
     ensures { result ≡ is_known key.now }
-{
-    names_table(key) || key == STAY
-}
-
-#[tactic(auto, unfolding(crate::specs::WeightFaults::names_table))]
-fn names_table(key: &str) -> bool
-    ensures { result ≡ names_table key.now }
 {
     key == WeightTable::Host.name()
         || key == WeightTable::Media.name()
         || key == WeightTable::App.name()
+        || key == STAY
 }

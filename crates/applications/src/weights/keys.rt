@@ -1,7 +1,5 @@
 // What the keys of weights name.
-ghost use Rattle.std.specs.Prelude.{◌≡◌, ◌<◌, Some, None, if◌then◌else◌, unwrap_or};
-ghost use Rattle.std.specs.Char.{digit_value};
-ghost use Rattle.applications.specs.WeightKeys.{is_hexadecimal};
+ghost use Rattle.std.specs.Prelude.{◌≡◌, ◌<◌, unwrap_or};
 ghost use Rattle.applications.specs.WeightKeys as spec;
 
 use super::table::WeightTable;
@@ -25,23 +23,12 @@ impl WeightTable {
 pub fn id_of_key(key: &[u8]) -> Option<u8>
     ensures { result ≡ spec.id_of_key key.now }
 {
-    if key.len() != 3 || key[2] != b'h' {
+    let [high, low, b'h'] = key else {
         return None;
-    }
-    let high = hexadecimal_digit(key[0])?;
-    let low = hexadecimal_digit(key[1])?;
-    Some(16 * high + low)
-}
-
-fn hexadecimal_digit(digit: u8) -> Option<u8>
-    ensures { result ≡ (if is_hexadecimal digit then Some (digit_value digit) else None) }
-{
-    match digit {
-        b'0'..=b'9' => Some(digit - b'0'),
-        b'A'..=b'F' => Some(digit - b'A' + 10),
-        b'a'..=b'f' => Some(digit - b'a' + 10),
-        _ => None,
-    }
+    };
+    let high = char::from(*high).to_digit(16)?;
+    let low = char::from(*low).to_digit(16)?;
+    Some((16 * high + low) as u8)
 }
 
 // The number of an Application, from 1 on, that a key writes in decimal.

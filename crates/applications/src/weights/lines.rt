@@ -1,9 +1,9 @@
 // Weights as lines, which are read without memory.
-ghost use Rattle.std.specs.Prelude.{◌≡◌, ◌==◌, ◌<◌, ◌≤◌, ◌↔◌, ◌∷◌, length, IfSome, IsTrue, List, MatchOption, MatchResult, true};
+ghost use Rattle.std.specs.Prelude.{◌≡◌, ◌==◌, ◌<◌, ◌≤◌, ◌∷◌, length, IfSome, List, MatchOption, MatchResult, true};
 ghost use Rattle.std.specs.List.{after_first, before_first, list_all, position, position_or_len};
 ghost use Rattle.std.specs.Str.{is_utf8};
 ghost use Rattle.text_lines.specs.Lines.{lines_of};
-ghost use Rattle.applications.specs.WeightLines.{Drafts, IsAnswer, IsLineFault, Says, SaysIn, host_line, is_in_place, is_plain_byte, is_plain_line, may_follow, repeats, trimmed};
+ghost use Rattle.applications.specs.WeightLines.{Drafts, IsAnswer, IsLineFault, Says, SaysIn, is_plain_byte, is_plain_line, may_follow, trimmed};
 ghost use Rattle.applications.specs.declared.weights.lines.Said.{Said};
 
 use super::keys::id_of_key;
@@ -57,10 +57,7 @@ pub fn read_weight_lines(text: &[u8]) -> Result<[u32; 256], WeightLinesFault>
     let mut rest = text;
     while let Some((line, after)) = split_line(rest) {
         number += 1;
-        match draft.take(line, number) {
-            Ok(()) => {}
-            Err(fault) => return Err(fault),
-        }
+        draft.take(line, number)?;
         rest = after;
     }
     if !draft.has_host {
@@ -78,49 +75,30 @@ impl Draft {
             (λ _. (said : Said) × Says line.now said × (may_follow before said ≡ true) × Drafts (said ∷ before) self.new)
             (IsLineFault before line.now number) }
     {
+        let bad = WeightLinesFault::BadLine(number);
         let Some(said) = said_by(line) else {
-            return Err(WeightLinesFault::BadLine(number));
+            return Err(bad);
         };
-        if !self.has_place_for(said) {
-            return Err(WeightLinesFault::BadLine(number));
-        }
-        if self.is_repeated_by(said) {
-            return Err(WeightLinesFault::SameIdTwice(number));
-        }
-        self.add(said);
-        Ok(())
-    }
-
-    fn has_place_for(&self, said: Said) -> bool
-        ensures { (before : List Said) → Drafts before self.now → result ≡ is_in_place before said }
-    {
-        match said {
-            Said::Nothing => true,
-            Said::Host => !self.has_host,
-            Said::Weight(_, _) => self.has_host,
-        }
-    }
-
-    fn is_repeated_by(&self, said: Said) -> bool
-        ensures { (before : List Said) → Drafts before self.now → result ≡ repeats before said }
-    {
-        match said {
-            Said::Weight(host_id, _) => self.listed[usize::from(host_id)],
-            _ => false,
-        }
-    }
-
-    fn add(&mut self, said: Said)
-        ensures { (before : List Said) → Drafts before self.old → Drafts (said ∷ before) self.new }
-    {
         match said {
             Said::Nothing => {}
-            Said::Host => self.has_host = true,
+            Said::Host => {
+                if self.has_host {
+                    return Err(bad);
+                }
+                self.has_host = true;
+            }
             Said::Weight(host_id, weight) => {
+                if !self.has_host {
+                    return Err(bad);
+                }
+                if self.listed[usize::from(host_id)] {
+                    return Err(WeightLinesFault::SameIdTwice(number));
+                }
                 self.listed[usize::from(host_id)] = true;
                 self.by_host_id[usize::from(host_id)] = weight;
             }
         }
+        Ok(())
     }
 }
 
@@ -136,30 +114,20 @@ fn said_by(line: &[u8]) -> Option<Said>
 }
 
 // What a line with this content says.
+#[tactic(auto, unfolding(crate::specs::WeightLines::host_line))]
 fn said_in(content: &[u8]) -> Option<Said>
     ensures { MatchOption result ((said : Said) → ¬ (SaysIn content.now said)) (λ said. SaysIn content.now said) }
 {
     if content.is_empty() {
         return Some(Said::Nothing);
     }
-    if is_host_line(content) {
+    if content == HOST_LINE {
         return Some(Said::Host);
     }
     let (key, value) = cut(content, b'=');
-    let Some(host_id) = id_of_key(trimmed(key)) else {
-        return None;
-    };
-    let Some(weight) = read_decimal(trimmed(value), u64::from(u32::MAX)) else {
-        return None;
-    };
+    let host_id = id_of_key(trimmed(key))?;
+    let weight = read_decimal(trimmed(value), u64::from(u32::MAX))?;
     Some(Said::Weight(host_id, weight as u32))
-}
-
-#[tactic(auto, unfolding(crate::specs::WeightLines::host_line))]
-fn is_host_line(content: &[u8]) -> bool
-    ensures { IsTrue result ↔ (content.now ≡ host_line) }
-{
-    content == HOST_LINE
 }
 
 // Whether a line is text without control characters other than tabs.

@@ -12,13 +12,14 @@ pub enum WeightTable {
 }
 
 impl WeightTable {
-    ghost use Rattle.std.specs.Prelude.{◌≡◌};
+    ghost use Rattle.std.specs.Prelude.{◌≡◌, ◌≤◌, length};
     ghost use Rattle.applications.specs.WeightKeys.{table_name};
 
     /// The key of a document under which the table stands.
     #[tactic(auto, unfolding(crate::specs::WeightKeys::table_name))]
     pub(crate) fn name(self) -> &'static str
-        ensures { result.now ≡ table_name self }
+        ensures name { result.now ≡ table_name self }
+        ensures short { length result.now ≤ 5 }
     {
         match self {
             WeightTable::Host => "host",
@@ -37,12 +38,7 @@ impl ToWords for WeightTable {
 
     ghost most = { 1 };
 
-    #[tactic(auto, unfolding(crate::specs::WeightKeys::table_name))]
     fn to_words(&self) -> PrintedWords {
-        match self {
-            WeightTable::Host => PrintedWords::of("host"),
-            WeightTable::Media => PrintedWords::of("media"),
-            WeightTable::App => PrintedWords::of("app"),
-        }
+        PrintedWords::of(self.name())
     }
 }

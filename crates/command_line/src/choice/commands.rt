@@ -1,8 +1,7 @@
 //! The commands of the program and their flags, one line each.
 ghost use Rattle.std.specs.Prelude.{◌≡◌, map, option_copied, option_map};
-ghost use Rattle.command_line.specs.Choice.{commands, entry_named};
+ghost use Rattle.command_line.specs.Choice.{commands, entry_named, entry_of};
 ghost use Rattle.command_line.specs.Coloring.{request_on_screen};
-ghost use Rattle.command_line.specs.Entries.{entry_of};
 
 use super::options::Options;
 
@@ -80,109 +79,34 @@ pub struct CommandEntry {
     pub about: &'static str,
 }
 
-/// Asks for a reading over a bus.
-const BUS: Flag = Flag {
-    name: "bus",
-    takes: Takes::Nothing,
-    word: "",
-    help: "Read the module over a simulated bus, as a host does",
-};
-
-/// Asks for JSON.
-const JSON: Flag = Flag {
-    name: "json",
-    takes: Takes::Nothing,
-    word: "",
-    help: "Print the answer, or the fault, as JSON",
-};
-
-/// Asks for waking the module up.
-const WAKE: Flag = Flag {
-    name: "wake",
-    takes: Takes::Nothing,
-    word: "",
-    help: "First wake the module, by clearing its low power requests",
-};
-
-/// Asks for activation.
-const ACTIVATE: Flag = Flag {
-    name: "activate",
-    takes: Takes::Nothing,
-    word: "",
-    help: "Also bring the plan's data paths up",
-};
-
-/// Asks for a plan that keeps data paths.
-const KEEP: Flag = Flag {
-    name: "keep",
-    takes: Takes::Nothing,
-    word: "",
-    help: "Keep the data paths that a part of the input after the weights names",
-};
-
-/// Says that the module pairs first lanes.
-const PAIRED: Flag = Flag {
-    name: "paired",
-    takes: Takes::Nothing,
-    word: "",
-    help: "The module joins the nth host start of an Application only with its nth media start",
-};
-
-/// Says that lane counts of 0 are those that the interface IDs imply.
-const COUNTS_BY_ID: Flag = Flag {
-    name: "counts-by-id",
-    takes: Takes::Nothing,
-    word: "",
-    help: "Look up a lane count of 0 by interface ID, if the count is known",
-};
-
-/// Asks for what is active to count.
-const NOW: Flag = Flag {
-    name: "now",
-    takes: Takes::Nothing,
-    word: "",
-    help: "A data path in the image's Active Control Set weighs more, by 'stay' of the weights",
-};
-
-/// Asks for an SVG.
-const SVG: Flag = Flag {
-    name: "svg",
-    takes: Takes::Nothing,
-    word: "",
-    help: "Draw the plan as an SVG",
-};
-
-/// Asks for colors.
-const COLOR: Flag = Flag {
-    name: "color",
-    takes: Takes::Word,
-    word: "WHEN",
-    help: "Color what is beyond a limit, and raised flags: 'always', 'never', or 'auto', on a terminal unless NO_COLOR is set",
-};
-
-/// Asks for a label.
-const LABEL: Flag = Flag {
-    name: "label",
-    takes: Takes::Words,
-    word: "KEY=VALUE",
-    help: "Add a label to each sample; may be given several times",
-};
-
-/// Asks for each flag of the module.
-const FLAGS: Flag = Flag {
-    name: "flags",
-    takes: Takes::Word,
-    word: "all",
-    help: "Print every flag, 1 or 0, and not only those that are raised",
-};
-
-/// Asks whether a plan is the first of the best.
-const FIRST: Flag = Flag {
-    name: "first",
-    takes: Takes::Nothing,
-    word: "",
-    help: "Also say whether the plan is the first best one, which 'plan' prints",
-};
+// The flags: each takes no word, or this that follows it, and this is what help says of it.
+macro_rules! flag {
+    (BUS) => { flag!("bus": "Read the module over a simulated bus, as a host does") };
+    (JSON) => { flag!("json": "Print the answer, or the fault, as JSON") };
+    (WAKE) => { flag!("wake": "First wake the module, by clearing its low power requests") };
+    (ACTIVATE) => { flag!("activate": "Also bring the plan's data paths up") };
+    (KEEP) => { flag!("keep":
+        "Keep the data paths that a part of the input after the weights names") };
+    (PAIRED) => { flag!("paired":
+        "The module joins the nth host start of an Application only with its nth media start") };
+    (COUNTS_BY_ID) => { flag!("counts-by-id":
+        "Look up a lane count of 0 by interface ID, if the count is known") };
+    (NOW) => { flag!("now":
+        "A data path in the image's Active Control Set weighs more, by 'stay' of the weights") };
+    (SVG) => { flag!("svg": "Draw the plan as an SVG") };
+    (COLOR) => { flag!("color" Word "WHEN":
+        "Color what is beyond a limit, and raised flags: 'always', 'never', or 'auto', on a terminal unless NO_COLOR is set") };
+    (LABEL) => { flag!("label" Words "KEY=VALUE":
+        "Add a label to each sample; may be given several times") };
+    (FLAGS) => { flag!("flags" Word "all":
+        "Print every flag, 1 or 0, and not only those that are raised") };
+    (FIRST) => { flag!("first":
+        "Also say whether the plan is the first best one, which 'plan' prints") };
+    ($name:literal: $help:literal) => { flag!($name Nothing "": $help) };
+    ($name:literal $takes:ident $word:literal: $help:literal) => {
+        Flag { name: $name, takes: Takes::$takes, word: $word, help: $help }
+    };
+}
 
 // The table: a command's name, its variant, its flags and what help says of it.
 macro_rules! table {
@@ -190,7 +114,7 @@ macro_rules! table {
         &[$(CommandEntry {
             name: $name,
             command: CommandName::$command $((ReportName::$report))?,
-            flags: &[$($flag),*],
+            flags: &[$(flag!($flag)),*],
             usage: concat!("cmisctl ", $name, " [OPTIONS] < INPUT"),
             about: $about,
         }),*]

@@ -1,7 +1,7 @@
 //! Why a command line gives no choice, and what the program then says.
-ghost use Rattle.std.specs.Prelude.{◌≡◌, true, is_err};
-ghost use Rattle.command_line.specs.ChoiceFault.{fault_of_error, fault_of_label, status_by_kind};
-ghost use Rattle.command_line.specs.Runs.{ended};
+ghost use Rattle.std.specs.Prelude.{◌≡◌, true};
+ghost use Rattle.std.specs.IoError.{error_kind};
+ghost use Rattle.command_line.specs.ChoiceFault.{fault_of_error, fault_of_label, fault_of_words, status_by_kind};
 ghost use Rattle.clap.specs.Words.{kind_of};
 ghost use Rattle.command_line.specs.Program.{IsRefusalSaid};
 ghost use Rattle.command_line.specs.StoppingWriter.{contents_of, writing_failed};
@@ -9,11 +9,12 @@ ghost use Rattle.command_line.specs.declared.choice.fault.ChoiceFault.TheVariant
 
 use super::word_fault::WordFault;
 use crate::fault::Fault;
-use crate::output::{FaultForm, OutputFault, StoppingWriter, write_answer};
+use crate::output::{FaultForm, StoppingWriter, status_after, write_answer};
 use crate::status::Status;
 use clap::error::ErrorKind;
 use module_metrics::LabelFault;
 use std::alloc::AllocError;
+use std::io;
 use std::io::Write;
 use thiserror::Error;
 
@@ -29,6 +30,20 @@ pub enum ChoiceFault {
     /// The words are taken, but one that follows a flag is wrong.
     #[error("{0}")]
     Word(WordFault),
+    /// A word could not be read.
+    #[error("a word is not UTF-8")]
+    Unreadable,
+}
+
+impl From<io::Error> for ChoiceFault {
+    ghost from_gives = { λ error fault. fault ≡ fault_of_words (error_kind error) };
+
+    fn from(error: io::Error) -> ChoiceFault {
+        match error.kind() {
+            io::ErrorKind::OutOfMemory => ChoiceFault::Memory,
+            _ => ChoiceFault::Unreadable,
+        }
+    }
 }
 
 impl From<clap::Error> for ChoiceFault {
@@ -70,6 +85,7 @@ impl From<AllocError> for ChoiceFault {
 }
 
 /// Writes why there is no choice, as `clap` puts it, and answers how the program ends.
+#[tactic(auto, unfolding(crate::specs::ChoiceFault::unreadable_line))]
 pub fn choice_refused<W: Write>(fault: &ChoiceFault, writer: &mut StoppingWriter<W>) -> Status
     ensures said { IsRefusalSaid fault.now (contents_of W.contents writer.old)
         (contents_of W.contents writer.new) (writing_failed writer.new) result }
@@ -79,16 +95,10 @@ pub fn choice_refused<W: Write>(fault: &ChoiceFault, writer: &mut StoppingWriter
         ChoiceFault::Memory => write_answer(writer, Err(Fault::Memory), &FaultForm::Line),
         ChoiceFault::Line(error) => status_after(writer.put_text(error), status_of(error)),
         ChoiceFault::Word(fault) => status_after(writer.put_text(*fault), Status::CommandLine),
-    }
-}
-
-// How the program ends once this was written.
-fn status_after(written: Result<(), OutputFault>, status: Status) -> Status
-    ensures { result ≡ ended (is_err written) status }
-{
-    match written {
-        Ok(()) => status,
-        Err(OutputFault) => Status::ReadOrWrite,
+        ChoiceFault::Unreadable => {
+            let line = b"error: a word of the command line is not UTF-8\n";
+            status_after(writer.put(line), Status::CommandLine)
+        }
     }
 }
 

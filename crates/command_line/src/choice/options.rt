@@ -122,6 +122,7 @@ fn all_by(word: Option<&str>) -> Result<bool, WordFault>
 }
 
 // The word that follows a flag.
+#[tactic(auto, using(crate::proofs::GivenWords::by_rows))]
 fn word_after<'a>(given: &ArgMatches<'a>, flag: &str) -> Option<&'a str>
     ensures { option_map (λ word. word.now) result ≡ first_of flag.now (rows_of (found_of given.now)) }
 {
@@ -129,6 +130,7 @@ fn word_after<'a>(given: &ArgMatches<'a>, flag: &str) -> Option<&'a str>
 }
 
 // The words that follow it each time that it is given.
+#[tactic(auto, using(crate::proofs::GivenWords::by_rows))]
 fn words_after<'b, 'a>(given: &'b ArgMatches<'a>, flag: &str) -> Option<&'b [&'a str]>
     ensures { option_map (λ words. map (λ word. word.now) words.now) result ≡ all_of flag.now (rows_of (found_of given.now)) }
 {

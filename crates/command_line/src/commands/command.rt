@@ -9,13 +9,11 @@ ghost use Rattle.command_line.specs.Runs.{IsCommandRun, IsOwnAnswer, SaysReading
 ghost use Rattle.command_line.specs.FaultForms.{output_in};
 
 use super::check_command::check;
-use super::draw_command::draw;
 use super::inputs::Inputs;
 use super::metrics_command::print_metrics;
-use super::observables_command::print_observables;
 use super::plan_command::plan;
 use super::provision_command::provision;
-use super::report_commands::report;
+use super::report_commands::{print_observables, report};
 use crate::choice::commands::{CommandName, Request};
 use crate::command_output::CommandOutput;
 use crate::ending::Ending;
@@ -127,8 +125,8 @@ fn answer_to(alloc: Global, request: &Request, inputs: &Inputs<'_>) -> Result<Co
         CommandName::Report(name) => report(alloc, name, options, inputs.image),
         CommandName::Observables => print_observables(alloc, options, inputs.image),
         CommandName::Metrics => print_metrics(alloc, options, inputs.image),
-        CommandName::Plan => plan(alloc, options, inputs),
-        CommandName::Draw => draw(alloc, options, inputs),
+        CommandName::Plan => plan(alloc, false, options, inputs),
+        CommandName::Draw => plan(alloc, true, options, inputs),
         CommandName::Check => check(alloc, options, inputs),
         CommandName::Provision => provision(alloc, false, options, inputs),
         CommandName::Trace => provision(alloc, true, options, inputs),

@@ -1,5 +1,6 @@
-ghost use Rattle.std.specs.Prelude.{◌≡◌, ◌≢◌, not, IfErr, IfOk, option_map};
-ghost use Rattle.command_line.specs.MetricsCommand.{AreMetricsOf, IsFaultAlone, IsMetricsAnswer};
+ghost use Rattle.std.specs.Prelude.{◌≡◌, ◌≢◌, IfErr, Ok, Err, option_map};
+ghost use Rattle.command_line.specs.MetricsCommand.{IsMetricsAnswer, metrics_told};
+ghost use Rattle.command_line.specs.ReportCommands.{IsToldAs};
 ghost use Rattle.command_line.specs.Runs.{IsOwnAnswer, answer_of};
 
 use super::over_bus::image_to_report;
@@ -8,7 +9,7 @@ use crate::command_output::CommandOutput;
 use crate::fault::Fault;
 use crate::remark::Warnings;
 use crate::told_fault::ToldFault;
-use module_metrics::{Answer, Labels, fault_metrics, metrics};
+use module_metrics::{Answer, fault_metrics, metrics};
 use paged_memory::Image;
 use reports::ReportFault;
 use std::alloc::Global;
@@ -21,16 +22,15 @@ pub fn print_metrics(alloc: Global, options: &Options, image: &[u8]) -> Result<C
 {
     match image_to_report(alloc, image, options.bus) {
         Ok(image) => of_image(alloc, options, &image),
-        Err(Fault::Report(fault)) => of_fault(alloc, &options.labels, fault),
+        Err(Fault::Report(fault)) => of_fault(alloc, options, fault),
         Err(fault) => Err(fault),
     }
 }
 
 // Those of an image, of whose reports one may have a fault; over a bus without VDM.
 fn of_image(alloc: Global, options: &Options, image: &Image) -> Result<CommandOutput, Fault>
-    ensures told { IfOk result (λ output. AreMetricsOf options.now.all_flags (not options.now.bus) options.now.labels
-        image.now output.text.items output.fault) }
-    ensures memory { IfErr result (λ fault. fault ≡ Fault.Memory) }
+    ensures told { IsToldAs (metrics_told options.now (Ok image.now)) (answer_of result) }
+    ensures read { IfErr result (λ fault. fault ≢ Fault.Io) }
 {
     let all = options.all_flags;
     let with_vdm = !options.bus;
@@ -43,12 +43,12 @@ fn of_image(alloc: Global, options: &Options, image: &Image) -> Result<CommandOu
 }
 
 // There is no image to report on, since reading it ended with this fault.
-fn of_fault(alloc: Global, labels: &Labels, fault: ReportFault) -> Result<CommandOutput, Fault>
-    ensures told { IfOk result (λ output. IsFaultAlone labels.now fault output.text.items output.fault) }
-    ensures memory { IfErr result (λ fault. fault ≡ Fault.Memory) }
+fn of_fault(alloc: Global, options: &Options, fault: ReportFault) -> Result<CommandOutput, Fault>
+    ensures told { IsToldAs (metrics_told options.now (Err fault)) (answer_of result) }
+    ensures read { IfErr result (λ fault. fault ≢ Fault.Io) }
 {
     Ok(CommandOutput {
-        text: fault_metrics(alloc, fault, labels)?,
+        text: fault_metrics(alloc, fault, &options.labels)?,
         fault: told(Some(fault)),
         warnings: Warnings::none(),
     })
@@ -57,8 +57,5 @@ fn of_fault(alloc: Global, labels: &Labels, fault: ReportFault) -> Result<Comman
 fn told(fault: Option<ReportFault>) -> Option<ToldFault>
     ensures { result ≡ option_map ToldFault.Metrics fault }
 {
-    match fault {
-        Some(fault) => Some(ToldFault::Metrics(fault)),
-        None => None,
-    }
+    fault.map(ToldFault::Metrics)
 }

@@ -1,7 +1,7 @@
 // The image of a report: that of the input, or what is read of it over a bus.
 ghost use Rattle.std.specs.Prelude.{◌≤◌, MatchResult, Ok};
 ghost use Rattle.std.specs.FinMap as map;
-ghost use Rattle.command_line.specs.OverBus.{IsFetchRefusal, IsFetchedFrom, IsInputRefusal, IsToReport};
+ghost use Rattle.command_line.specs.OverBus.{IsFetchRefusal, IsFetchedFrom, IsInputRefusal, IsReading};
 ghost use Rattle.paged_memory.specs.Images.{most_pages};
 
 use crate::fault::Fault;
@@ -16,7 +16,7 @@ const ROOM: usize = MAX_STEPS as usize;
 
 /// The image of this text, or, over a bus, what is read of the module that has it.
 pub fn image_to_report(alloc: Global, text: &[u8], is_over_bus: bool) -> Result<Image, Fault>
-    ensures { MatchResult result (IsToReport is_over_bus text.now) (IsInputRefusal is_over_bus text.now) }
+    ensures { MatchResult result (λ read. IsReading is_over_bus text.now (Ok read)) (IsInputRefusal is_over_bus text.now) }
 {
     let image = Image::read(text)?;
     if is_over_bus {

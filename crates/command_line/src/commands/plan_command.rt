@@ -1,7 +1,7 @@
 ghost use Rattle.std.specs.Prelude.{◌≢◌, IfErr, IfOk};
 ghost use Rattle.plan_certificate.specs.Plans.{IsAdmissible};
 ghost use Rattle.command_line.specs.Inputs.{inputs_of};
-ghost use Rattle.command_line.specs.PlanCommand.{IsPlanAnswer, TellsPlan};
+ghost use Rattle.command_line.specs.PlanCommand.{IsPlanAnswer, Tells, TellsPlanFor};
 ghost use Rattle.command_line.specs.Runs.{IsOwnAnswer, answer_of};
 
 use super::inputs::Inputs;
@@ -11,23 +11,25 @@ use crate::command_output::CommandOutput;
 use crate::fault::Fault;
 use crate::remark::Warnings;
 use applications::AppWeights;
+use field_tables::{Field, number};
 use lane_planner::{Problem, Solution};
+use plan_drawing::draw;
 use plan_reports::plan_json;
 use std::alloc::{AllocError, Global};
 
-/// The plan that weighs most of those that keep the kept paths: its certificate, or, as JSON, the plan alone.
-pub fn plan(alloc: Global, options: &Options, inputs: &Inputs<'_>) -> Result<CommandOutput, Fault>
-    ensures answer { IsOwnAnswer (IsPlanAnswer options.now (inputs_of inputs.now)) (answer_of result) }
+/// The plan that weighs most of those that keep the kept paths: its certificate, or, as JSON, the plan alone; or its drawing, as text
+/// or as an SVG.
+pub fn plan(
+    alloc: Global,
+    draws: bool,
+    options: &Options,
+    inputs: &Inputs<'_>,
+) -> Result<CommandOutput, Fault>
+    ensures answer { IsOwnAnswer (IsPlanAnswer draws options.now (inputs_of inputs.now)) (answer_of result) }
     ensures read { IfErr result (λ fault. fault ≢ Fault.Io) }
 {
     let planning = Planning::read(alloc, options.conventions, inputs)?;
-    let weighed = AppWeights::of(&planning.advert, &planning.weights);
-    let problem = Problem {
-        advert: &planning.advert,
-        weights: &weighed,
-        kept: &planning.kept,
-    };
-    let (text, has_paths) = planned(alloc, options.json, &problem)?;
+    let (text, has_paths) = told(alloc, draws, options, &planning)?;
     let warnings = Warnings::of(&planning.advert, &planning.weights, has_paths);
     Ok(CommandOutput {
         text,
@@ -37,9 +39,34 @@ pub fn plan(alloc: Global, options: &Options, inputs: &Inputs<'_>) -> Result<Com
 }
 
 // What is told of the plan, and whether it has paths.
+fn told(
+    alloc: Global,
+    draws: bool,
+    options: &Options,
+    planning: &Planning,
+) -> Result<(Vec<u8>, bool), AllocError>
+    requires { IsAdmissible planning.now.advert planning.now.kept }
+    ensures { IfOk result (λ told. Tells draws options.now planning.now told.0.items) }
+{
+    let weighed = AppWeights::of(&planning.advert, &planning.weights);
+    let problem = Problem {
+        advert: &planning.advert,
+        weights: &weighed,
+        kept: &planning.kept,
+    };
+    if draws {
+        let media_type = number(&planning.image, Field::CMediaType);
+        let drawing = draw(alloc, options.svg, media_type, &problem)?;
+        Ok((drawing.text, drawing.has_paths))
+    } else {
+        planned(alloc, options.json, &problem)
+    }
+}
+
+// As its certificate, or as JSON.
 fn planned(alloc: Global, is_json: bool, problem: &Problem) -> Result<(Vec<u8>, bool), AllocError>
     requires { IsAdmissible problem.now.advert.now problem.now.kept.now }
-    ensures { IfOk result (λ told. TellsPlan is_json problem.now.advert.now problem.now.weights.now problem.now.kept.now told.0.items) }
+    ensures { IfOk result (λ told. TellsPlanFor is_json problem.now.advert.now problem.now.weights.now problem.now.kept.now told.0.items) }
 {
     let mut solution = Solution::blank();
     solution.solve(problem);

@@ -59,10 +59,7 @@ pub fn provision(
 fn told(fault: Option<ProvisionFault>, inactive: Option<Path>) -> Option<ToldFault>
     ensures { result ≡ option_map (λ f. ToldFault.Procedure f inactive) fault }
 {
-    match fault {
-        Some(fault) => Some(ToldFault::Procedure(fault, inactive)),
-        None => None,
-    }
+    fault.map(|fault| ToldFault::Procedure(fault, inactive))
 }
 
 // What is told of steps, of what came of them, and of a fault.

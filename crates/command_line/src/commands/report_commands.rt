@@ -1,17 +1,17 @@
-ghost use Rattle.std.specs.Prelude.{◌≢◌, IfErr};
-ghost use Rattle.reports.specs.Answered.{Reports, ReportsJson};
-ghost use Rattle.report_entries.specs.EntryText.{entries_lines};
+ghost use Rattle.std.specs.Prelude.{◌≢◌, IfErr, List, Option, ℕ};
+ghost use Rattle.reports.specs.Families.{detail_fault};
+ghost use Rattle.reports.specs.declared.fault.ReportFault.{ReportFault};
 ghost use Rattle.command_line.specs.Coloring.{shown_as};
-ghost use Rattle.command_line.specs.ReportCommands.{IsReportAnswer, Prints, entries_of, printed, refusal_of};
+ghost use Rattle.command_line.specs.ReportCommands.{IsObservablesAnswer, IsReportAnswer, IsToldAs, Prints, observed_text, printed_of, refusal_of, text_unless};
 ghost use Rattle.command_line.specs.Runs.{IsOwnAnswer, answer_of};
 
 use super::over_bus::image_to_report;
-use crate::choice::coloring::Coloring;
 use crate::choice::commands::ReportName;
 use crate::choice::options::Options;
 use crate::command_output::CommandOutput;
 use crate::fault::Fault;
 use crate::remark::Warnings;
+use observable_reports::{observables, observables_json};
 use paged_memory::Image;
 use reports::ReportFault;
 use std::alloc::Global;
@@ -27,66 +27,71 @@ pub fn report(
     ensures read { IfErr result (λ fault. fault ≢ Fault.Io) }
 {
     let image = image_to_report(alloc, image, options.bus)?;
+    let printed = printed(alloc, name, options.json, &image);
+    told(alloc, options, printed)
+}
+
+/// All that the module of the image measures, or as much of it as is read over a bus, as text or as JSON.
+pub fn print_observables(
+    alloc: Global,
+    options: &Options,
+    image: &[u8],
+) -> Result<CommandOutput, Fault>
+    ensures answer { IsOwnAnswer (IsObservablesAnswer options.now image.now) (answer_of result) }
+    ensures read { IfErr result (λ fault. fault ≢ Fault.Io) }
+{
+    let image = image_to_report(alloc, image, options.bus)?;
+    let printed = observed(alloc, options.json, &image);
+    told(alloc, options, printed)
+}
+
+// What is told where this was printed of an image: that as it is shown, or why there is none.
+fn told(
+    alloc: Global,
+    options: &Options,
+    printed: Result<Vec<u8>, ReportFault>,
+) -> Result<CommandOutput, Fault>
+    ensures told { (refused : Option ReportFault) (text : List ℕ) → Prints refused text printed
+        → IsToldAs (text_unless refused (shown_as options.now.coloring options.now.json text)) (answer_of result) }
+    ensures read { IfErr result (λ fault. fault ≢ Fault.Io) }
+{
+    let text = options.coloring.shown(alloc, options.json, printed?)?;
     Ok(CommandOutput {
-        text: shown(alloc, name, options.coloring, options.json, &image)?,
+        text,
         fault: None,
         warnings: Warnings::none(),
     })
 }
 
-// What is shown of an image.
-fn shown(
-    alloc: Global,
-    name: ReportName,
-    coloring: Coloring,
-    is_json: bool,
-    image: &Image,
-) -> Result<Vec<u8>, ReportFault>
-    ensures { Prints (refusal_of name image.now) (shown_as coloring is_json (printed is_json (entries_of name image.now))) result }
-{
-    match printed(alloc, name, is_json, image) {
-        Ok(text) => coloring.shown(alloc, is_json, text),
-        Err(fault) => Err(fault),
-    }
-}
-
-// What is printed of it.
+#[tactic(auto, unfolding(reports::specs::Reports::report_lines, reports::specs::Details::details_lines))]
 fn printed(
     alloc: Global,
     name: ReportName,
     is_json: bool,
     image: &Image,
 ) -> Result<Vec<u8>, ReportFault>
-    ensures { Prints (refusal_of name image.now) (printed is_json (entries_of name image.now)) result }
+    ensures { Prints (refusal_of name image.now) (printed_of name is_json image.now) result }
+{
+    match (name, is_json) {
+        (ReportName::Inventory, false) => reports::inventory(alloc, image),
+        (ReportName::Inventory, true) => reports::inventory_json(alloc, image),
+        (ReportName::Apps, false) => reports::apps(alloc, image),
+        (ReportName::Apps, true) => reports::apps_json(alloc, image),
+        (ReportName::Monitors, false) => reports::monitors(alloc, image),
+        (ReportName::Monitors, true) => reports::monitors_json(alloc, image),
+        (ReportName::Flags, false) => reports::flags(alloc, image),
+        (ReportName::Flags, true) => reports::flags_json(alloc, image),
+        (ReportName::Details, false) => reports::details(alloc, image),
+        (ReportName::Details, true) => reports::details_json(alloc, image),
+    }
+}
+
+fn observed(alloc: Global, is_json: bool, image: &Image) -> Result<Vec<u8>, ReportFault>
+    ensures { Prints (detail_fault image.now) (observed_text is_json image.now) result }
 {
     if is_json {
-        json(alloc, name, image)
+        observables_json(alloc, image)
     } else {
-        text(alloc, name, image)
-    }
-}
-
-#[tactic(auto, unfolding(reports::specs::Reports::report_lines, reports::specs::Details::details_lines))]
-fn text(alloc: Global, name: ReportName, image: &Image) -> Result<Vec<u8>, ReportFault>
-    ensures { Reports (refusal_of name image.now) (entries_lines (entries_of name image.now)) result }
-{
-    match name {
-        ReportName::Inventory => reports::inventory(alloc, image),
-        ReportName::Apps => reports::apps(alloc, image),
-        ReportName::Monitors => reports::monitors(alloc, image),
-        ReportName::Flags => reports::flags(alloc, image),
-        ReportName::Details => reports::details(alloc, image),
-    }
-}
-
-fn json(alloc: Global, name: ReportName, image: &Image) -> Result<Vec<u8>, ReportFault>
-    ensures { ReportsJson (refusal_of name image.now) (entries_of name image.now) result }
-{
-    match name {
-        ReportName::Inventory => reports::inventory_json(alloc, image),
-        ReportName::Apps => reports::apps_json(alloc, image),
-        ReportName::Monitors => reports::monitors_json(alloc, image),
-        ReportName::Flags => reports::flags_json(alloc, image),
-        ReportName::Details => reports::details_json(alloc, image),
+        observables(alloc, image)
     }
 }

@@ -1,10 +1,11 @@
 ghost use Rattle.std.specs.Prelude.{◌≡◌, ◌⊎◌, ◌≤◌, ◌+◌, min, false, true};
 ghost use Rattle.std.specs.Io.{ReadsAtMost};
 ghost use Rattle.std.specs.Io.KnownBytes.{ReadConsumes};
+ghost use Rattle.std.specs.Result.{IsErrAnd};
 ghost use Rattle.command_line.specs.Limits.{read_limit};
 
 use super::one_read::OneRead;
-use super::remembering_reader::RememberingReader;
+use crate::failure::has_failed;
 use std::io;
 use std::io::{ErrorKind, Read};
 
@@ -15,9 +16,9 @@ pub const MAX_READS: u64 = 2_097_152;
 /// further one fails, and the reader within is not read.
 #[derive(Drop)]
 pub struct CountedReader<R> {
-    inner: RememberingReader<R>,
+    inner: R,
     reads: u64,
-    is_used_up: bool,
+    failed: bool,
     ghost limited: { reads ≤ read_limit },
 }
 
@@ -30,9 +31,9 @@ impl<R> CountedReader<R> {
         ensures failed { reading_failed result ≡ false }
     {
         CountedReader {
-            inner: RememberingReader::new(inner),
+            inner,
             reads: 0,
-            is_used_up: false,
+            failed: false,
         }
     }
 
@@ -45,8 +46,8 @@ impl<R> CountedReader<R> {
 }
 
 impl<R: OneRead> Read for CountedReader<R> {
-    ghost use Rattle.command_line.specs.CountedReader.{inner_failed, inner_of, reads_of, reading_failed, remaining_of, IsSpent};
-    ghost use Rattle.command_line.specs.Failures.{RemembersFailure};
+    ghost use Rattle.command_line.specs.CountedReader.{inner_of, reads_of, reading_failed, remaining_of, IsSpent};
+    ghost use Rattle.command_line.specs.Failures.{IsFailure, RemembersFailure};
 
     ghost remaining = { remaining_of R.remaining };
 
@@ -54,16 +55,18 @@ impl<R: OneRead> Read for CountedReader<R> {
         ensures bound { ReadsAtMost result buf.new }
         ensures bytes { ReadConsumes (remaining_of R.remaining self.old) (remaining_of R.remaining self.new) result buf.new }
         ensures failed { RemembersFailure (reading_failed self.old) (reading_failed self.new) result }
-        ensures cause { reading_failed self.new ≡ true → IsSpent self.old ⊎ (inner_failed self.new ≡ true) }
+        ensures cause { reading_failed self.new ≡ true → IsSpent self.old ⊎ IsErrAnd result IsFailure }
         ensures once { ¬ (IsSpent self.old) → R.made (inner_of self.old) result buf.new (inner_of self.new) }
         ensures counted { reading_failed self.old ≡ false → reads_of self.new ≡ min (reads_of self.old + 1) read_limit }
         ensures stopped { IsSpent self.old → (inner_of self.new ≡ inner_of self.old) × (reads_of self.new ≡ reads_of self.old) × (reading_failed self.new ≡ true) }
     {
-        if self.inner.has_failed() || self.is_used_up || self.reads == MAX_READS {
-            self.is_used_up = true;
+        if self.failed || self.reads == MAX_READS {
+            self.failed = true;
             return Err(io::Error::from(ErrorKind::TimedOut));
         }
         self.reads += 1;
-        self.inner.read(buf)
+        let result = self.inner.read_once(buf);
+        self.failed = has_failed(&result);
+        result
     }
 }

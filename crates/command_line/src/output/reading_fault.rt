@@ -1,6 +1,6 @@
 //! A fault of reading as JSON.
-ghost use Rattle.std.specs.Prelude.{◌≡◌, Some};
-ghost use Rattle.command_line.specs.FaultTexts.{after_code, after_sentence, before_code, reading_fault_text};
+ghost use Rattle.std.specs.Prelude.{Some};
+ghost use Rattle.command_line.specs.FaultTexts.{reading_fault_text};
 
 use crate::fault::Fault;
 use crate::remark::Explained;
@@ -14,32 +14,14 @@ pub struct ReadingFault(pub Fault);
 impl fmt::Display for ReadingFault {
     ghost output = { λ fault. Some (reading_fault_text fault.0) };
 
+    #[tactic(auto, unfolding(crate::specs::FaultTexts::before_code, crate::specs::FaultTexts::after_code, crate::specs::FaultTexts::after_sentence))]
     fn fmt<W: fmt::Write>(&self, f: &mut fmt::Formatter<W>) -> fmt::Result {
         let explained = Explained::of(self.0);
         let code = explained.code();
         let sentence = explained.sentence();
-        let (before, between, after) = (before_code(), after_code(), after_sentence());
-        write!(f, "{before}{code}{between}{sentence}{after}")
+        write!(
+            f,
+            "{{\n  \"dovecounter\": 1,\n  \"fault\": {{\n    \"code\": \"{code}\",\n    \"values\": [],\n    \"sentence\": \"{sentence}\"\n  }}\n}}\n"
+        )
     }
-}
-
-#[tactic(auto, unfolding(crate::specs::FaultTexts::before_code))]
-fn before_code() -> &'static str
-    ensures { result.now ≡ before_code }
-{
-    "{\n  \"dovecounter\": 1,\n  \"fault\": {\n    \"code\": \""
-}
-
-#[tactic(auto, unfolding(crate::specs::FaultTexts::after_code))]
-fn after_code() -> &'static str
-    ensures { result.now ≡ after_code }
-{
-    "\",\n    \"values\": [],\n    \"sentence\": \""
-}
-
-#[tactic(auto, unfolding(crate::specs::FaultTexts::after_sentence))]
-fn after_sentence() -> &'static str
-    ensures { result.now ≡ after_sentence }
-{
-    "\"\n  }\n}\n"
 }

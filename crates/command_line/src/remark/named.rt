@@ -1,13 +1,12 @@
 ghost use Rattle.std.specs.Prelude.{◌≡◌};
 ghost use Rattle.applications.specs.FaultWords.{advert_fault_words};
-ghost use Rattle.plan_certificate.specs.FaultWords.{reason_words};
 ghost use Rattle.command_line.specs.Faults.{fault_words};
-ghost use Rattle.command_line.specs.Places.{first_word, own_place, place_of};
+ghost use Rattle.command_line.specs.Places.{first_word, place_of};
 ghost use Rattle.command_line.specs.Places as spec;
 
 use super::place::Place;
 use crate::fault::Fault;
-use applications::{AdvertFault, WeightTable, WeightsFault};
+use applications::{AdvertFault, WeightsFault};
 use bus_model::ScriptFault;
 use control_sets::ProvisionFault;
 use field_tables::SffFault;
@@ -34,16 +33,95 @@ impl Named {
             Fault::Io => nowhere("IO"),
             Fault::TooLong => nowhere("PT2"),
             Fault::Parts(count) => at("PT1", Place::Parts(count)),
-            Fault::Image(fault) => of_image(fault),
-            Fault::Report(fault) => of_report(fault),
+            Fault::Image(fault) => match fault {
+                ImageFault::BadHeader => nowhere("IM1"),
+                ImageFault::BadLine(line) => at("IM2", Place::ImageLine(line)),
+                ImageFault::OutOfOrder(line) => at("IM3", Place::ImageLine(line)),
+                ImageFault::TooManyPages => nowhere("IM4"),
+                ImageFault::NoEnd => nowhere("IM5"),
+                ImageFault::AfterEnd => nowhere("IM6"),
+            },
+            Fault::Report(fault) => match fault {
+                ReportFault::Memory => nowhere("memory"),
+                ReportFault::Unknown(identifier) => at("RP1", Place::Identifier(identifier)),
+                ReportFault::Bus(_) => nowhere("RP2"),
+                ReportFault::GaveUp => nowhere("RP3"),
+                ReportFault::Revision(revision) => at("RP4", Place::Revision(revision)),
+                ReportFault::Absent(key) => at("RP6", Place::Half(key)),
+                ReportFault::Sff(fault) => match fault {
+                    SffFault::WrongIdentifier(identifier) => at(
+                        "SF1",
+                        Place::Identifier(identifier),
+                    ),
+                    SffFault::FlatMemory => nowhere("SF2"),
+                    SffFault::Absent(key) => at("SF3", Place::Half(key)),
+                    SffFault::NoDiagnostics => nowhere("SF4"),
+                    SffFault::ExternalCalibration => nowhere("SF5"),
+                    SffFault::AddressChange => nowhere("SF6"),
+                },
+                ReportFault::Advert(fault) => of_advert(fault),
+            },
             Fault::Advert(fault) => of_advert(fault),
-            Fault::Weights(fault) => of_weights(fault, weights_line),
-            Fault::Kept(fault) => of_kept(fault),
-            Fault::Certificate(fault) => of_certificate(fault),
-            Fault::Bad(reason, number) => of_reason(reason, number),
-            Fault::Script(fault) => of_script(fault),
-            Fault::Module(fault) => of_module(fault),
-            Fault::Provision(fault) => of_provision(fault),
+            Fault::Weights(fault) => match fault {
+                WeightsFault::NotToml => at("WT1", Place::WeightsLine(weights_line)),
+                WeightsFault::NoHostTable => at("WT2", Place::WeightsLine(weights_line)),
+                WeightsFault::BadKey(_) => at("WT3", Place::WeightsLine(weights_line)),
+                WeightsFault::SameKeyTwice(table, number) => at(
+                    "WT4",
+                    Place::WeightsKey(table, number),
+                ),
+                WeightsFault::BadWeight(table, number) => at(
+                    "WT5",
+                    Place::WeightsKey(table, number),
+                ),
+                WeightsFault::OtherKey => at("WT6", Place::WeightsLine(weights_line)),
+                WeightsFault::Memory => nowhere("memory"),
+            },
+            Fault::Kept(fault) => match fault {
+                KeptFault::BadLine(line) => at("KP1", Place::KeptLine(line)),
+                KeptFault::TooMany => nowhere("KP2"),
+                KeptFault::NotAdmissible(number) => at("KP3", Place::KeptPath(usize::from(number))),
+            },
+            Fault::Certificate(fault) => match fault {
+                CertificateFault::BadLine(line) => at("CT1", Place::CertificateLine(line)),
+                CertificateFault::OutOfOrder(line) => at("CT2", Place::CertificateLine(line)),
+                CertificateFault::TooMany => nowhere("CT3"),
+                CertificateFault::NoEnd => nowhere("CT4"),
+            },
+            Fault::Bad(reason, number) => match reason {
+                Reason::PathNotAllowed => at("VR1", Place::Path(number)),
+                Reason::LaneTwice => at("VR2", Place::Path(number)),
+                Reason::WeightWrong => nowhere("VR3"),
+                Reason::NoStart => nowhere("VR4"),
+                Reason::NotClosed => at("VR5", Place::Entry(number)),
+                Reason::TooLow => at("VR6", Place::Entry(number)),
+                Reason::StartNotWeight => nowhere("VR7"),
+                Reason::KeptNotAdmissible => at("VR8", Place::KeptPath(number)),
+                Reason::KeptMissing => at("VR9", Place::KeptPath(number)),
+                Reason::PairingDiffers => nowhere("VR10"),
+            },
+            Fault::Script(fault) => match fault {
+                ScriptFault::BadLine(line) => at("BU3", Place::ScriptLine(line)),
+                ScriptFault::TooLong => nowhere("BU4"),
+            },
+            Fault::Module(fault) => match fault {
+                SimFault::Absent(key) => at("SM1", Place::Half(key)),
+                SimFault::Advert(_) => nowhere("SM2"),
+                SimFault::BadDelay => nowhere("SM3"),
+                SimFault::ActiveNotPaths(lane) => at("SM4", Place::Lane(lane)),
+            },
+            Fault::Provision(fault) => match fault {
+                ProvisionFault::Rejected(lane, status) => at(
+                    "PV1",
+                    Place::LaneStatus(lane, status),
+                ),
+                ProvisionFault::StagedDiffers(lane) => at("PV2", Place::Lane(lane)),
+                ProvisionFault::ActiveDiffers(lane) => at("PV3", Place::Lane(lane)),
+                ProvisionFault::GaveUp => nowhere("PV4"),
+                ProvisionFault::Bus(_) => nowhere("PV5"),
+                ProvisionFault::ModuleState(code) => at("PV6", Place::State(code)),
+                ProvisionFault::Reserved(code) => at("PV7", Place::Code(code)),
+            },
         }
     }
 }
@@ -62,50 +140,7 @@ fn nowhere(code: &'static str) -> Named
     at(code, Place::Nowhere)
 }
 
-fn of_image(fault: ImageFault) -> Named
-    ensures code { result.code.now ≡ first_word (fault_words (Fault.Image fault)) }
-    ensures place { result.place ≡ own_place (Fault.Image fault) }
-{
-    match fault {
-        ImageFault::BadHeader => nowhere("IM1"),
-        ImageFault::BadLine(line) => at("IM2", Place::ImageLine(line)),
-        ImageFault::OutOfOrder(line) => at("IM3", Place::ImageLine(line)),
-        ImageFault::TooManyPages => nowhere("IM4"),
-        ImageFault::NoEnd => nowhere("IM5"),
-        ImageFault::AfterEnd => nowhere("IM6"),
-    }
-}
-
-fn of_report(fault: ReportFault) -> Named
-    ensures code { result.code.now ≡ first_word (fault_words (Fault.Report fault)) }
-    ensures place { result.place ≡ own_place (Fault.Report fault) }
-{
-    match fault {
-        ReportFault::Memory => nowhere("memory"),
-        ReportFault::Unknown(identifier) => at("RP1", Place::Identifier(identifier)),
-        ReportFault::Bus(_) => nowhere("RP2"),
-        ReportFault::GaveUp => nowhere("RP3"),
-        ReportFault::Revision(revision) => at("RP4", Place::Revision(revision)),
-        ReportFault::Absent(key) => at("RP6", Place::Half(key)),
-        ReportFault::Sff(fault) => of_sff(fault),
-        ReportFault::Advert(fault) => of_advert(fault),
-    }
-}
-
-fn of_sff(fault: SffFault) -> Named
-    ensures code { result.code.now ≡ first_word (fault_words (Fault.Report (ReportFault.Sff fault))) }
-    ensures place { result.place ≡ own_place (Fault.Report (ReportFault.Sff fault)) }
-{
-    match fault {
-        SffFault::WrongIdentifier(identifier) => at("SF1", Place::Identifier(identifier)),
-        SffFault::FlatMemory => nowhere("SF2"),
-        SffFault::Absent(key) => at("SF3", Place::Half(key)),
-        SffFault::NoDiagnostics => nowhere("SF4"),
-        SffFault::ExternalCalibration => nowhere("SF5"),
-        SffFault::AddressChange => nowhere("SF6"),
-    }
-}
-
+// One that comes alone and in reports.
 fn of_advert(fault: AdvertFault) -> Named
     ensures code { result.code.now ≡ first_word (advert_fault_words fault) }
     ensures place { result.place ≡ spec.place_of_advert fault }
@@ -117,112 +152,5 @@ fn of_advert(fault: AdvertFault) -> Named
         AdvertFault::Absent(key) => at("AD4", Place::Half(key)),
         AdvertFault::BadSum(page) => at("AD5", Place::Page(page)),
         AdvertFault::NotEightLanes(identifier) => at("AD6", Place::Identifier(identifier)),
-    }
-}
-
-fn of_weights(fault: WeightsFault, line: Option<usize>) -> Named
-    ensures code { result.code.now ≡ first_word (fault_words (Fault.Weights fault)) }
-    ensures place { result.place ≡ spec.place_of_weights fault line }
-{
-    let place = match line {
-        Some(line) => Place::WeightsLine(line),
-        None => Place::Nowhere,
-    };
-    match fault {
-        WeightsFault::NotToml => at("WT1", place),
-        WeightsFault::NoHostTable => at("WT2", place),
-        WeightsFault::BadKey(_) => at("WT3", place),
-        WeightsFault::SameKeyTwice(table, number) => at("WT4", key_of(table, number)),
-        WeightsFault::BadWeight(table, number) => at("WT5", key_of(table, number)),
-        WeightsFault::OtherKey => at("WT6", place),
-        WeightsFault::Memory => nowhere("memory"),
-    }
-}
-
-fn key_of(table: WeightTable, number: u8) -> Place
-    ensures { result ≡ spec.key_of table number }
-{
-    match table {
-        WeightTable::Host => Place::HostKey(number),
-        WeightTable::Media => Place::MediaKey(number),
-        WeightTable::App => Place::AppKey(number),
-    }
-}
-
-fn of_kept(fault: KeptFault) -> Named
-    ensures code { result.code.now ≡ first_word (fault_words (Fault.Kept fault)) }
-    ensures place { result.place ≡ own_place (Fault.Kept fault) }
-{
-    match fault {
-        KeptFault::BadLine(line) => at("KP1", Place::KeptLine(line)),
-        KeptFault::TooMany => nowhere("KP2"),
-        KeptFault::NotAdmissible(number) => at("KP3", Place::KeptPath(usize::from(number))),
-    }
-}
-
-fn of_certificate(fault: CertificateFault) -> Named
-    ensures code { result.code.now ≡ first_word (fault_words (Fault.Certificate fault)) }
-    ensures place { result.place ≡ own_place (Fault.Certificate fault) }
-{
-    match fault {
-        CertificateFault::BadLine(line) => at("CT1", Place::CertificateLine(line)),
-        CertificateFault::OutOfOrder(line) => at("CT2", Place::CertificateLine(line)),
-        CertificateFault::TooMany => nowhere("CT3"),
-        CertificateFault::NoEnd => nowhere("CT4"),
-    }
-}
-
-fn of_reason(reason: Reason, number: usize) -> Named
-    ensures code { result.code.now ≡ first_word (reason_words reason) }
-    ensures place { result.place ≡ own_place (Fault.Bad reason number) }
-{
-    match reason {
-        Reason::PathNotAllowed => at("VR1", Place::Path(number)),
-        Reason::LaneTwice => at("VR2", Place::Path(number)),
-        Reason::WeightWrong => nowhere("VR3"),
-        Reason::NoStart => nowhere("VR4"),
-        Reason::NotClosed => at("VR5", Place::Entry(number)),
-        Reason::TooLow => at("VR6", Place::Entry(number)),
-        Reason::StartNotWeight => nowhere("VR7"),
-        Reason::KeptNotAdmissible => at("VR8", Place::KeptPath(number)),
-        Reason::KeptMissing => at("VR9", Place::KeptPath(number)),
-        Reason::PairingDiffers => nowhere("VR10"),
-    }
-}
-
-fn of_script(fault: ScriptFault) -> Named
-    ensures code { result.code.now ≡ first_word (fault_words (Fault.Script fault)) }
-    ensures place { result.place ≡ own_place (Fault.Script fault) }
-{
-    match fault {
-        ScriptFault::BadLine(line) => at("BU3", Place::ScriptLine(line)),
-        ScriptFault::TooLong => nowhere("BU4"),
-    }
-}
-
-fn of_module(fault: SimFault) -> Named
-    ensures code { result.code.now ≡ first_word (fault_words (Fault.Module fault)) }
-    ensures place { result.place ≡ own_place (Fault.Module fault) }
-{
-    match fault {
-        SimFault::Absent(key) => at("SM1", Place::Half(key)),
-        SimFault::Advert(_) => nowhere("SM2"),
-        SimFault::BadDelay => nowhere("SM3"),
-        SimFault::ActiveNotPaths(lane) => at("SM4", Place::Lane(lane)),
-    }
-}
-
-fn of_provision(fault: ProvisionFault) -> Named
-    ensures code { result.code.now ≡ first_word (fault_words (Fault.Provision fault)) }
-    ensures place { result.place ≡ own_place (Fault.Provision fault) }
-{
-    match fault {
-        ProvisionFault::Rejected(lane, status) => at("PV1", Place::LaneStatus(lane, status)),
-        ProvisionFault::StagedDiffers(lane) => at("PV2", Place::Lane(lane)),
-        ProvisionFault::ActiveDiffers(lane) => at("PV3", Place::Lane(lane)),
-        ProvisionFault::GaveUp => nowhere("PV4"),
-        ProvisionFault::Bus(_) => nowhere("PV5"),
-        ProvisionFault::ModuleState(code) => at("PV6", Place::State(code)),
-        ProvisionFault::Reserved(code) => at("PV7", Place::Code(code)),
     }
 }

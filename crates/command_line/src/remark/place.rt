@@ -2,6 +2,7 @@ ghost use Rattle.std.specs.Prelude.{Some};
 ghost use Rattle.command_line.specs.Places.{place_text};
 
 use super::shown_byte::ShownByte;
+use applications::WeightTable;
 use paged_memory::Key;
 use std::fmt;
 
@@ -11,7 +12,7 @@ pub enum Place {
     Nowhere,
     Parts(usize),
     ImageLine(usize),
-    WeightsLine(usize),
+    WeightsLine(Option<usize>),
     KeptLine(usize),
     CertificateLine(usize),
     ScriptLine(usize),
@@ -19,9 +20,7 @@ pub enum Place {
     Page(u8),
     Identifier(u8),
     Revision(u8),
-    HostKey(u8),
-    MediaKey(u8),
-    AppKey(u8),
+    WeightsKey(WeightTable, u8),
     Path(usize),
     KeptPath(usize),
     Entry(usize),
@@ -41,7 +40,8 @@ impl fmt::Display for Place {
             Place::Parts(1) => write!(f, ", 1 part"),
             Place::Parts(count) => write!(f, ", {count} parts"),
             Place::ImageLine(line) => write!(f, ", line {line} of the image"),
-            Place::WeightsLine(line) => write!(f, ", line {line} of the weights"),
+            Place::WeightsLine(None) => Ok(()),
+            Place::WeightsLine(Some(line)) => write!(f, ", line {line} of the weights"),
             Place::KeptLine(line) => write!(f, ", line {line} of the kept paths"),
             Place::CertificateLine(line) => write!(f, ", line {line} of the certificate"),
             Place::ScriptLine(line) => write!(f, ", line {line} of the script"),
@@ -58,15 +58,15 @@ impl fmt::Display for Place {
                 let (major, minor) = (revision / 16, revision % 16);
                 write!(f, ", revision {major}.{minor}")
             }
-            Place::HostKey(host_id) => {
+            Place::WeightsKey(WeightTable::Host, host_id) => {
                 let host_id = ShownByte(host_id);
                 write!(f, ", key {host_id}")
             }
-            Place::MediaKey(media_id) => {
+            Place::WeightsKey(WeightTable::Media, media_id) => {
                 let media_id = ShownByte(media_id);
                 write!(f, ", key {media_id} of 'media'")
             }
-            Place::AppKey(number) => write!(f, ", key {number} of 'app'"),
+            Place::WeightsKey(WeightTable::App, number) => write!(f, ", key {number} of 'app'"),
             Place::Path(number) => write!(f, ", path {number}"),
             Place::KeptPath(number) => write!(f, ", kept path {number}"),
             Place::Entry(number) => write!(f, ", entry {number}"),

@@ -1,7 +1,6 @@
 use Rattle.std.proofs.Common.{rules, ◌∙◌, ap₂, sym}
 use Rattle.clap.specs.Words.{with_rule, new_app}
-use Rattle.command_line.specs.Entries.{flag_of}
-use Rattle.command_line.specs.GivenFlags.{FlagEntry, flag_rule}
+use Rattle.command_line.specs.GivenFlags.{FlagEntry, flag_of, flag_rule}
 use Rattle.command_line.proofs.FoldLemmas.{fold_map_more}
 use Rattle.command_line.proofs.choice.command.Goals as goal
 

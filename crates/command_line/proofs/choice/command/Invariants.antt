@@ -1,8 +1,8 @@
 use Rattle.std.proofs.Common.{◌≡◌, map, take, false}
 use Rattle.clap.specs.Words.{app_of}
 use Rattle.clap.specs.declared.builder.command.Command.TheViews.{out-Command as fields_of}
-use Rattle.command_line.specs.Choice.{command_app}
-use Rattle.command_line.specs.Entries.{entry_of, flag_of}
+use Rattle.command_line.specs.Choice.{command_app, entry_of}
+use Rattle.command_line.specs.GivenFlags.{flag_of}
 use Rattle.command_line.proofs.choice.command.Given as goal
 
 abbrev pub invariant-loop-given : goal.invariant-loop-given

@@ -4,11 +4,11 @@ use Rattle.clap.proofs.CallerLemmas.{subcommand_required}
 use Rattle.command_line.specs.Choice.{request_in}
 use Rattle.command_line.specs.ChoiceFault.{fault_by_kind}
 use Rattle.command_line.proofs.CommandLineLemmas.{request_known, fault_among, from_error, is_some-option_map, needs_command, simple, simple_and_free}
-use Rattle.command_line.proofs.GivenWords.{asked_for, if_ok, refused_for}
+use Rattle.command_line.proofs.GivenWords.{answered}
 use Rattle.command_line.proofs.choice.parsed.Goals as goal
 
-pub returns-in_err-matches-clause-refused : goal.returns-in_err-matches-clause-refused
-returns-in_err-matches-clause-refused c =
+pub returns-in_err-matches : goal.returns-in_err-matches
+returns-in_err-matches c =
     let words = map string_bytes c.args.words.now in
     let is_program = c.in_ok-program.ensures.app in
     let has = c.in_err-matches.ensures.kinds (ap is_simple_and_free is_program ∙ simple_and_free) in
@@ -26,29 +26,10 @@ requested-requires c =
     c.in_ok-program.ensures.local (ap (λ (a : App). a.top.subcommand_required) is_program ∙ needs_command) in
     request_known words _ (sym (met.1 ∙ ap (λ a. subcommand_of a words) is_program)) (is_some-option_map _ _ ∙ has)
 
-pub returns-clause-answer : goal.returns-clause-answer
-returns-clause-answer c =
+pub returns : goal.returns
+returns c =
     let words = map string_bytes c.args.words.now in
     let is_program = c.in_ok-program.ensures.app in
     let met = c.in_ok-matches.ensures.matches (ap is_simple is_program ∙ simple) in
-    let has = subcommand_required c.in_ok-program.field-0 c.in_ok-matches.matches c.in_ok-matches.ensures.parsed
-    c.in_ok-program.ensures.local (ap (λ (a : App). a.top.subcommand_required) is_program ∙ needs_command) in
-    let known = request_known words _ (sym (met.1 ∙ ap (λ a. subcommand_of a words) is_program)) (is_some-option_map _ _ ∙ has) in
-    rw (ap request_in (sym (met.1 ∙ ap (λ a. subcommand_of a words) is_program))) (asked_for _ c.requested.result known c.requested.ensures)
-
-pub returns-clause-taken : goal.returns-clause-taken
-returns-clause-taken c =
-    let words = map string_bytes c.args.words.now in
-    let is_program = c.in_ok-program.ensures.app in
-    if_ok c.requested.result _ (ap (λ a. fault_of a words) (sym is_program) ∙ c.in_ok-matches.ensures.kinds (ap is_simple_and_free is_program ∙ simple_and_free))
-
-pub returns-clause-refused : goal.returns-clause-refused
-returns-clause-refused c =
-    let words = map string_bytes c.args.words.now in
-    let is_program = c.in_ok-program.ensures.app in
-    let met = c.in_ok-matches.ensures.matches (ap is_simple is_program ∙ simple) in
-    let has = subcommand_required c.in_ok-program.field-0 c.in_ok-matches.matches c.in_ok-matches.ensures.parsed
-    c.in_ok-program.ensures.local (ap (λ (a : App). a.top.subcommand_required) is_program ∙ needs_command) in
-    let known = request_known words _ (sym (met.1 ∙ ap (λ a. subcommand_of a words) is_program)) (is_some-option_map _ _ ∙ has) in
-    refused_for words _ c.requested.result known c.requested.ensures (ap request_in (sym (met.1 ∙ ap (λ a. subcommand_of a words) is_program)))
-    (ap (λ a. fault_of a words) (sym is_program) ∙ c.in_ok-matches.ensures.kinds (ap is_simple_and_free is_program ∙ simple_and_free))
+    let none = ap (λ a. fault_of a words) (sym is_program) ∙ c.in_ok-matches.ensures.kinds (ap is_simple_and_free is_program ∙ simple_and_free) in
+    answered words c.requested.ensures.0 c.requested.result (ap request_in (sym (met.1 ∙ ap (λ a. subcommand_of a words) is_program)) ∙ c.requested.ensures.1) none c.requested.ensures.2

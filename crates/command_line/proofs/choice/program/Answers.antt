@@ -1,8 +1,7 @@
 use Rattle.std.proofs.Common.{rules, ◌∙◌, ap, ap₂, sym, map}
 use Rattle.std.proofs.lemmas.List.{take_all}
 use Rattle.clap.specs.Words.{App, with_subcommand}
-use Rattle.command_line.specs.Choice.{Entry, bare_program, command_app, program, program_of}
-use Rattle.command_line.specs.Entries.{entry_of}
+use Rattle.command_line.specs.Choice.{Entry, bare_program, command_app, entry_of, program, program_of}
 use Rattle.command_line.proofs.FoldLemmas.{fold_map_more}
 use Rattle.command_line.proofs.choice.program.Goals as goal
 

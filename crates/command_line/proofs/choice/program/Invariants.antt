@@ -1,8 +1,7 @@
 use Rattle.std.proofs.Common.{◌≡◌, map, take, false}
 use Rattle.clap.specs.Words.{app_of}
 use Rattle.clap.specs.declared.builder.command.Command.TheViews.{out-Command as fields_of}
-use Rattle.command_line.specs.Choice.{program_of}
-use Rattle.command_line.specs.Entries.{entry_of}
+use Rattle.command_line.specs.Choice.{entry_of, program_of}
 use Rattle.command_line.proofs.choice.program.Given as goal
 
 abbrev pub invariant-loop-entry : goal.invariant-loop-entry

@@ -1,6 +1,5 @@
 use Rattle.std.proofs.lemmas.Iterator.Consumers.{YieldsList-from_first, nth_from_yields_List}
-use Rattle.command_line.specs.Parts.{parts_of}
-use Rattle.command_line.specs.PartsLeft.{parts_left}
+use Rattle.command_line.specs.Parts.{parts_left, parts_of}
 use Rattle.command_line.proofs.parts.part.Goals as goal
 
 pub returns : goal.returns

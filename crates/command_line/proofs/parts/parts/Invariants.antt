@@ -1,6 +1,5 @@
 use Rattle.std.proofs.Common.{◌≡◌, ◌++◌, length, map, take}
-use Rattle.command_line.specs.Parts.{parts_of}
-use Rattle.command_line.specs.PartsLeft.{parts_left}
+use Rattle.command_line.specs.Parts.{parts_left, parts_of}
 use Rattle.command_line.proofs.parts.parts.Given as goal
 
 -- the parts so far, of which the first are kept, and those that are left, are all

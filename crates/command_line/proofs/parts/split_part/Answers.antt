@@ -1,7 +1,10 @@
-use Rattle.std.proofs.Common.{◌≡◌, true, false, rules}
+use Rattle.std.proofs.Common.{◌≡◌, true, false, [], arith, refl, rules}
 use Rattle.command_line.specs.Parts.{is_separator_line}
 use Rattle.command_line.proofs.PartCuts.{one_passed, part_ends, part_is_all}
 use Rattle.command_line.proofs.parts.split_part.Goals as goal
+
+pub loop-line-init : goal.loop-line-init
+loop-line-init c = record { before = []; all = refl; long = refl; within = omega arith; joined = λ part more same. same }
 
 pub returns-then-is_separator : goal.returns-then-is_separator
 returns-then-is_separator c =

@@ -1,6 +1,5 @@
 use Rattle.std.proofs.Common.{find, sym, ap, ◌∙◌}
-use Rattle.plan_certificate.specs.declared.state.State.{State}
-use Rattle.plan_certificate.specs.declared.state.Decision.{Decision}
+use Rattle.lane_planner.proofs.Words.{State}
 use Rattle.lane_planner.specs.Tables.{move_keeps_gain}
 use Rattle.lane_planner.proofs.ChosenPaths.{chosen_move, none_keeps}
 use Rattle.lane_planner.proofs.ReadOffs.{begun, free_more, path_more, read_off}
@@ -11,26 +10,17 @@ loop-state-init c = rw (c.start-state.ensures, c.new-paths.ensures) (begun c.arg
 
 pub loop-state-preserved-in-Some : goal.loop-state-preserved-in-Some
 loop-state-preserved-in-Some c =
-    let advert = c.args.advert.now in
-    let weights = c.args.weights.now in
-    let kept = c.args.kept.now in
-    let table = c.args.table.now in
     let state : State = c.loop-state.state in
-    let found = ap (find (move_keeps_gain kept table state)) (sym (c.as_slice.ensures.value ∙ c.put_moves.ensures.moves)) ∙ sym c.chosen.ensures.found ∙ c.in-Some.is in
-    let chosen = chosen_move advert weights kept table state c.in-Some.one (rw c.put_moves.ensures.moves at c.put_moves.ensures.rising) found in
-    let more = path_more advert weights kept table state c.loop-state.paths.items c.in-Some.one.path c.requires.kept c.requires.gains c.loop-state.invariant c.loop-state-test.true chosen.keeps chosen.lowest in
-    rw (c.push.ensures.items, ap (λ (s : Decision). s.end) c.decision-state.ensures ∙ chosen.end) more
+    let found = ap (find (move_keeps_gain c.args.kept.now c.args.table.now state)) (sym (c.as_slice.ensures.value ∙ c.put_moves.ensures.moves)) ∙ sym c.chosen.ensures.found ∙ c.in-Some.is in
+    let chosen = chosen_move c.args.advert.now c.args.weights.now c.args.kept.now c.args.table.now state c.in-Some.one (rw c.put_moves.ensures.moves at c.put_moves.ensures.rising) found in
+    rw (c.push.ensures.items, c.decision-state.ensures) (path_more c.requires.gains c.loop-state.invariant c.requires.kept c.loop-state-test.true c.in-Some.one chosen)
 
 pub loop-state-preserved : goal.loop-state-preserved
 loop-state-preserved c =
-    let advert = c.args.advert.now in
-    let weights = c.args.weights.now in
-    let kept = c.args.kept.now in
-    let table = c.args.table.now in
     let state : State = c.loop-state.state in
-    let none = none_keeps advert weights kept table state (ap (find (move_keeps_gain kept table state)) (sym (c.as_slice.ensures.value ∙ c.put_moves.ensures.moves)) ∙ sym c.chosen.ensures.found ∙ c.in-None.is) in
-    let more = free_more advert weights kept table state c.loop-state.paths.items c.requires.gains c.loop-state.invariant c.loop-state-test.true none in
-    rw (ap (λ (s : Decision). s.end) c.free_decision-state.ensures) more
+    let none = ap (find (move_keeps_gain c.args.kept.now c.args.table.now state)) (sym (c.as_slice.ensures.value ∙ c.put_moves.ensures.moves)) ∙ sym c.chosen.ensures.found ∙ c.in-None.is in
+    let keeps = none_keeps c.args.advert.now c.args.weights.now c.args.kept.now c.args.table.now state none in
+    rw c.free_decision-state.ensures (free_more c.requires.gains c.loop-state.invariant c.loop-state-test.true keeps)
 
 pub returns : goal.returns
-returns c = read_off c.args.advert.now c.args.weights.now c.args.kept.now c.args.table.now c.loop-state.state c.loop-state.paths.items c.requires.gains c.loop-state.invariant c.loop-state-test.false
+returns c = read_off c.requires.gains c.loop-state.invariant c.loop-state-test.false

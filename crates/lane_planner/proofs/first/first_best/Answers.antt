@@ -1,5 +1,5 @@
 use Rattle.std.proofs.Common.{◌≡◌, ◌∙◌, List, subst}
-use Rattle.plan_certificate.specs.declared.path.Path.{Path}
+use Rattle.lane_planner.proofs.Words.{Path}
 use Rattle.plan_certificate.proofs.Heaviest.{good_is_best}
 use Rattle.lane_planner.specs.FirstBest.{IsFirstBest}
 use Rattle.lane_planner.proofs.FirstLaws.{first_of_same, one_first}

@@ -4,7 +4,7 @@ use Rattle.std.proofs.lemmas.Bool.{MatchBool-at_true}
 use Rattle.std.proofs.lemmas.Iterator.{YieldsList-from_slice, cases_from_all}
 use Rattle.std.proofs.lemmas.Iterator.Search.{true_from_All}
 use Rattle.std.proofs.lemmas.List.Elements.{All-contains, Contains-get_or}
-use Rattle.plan_certificate.specs.declared.path.Path.{Path}
+use Rattle.lane_planner.proofs.Words.{Path}
 use Rattle.lane_planner.proofs.first.has_all.Goals as goal
 
 pub returns : goal.returns

@@ -1,15 +1,11 @@
 use Rattle.std.proofs.Common.{◌≡◌, ◌∙◌, List, append-nil, take, sym, subst, arith}
 use Rattle.std.proofs.lemmas.List.Elements.{All-get_or}
-use Rattle.plan_certificate.specs.declared.moves.Move.{Move}
-use Rattle.plan_certificate.specs.declared.state.State.{State}
-use Rattle.plan_certificate.specs.declared.state.Decision.{Decision}
-use Rattle.plan_certificate.specs.States.{free_decision}
-use Rattle.plan_certificate.specs.Moves.{LeadsOn, decisions_by, move_decision}
+use Rattle.lane_planner.proofs.Words.{Move, State, Decision, free_decision, LeadsOn, decisions_by, move_decision}
 use Rattle.lane_planner.specs.Tables.{gain_at}
 use Rattle.lane_planner.proofs.MoreMoves.{decisions_more}
 use Rattle.lane_planner.proofs.TableGains.{most_more, small_in}
 use Rattle.lane_planner.proofs.gains.most.Goals as goal
-use Rattle.lane_planner.proofs.gains.most.Goals.{then-may_stay_free, else-may_stay_free, then-is_open+then-most-through, then-is_open+else-most-through, else-is_open}
+use Rattle.lane_planner.proofs.gains.most.Goals.{then-may_stay_free, else-may_stay_free, then-is_open, else-is_open}
 
 pub loop-one-init : goal.loop-one-init
 loop-one-init c =
@@ -18,7 +14,7 @@ loop-one-init c =
     elim c.if-may_stay_free.branch [
       | then-may_stay_free w ↦
           let rest : c.if-may_stay_free.most ≡ gain_at table decision.end = cc in
-          record { most = rw w.if-may_stay_free.true (omega (arith, rest)); small = omega (arith, rest, small_in table decision.end c.requires.table (omega (arith, c.requires.open))) }
+          record { most = rw w.if-may_stay_free.true (omega (arith, rest)); small = omega (arith, rest, small_in table decision.end c.requires.table) }
       | else-may_stay_free w ↦ record { most = rw w.if-may_stay_free.false w.most-is; small = omega (arith, w.most-is) }
     ]
 
@@ -35,17 +31,11 @@ loop-one-preserved c =
     let leads = subst (LeadsOn state.boundary) (sym c.one-item.is) (All-get_or (LeadsOn state.boundary) moves index move c.loop-one-test.true c.requires.lead_on) in
     let so_far = c.loop-one.invariant in
     elim c.if-is_open.branch [
-      | then-is_open+then-most-through w ↦
+      | then-is_open w ↦
           let rest : w.at.result ≡ gain_at table decision.end = cc in
           record {
-            most = rw (more, sym c.is_open.ensures ∙ w.if-is_open.true) (omega (arith, most_more table before decision, w.most-is, rest, w.if-most-through.true, so_far.most));
-            small = omega (arith, w.most-is, rest, small_in table decision.end c.requires.table leads.within, leads.further, leads.within, leads.light);
-          }
-      | then-is_open+else-most-through w ↦
-          let rest : w.at.result ≡ gain_at table decision.end = cc in
-          record {
-            most = rw (more, sym c.is_open.ensures ∙ w.if-is_open.true) (omega (arith, most_more table before decision, w.most-is, rest, w.if-most-through.false, so_far.most));
-            small = omega (arith, w.most-is, so_far.small);
+            most = rw (more, sym c.is_open.ensures ∙ w.if-is_open.true) (omega (arith, most_more table before decision, w.most-is, rest, so_far.most));
+            small = omega (arith, w.most-is, rest, so_far.small, small_in table decision.end c.requires.table, leads.further, leads.within, leads.light);
           }
       | else-is_open w ↦ record { most = rw (more, sym c.is_open.ensures ∙ w.if-is_open.false, append-nil before) (w.most-is ∙ so_far.most); small = omega (arith, w.most-is, so_far.small) }
     ]

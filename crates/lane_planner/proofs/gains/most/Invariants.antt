@@ -1,5 +1,5 @@
 use Rattle.std.proofs.Common.{◌≡◌, ◌-◌, ◌*◌, ◌≤◌, take}
-use Rattle.plan_certificate.specs.Moves.{decisions_by}
+use Rattle.lane_planner.proofs.Words.{decisions_by}
 use Rattle.lane_planner.specs.Tables.{most_by}
 use Rattle.lane_planner.proofs.gains.most.Given as goal
 

@@ -9,17 +9,16 @@ use Rattle.module_reading.specs.ReadImages.{IsGivenUp, IsImageOf, IsReading, IsU
 use Rattle.module_reading.proofs.FetchTold.{left_going, left_undone, left_whole, reads}
 use Rattle.reports.proofs.fetching.fetch_image.Goals as goal
 
-abbrev SameTopic : Reading → Reading → Type 0
-SameTopic old new = ◌≡◌ {A = ℕ × (Bool × Request)} (new.limit, (new.conversation.doubts, new.conversation.conversation.request)) (old.limit, (old.conversation.doubts, old.conversation.conversation.request))
+abbrev topic_of : Reading → ℕ × (Bool × Request)
+topic_of reading = (reading.limit, (reading.conversation.doubts, reading.conversation.conversation.request))
 
-module _ (old new : Reading) (begun : old ≡ begun_reading everything) (same : SameTopic old new) where
+-- a reading that goes on as it began: it doesn't doubt, and reads everything
+module _ (old new : Reading) (begun : old ≡ begun_reading everything) (same : topic_of new ≡ topic_of old) where
   limit_is : new.limit ≡ most_steps
-  limit_is = ap (λ (t : ℕ × (Bool × Request)). t.0) same ∙ ap (λ (r : Reading). r.limit) begun
+  limit_is = ap (λ (topic : ℕ × (Bool × Request)). topic.0) (same ∙ ap topic_of begun)
 
-  -- it doesn't doubt, and reads everything
   by_all : (P : Bool → Request → Type 0) → P new.conversation.doubts new.conversation.conversation.request → P false everything
-  by_all P has = subst (P false) (ap (λ (t : ℕ × (Bool × Request)). t.1.1) same ∙ ap (λ (r : Reading). r.conversation.conversation.request) begun)
-      (subst (λ (doubts : Bool). P doubts new.conversation.conversation.request) (ap (λ (t : ℕ × (Bool × Request)). t.1.0) same ∙ ap (λ (r : Reading). r.conversation.doubts) begun) has)
+  by_all P has = subst (λ (topic : ℕ × (Bool × Request)). P topic.1.0 topic.1.1) (same ∙ ap topic_of begun) has
 
 pub returns-in-Some : goal.returns-in-Some
 returns-in-Some g c =

@@ -10,7 +10,7 @@ pub loop-line-preserved : goal.loop-line-preserved
 loop-line-preserved c =
     let l = c.loop-line in
     let read = rw c.in-Some.ensures.lines at l.invariant.read in
-    let more = c.in-Ok.ensures read.said read.drafts in
+    let more = c.in_ok-take.ensures read.said read.drafts in
     record {
       read = read_more (lines_of c.args.text.now) (lines_of c.in-Some.after.now) c.in-Some.line.now l.draft c.take.new.self l.number read more.0 more.1 more.2 more.3;
       bounded = omega (arith, l.invariant.bounded, c.in-Some.ensures.shorter);

@@ -1,5 +1,6 @@
-use Rattle.std.proofs.Common.{string_bytes, ap}
+use Rattle.std.proofs.Common.{◌≡◌, ◌<◌, Some, string_bytes, sym}
 use Rattle.toml.specs.View.{view, members_view, table_view}
+use Rattle.applications.specs.WeightKeys.{named_by}
 use Rattle.applications.specs.WeightTables.{Member, members_of}
 use Rattle.applications.proofs.TableMembers.{reads_start, reads_more, reads_weights}
 use Rattle.applications.proofs.weights.members.read_members.Goals as goal
@@ -9,12 +10,15 @@ loop-key-init c = rw c.into_iter-key-iterator.ensures.into_iter_gives.0 (reads_s
 
 pub loop-key-preserved : goal.loop-key-preserved
 loop-key-preserved c =
-    let all = members_of (table_view c.args.members.now) in
     let member : Member = (string_bytes c.in-Some.key.now, view c.in-Some.value.now) in
+    let number = c.in-Some-named_by.number in
     let reads = rw c.in-Some.ensures.steps at c.loop-key.invariant in
-    let said = rw c.as_bytes.ensures.value at c.in_ok-number.ensures.answer in
-    let byte = rw c.as_bytes.ensures.value at c.in_ok-number.ensures.byte in
-    rw (c.from.ensures, c.from-in-loop-key.ensures, ap (λ p. p.0) said.1, ap (λ p. p.1) said.1) (reads_more c.args.table all (members_of (members_view c.next.new.self)) _ _ member reads byte said.0)
+    let named : named_by c.args.table member.0 ≡ Some number = sym (rw c.as_bytes.ensures.value at c.in-Some-named_by.ensures.number) in
+    let below : number < 256 = rw (sym c.in-Some-named_by.ensures.number) at c.in-Some-named_by.ensures.byte in
+    let new = rw c.from.ensures at c.if-listed-from.false in
+    rw (c.from-in-loop-key.ensures, c.from-in-loop-key-2.ensures)
+    (reads_more c.args.table (members_of (table_view c.args.members.now)) (members_of (members_view c.next.new.self)) _ _ member reads number named below new
+    c.in-Some-weight_of_value.weight (sym c.in-Some-weight_of_value.ensures))
 
 pub returns-clause-answer : goal.returns-clause-answer
 returns-clause-answer c =

@@ -4,8 +4,7 @@ use Rattle.std.proofs.lemmas.Iterator.{YieldsList-from_slice}
 use Rattle.std.proofs.lemmas.Iterator.Search.{find_from_yields_List}
 use Rattle.clap.proofs.WalkLemmas.{find-map}
 use Rattle.command_line.specs.declared.choice.commands.CommandEntry.{CommandEntry}
-use Rattle.command_line.specs.Choice.{Entry}
-use Rattle.command_line.specs.Entries.{entry_of}
+use Rattle.command_line.specs.Choice.{Entry, entry_of}
 use Rattle.command_line.proofs.choice.commands.command_named.Goals as goal
 
 pub returns : goal.returns

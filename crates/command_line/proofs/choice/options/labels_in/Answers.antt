@@ -1,4 +1,4 @@
-use Rattle.std.proofs.Common.{rules, ◌≡◌, ◌∙◌, refl, List, Err, Option, Result, [], ap, subst, sym, drop_of_length-le}
+use Rattle.std.proofs.Common.{◌≡◌, ◌∙◌, refl, List, Err, Option, Result, [], ap, subst, sym, drop_of_length-le}
 use Rattle.std.specs.Prelude.{unwrap_or}
 use Rattle.std.proofs.lemmas.Result.{err_from_is_err_and}
 use Rattle.clap.specs.Words.{Text}
@@ -12,9 +12,6 @@ use Rattle.command_line.proofs.choice.options.labels_in.Goals as goal
 
 abbrev failed : LabelFault → Result (Unit {0}) LabelFault
 failed error = Err error
-
-pub loop-word-init : goal.loop-word-init
-loop-word-init c = search rules
 
 pub loop-word-preserved : goal.loop-word-preserved
 loop-word-preserved c = c.loop-word.invariant

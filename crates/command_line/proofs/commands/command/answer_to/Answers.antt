@@ -13,7 +13,7 @@ pub returns-in-Plan-clause-answer : goal.returns-in-Plan-clause-answer
 returns-in-Plan-clause-answer c = rw c.in-Plan.is c.plan.ensures.answer
 
 pub returns-in-Draw-clause-answer : goal.returns-in-Draw-clause-answer
-returns-in-Draw-clause-answer c = rw c.in-Draw.is c.draw.ensures.answer
+returns-in-Draw-clause-answer c = rw c.in-Draw.is c.plan-in-Draw.ensures.answer
 
 pub returns-in-Check-clause-answer : goal.returns-in-Check-clause-answer
 returns-in-Check-clause-answer c = rw c.in-Check.is c.check.ensures.answer

@@ -11,7 +11,8 @@ use Rattle.command_line.specs.InactivePaths.{first_inactive}
 use Rattle.command_line.specs.Inputs.{inputs_of}
 use Rattle.command_line.specs.ProvisionCommand.{IsNoModule, IsSetUpRefusal}
 use Rattle.command_line.specs.declared.fault.Fault.TheVariants.{Module, Script}
-use Rattle.command_line.proofs.ProcedureAnswers.{bus_with, module_starts, module_stops, planning_refused}
+use Rattle.command_line.proofs.FaultOrValue.{answered, refused}
+use Rattle.command_line.proofs.ProcedureAnswers.{bus_with, planning_refused}
 use Rattle.command_line.proofs.commands.session.set_up.Goals as goal
 
 pub returns-in_err-planning-clause-answer : goal.returns-in_err-planning-clause-answer
@@ -31,7 +32,7 @@ returns-in_err-module-clause-answer c =
     let memory = c.in_ok-planning.planning.image in
     let given = c.delays.result in
     let p = err_from_is_err_and c.from_residual-in_err-module.result c.from_residual-in_err-module.ensures.1 in
-    let stops = module_stops (start memory given) c.in_err-module.field-0.0 (start_fault memory given) c.in_err-module.ensures in
+    let stops = refused (start memory given) c.in_err-module.field-0.0 (start_fault memory given) c.in_err-module.ensures in
     let none : IsNoModule c.args.conventions (inputs_of c.args.inputs.now) c.in_err-module.field-0.0 = record {
       planning = c.in_ok-planning.planning;
       is_planning = c.in_ok-planning.ensures.answer;
@@ -47,7 +48,7 @@ returns-clause-answer c =
     let planning = c.in_ok-planning.planning in
     let given = c.delays.result in
     let certified = c.first_plan-plan.ensures.certified in
-    let starts = module_starts c.in_ok-module.module (start planning.image given) (start_fault planning.image given) c.in_ok-module.ensures in
+    let starts = answered (start planning.image given) c.in_ok-module.module (start_fault planning.image given) c.in_ok-module.ensures in
     let module_is = starts.1 ∙ ap (λ (d : Delays). start planning.image d) c.delays.ensures in
     record {
       set_up = record {

@@ -5,17 +5,15 @@ use Rattle.lane_planner.proofs.marks.Marks.first.Goals as goal
 
 pub loop-place-preserved : goal.loop-place-preserved
 loop-place-preserved c =
-    let marks = c.args.self.now in
     let place : ℕ = c.loop-place.place in
     let before = c.loop-place.invariant in
     record {
-      after = omega (arith, before.after, c.next.ensures.later, c.loop-place-test.true);
-      within = omega arith;
+      after = omega (arith, before.after, c.next-place.ensures.later);
       none = λ other past low marked. elim (cases_lt other place) [
         | inl early ↦ before.none other past early marked
         | inr late ↦ elim (cases_eq other place) [
-          | inl same ↦ both_ways _ (sym c.has.ensures ∙ c.if-has.false) (subst (IsMarked marks) same marked)
-          | inr differs ↦ c.next.ensures.none other (omega (arith, late, differs)) (omega (arith, low)) marked
+          | inl same ↦ both_ways _ (sym c.has.ensures ∙ c.if-has.false) (subst (IsMarked c.args.self.now) same marked)
+          | inr differs ↦ c.next-place.ensures.none other (omega (arith, late, differs)) low marked
         ]
       ];
     }

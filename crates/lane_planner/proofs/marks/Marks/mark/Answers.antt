@@ -1,10 +1,7 @@
-use Rattle.std.proofs.Common.{Bool, List, true, set, ap, ◌∙◌}
-use Rattle.lane_planner.proofs.MarkBits.{marks_set}
+use Rattle.std.proofs.Common.{ℕ, ◌||◌, List, nat_eq, ap, ◌∙◌, arith}
+use Rattle.lane_planner.specs.Marks.{is_marked}
+use Rattle.lane_planner.proofs.MarkBits.{set_at}
 use Rattle.lane_planner.proofs.marks.Marks.mark.Goals as goal
 
 pub returns : goal.returns
-returns c =
-    let place = c.args.place in
-    let byte = c.with_bit-byte in
-    marks_set c.self.inside.bytes place byte.result c.self.invariant c.requires byte.ensures.set byte.ensures.others
-    ∙ ap (λ (marks : List Bool). set marks place true) c.self.view_is
+returns c = λ other. set_at c.self.inside.bytes c.args.place other (omega (arith, c.self.invariant, c.requires)) ∙ ap (λ (marks : List ℕ). nat_eq other c.args.place || is_marked marks other) c.self.view_is

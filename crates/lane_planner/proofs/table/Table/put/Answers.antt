@@ -1,6 +1,6 @@
 use Rattle.std.proofs.Common.{◌≡◌, ◌+◌, ◌*◌, ◌/◌, ◌%◌, List, ℕ, set, ap, ◌∙◌, arith}
 use Rattle.lane_planner.specs.Tables.{numbers_of}
-use Rattle.lane_planner.proofs.CellNumbers.{cell_set, parts_set}
+use Rattle.lane_planner.proofs.CellNumbers.{cell_set}
 use Rattle.lane_planner.proofs.table.Table.put.Goals as goal
 
 pub returns : goal.returns
@@ -13,8 +13,3 @@ returns c =
     cell_set lows highs place (number % 4294967296) (number / 4294967296) c.self.invariant c.requires.place c.cell_of-cell.result c.cell_of-cell.ensures
     ∙ ap (λ (n : ℕ). set (numbers_of lows highs) place n) whole
     ∙ ap (λ (numbers : List ℕ). set numbers place number) c.self.view_is
-
-pub invariant_of-self : goal.invariant_of-self
-invariant_of-self c =
-    let number : ℕ = c.args.number in
-    parts_set c.self.inside.low c.self.inside.high c.cell_of-cell.result (number % 4294967296) (number / 4294967296) c.self.invariant (omega (arith, c.requires.small))

@@ -1,6 +1,6 @@
 use Rattle.std.proofs.lemmas.Result.{err_from_is_err_and}
 use Rattle.command_line.specs.Inputs.{inputs_of}
-use Rattle.command_line.specs.PlanningInputs.{IsPlanningRefusal}
+use Rattle.command_line.specs.PlanningInputs.{Advertises, IsPlanningRefusal}
 use Rattle.command_line.specs.declared.fault.Fault.TheVariants.{Kept}
 use Rattle.command_line.proofs.PlanningRefusals.{advert_refused, weights_refused}
 use Rattle.command_line.proofs.commands.planning_inputs.Planning.read.Goals as goal
@@ -13,8 +13,9 @@ returns-in_err-image-clause-answer c =
 pub returns-in_err-weights-clause-answer : goal.returns-in_err-weights-clause-answer
 returns-in_err-weights-clause-answer c =
     let p = err_from_is_err_and c.from_residual-in_err-weights.result c.from_residual-in_err-weights.ensures.1 in
-    rw (p.1, p.2) (weights_refused c.args.conventions (inputs_of c.args.inputs.now) c.in_err-weights.field-0.0
-    (c.in_ok-image.advert, record { memory = c.in_ok-image.image; is_module = c.in_ok-image.ensures }) c.in_err-weights.ensures.answer)
+    let inputs = inputs_of c.args.inputs.now in
+    let told : Advertises c.args.conventions inputs.image = (c.in_ok-image.advert, record { memory = c.in_ok-image.image; is_module = c.in_ok-image.ensures }) in
+    rw (p.1, p.2) (weights_refused (IsPlanningRefusal c.args.conventions inputs) inputs.weights tt (λ f is. (told, is)) c.in_err-weights.field-0.0 c.in_err-weights.ensures.answer)
 
 pub returns-in_err-kept-clause-answer : goal.returns-in_err-kept-clause-answer
 returns-in_err-kept-clause-answer c =

@@ -1,0 +1,15 @@
+-- What is known of an optional fault where it is answered, or else a value.
+use Rattle.std.proofs.Common.{◌≡◌, Option, Some, None, Result, Ok, Err, refl}
+use Rattle.std.specs.Prelude.{MatchOption}
+
+module _ {T F : Type 0} (told : T) where
+  abbrev Answers : Option F → Result T F → Type 0
+  Answers o r = MatchOption o (r ≡ Ok told) (λ f. r ≡ Err f)
+
+  pub answered : (made : T) (o : Option F) → Answers o (Ok made) → (o ≡ None) × (made ≡ told)
+  answered made None h = (refl, cc)
+  answered made (Some f) h = absurd cc
+
+  pub refused : (f : F) (o : Option F) → Answers o (Err f) → o ≡ Some f
+  refused f None h = absurd cc
+  refused f (Some g) h = cc
