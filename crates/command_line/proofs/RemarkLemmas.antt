@@ -1,6 +1,6 @@
 -- What is said beside an answer is what its input gives cause for.
 use Rattle.std.proofs.Common.{◌≡◌, ◌∙◌, ℕ, Bool, true, false, List, Option, Some, None, IfSome, Ok, Err, ap, sym, refl, subst}
-use Rattle.command_line.specs.Runs.{Answer, EndsByFailure, IsRemarkBeside, IsSaidBeside, IsWritten, SaysReading, clue_beside, ended, ending_after, opening_beside, output_of, status_after}
+use Rattle.command_line.specs.Runs.{Answer, Ending, EndsByFailure, IsRemarkBeside, IsSaidBeside, IsWritten, SaysReading, clue_beside, ended, ending_after, opening_beside, output_of, status_after}
 use Rattle.reports.specs.declared.fault.ReportFault.TheVariants as report
 use Rattle.command_line.specs.declared.told_fault.ToldFault.TheVariants.{Procedure, Metrics}
 use Rattle.command_line.specs.declared.fault.Fault.TheVariants as fault
@@ -9,7 +9,6 @@ use Rattle.command_line.specs.declared.remark.clue.Clue.{Clue}
 use Rattle.command_line.specs.declared.remark.opening.Opening.{Opening}
 use Rattle.command_line.specs.declared.status.Status.{Status}
 use Rattle.command_line.specs.declared.status.Status.TheVariants.{ReadOrWrite}
-use Rattle.command_line.specs.declared.ending.Ending.{Ending}
 use Rattle.command_line.specs.Program.{refusal_ending, refusal_remark}
 
 pub said_beside : (failed : Bool) (status : Status) (input : List ℕ) (answer : Answer) (clue : Clue) (remark : Remark) → IsRemarkBeside answer clue remark
@@ -27,11 +26,10 @@ ending_status true status remark = refl
 ending_status false status remark = refl
 
 -- a refusal ends with its status
-pub refusal_remarked : (failed : Bool) (status : Status) (ending : Ending) → ending ≡ refusal_ending failed status
-    → (ending.status ≡ status) × (ending ≡ refusal_ending failed ending.status)
-refusal_remarked failed status ending is =
-    let same : ending.status ≡ status = ap (λ (e : Ending). e.status) is ∙ ending_status failed status (refusal_remark status) in
-    (same, is ∙ ap (refusal_ending failed) (sym same))
+pub refusal_remarked : (failed : Bool) (status : Status) (remark : Remark) → remark ≡ refusal_remark status
+    → ((ending_after failed status remark).status ≡ status) × (ending_after failed status remark ≡ refusal_ending failed (ending_after failed status remark).status)
+refusal_remarked true status remark is = (refl, refl)
+refusal_remarked false status remark is = (refl, ap (ending_after false status) is)
 
 -- of all answers a failed read alone ends so
 only_reading : (answer : Answer) → status_after answer ≡ ReadOrWrite → answer ≡ Err fault.Io

@@ -1,17 +1,17 @@
 -- One run of the whole program, from the words of its command line and its input to what it writes and how it ends.
 -- (docs/formats.md; this project's own)
-use Rattle.std.specs.Prelude.{◌≡◌, ◌⊎◌, ℕ, Bool, true, false, List, [], map, string_bytes, Option, Some, IfSome, Result, Ok, Err, Vec, String}
+use Rattle.std.specs.Prelude.{◌≡◌, ◌⊎◌, ℕ, Bool, true, false, List, [], map, string_bytes, Option, Some, IfSome, Result, Ok, Err, MatchResult, Vec, String}
 use Rattle.std.specs.Result.{result_map_both}
 use Rattle.std.specs.IoError.{error_kind}
 use Rattle.std.specs.Io.KnownBytes.{Appends}
 use Rattle.std.specs.declared.alloc.Global.{Global}
 use Rattle.std.specs.declared.io.Error.{Error}
 use Rattle.clap.specs.Words.{Text, takes}
-use Rattle.command_line.specs.Choice.{faults_of, program, request_of}
+use Rattle.command_line.specs.Choice.{AsksFor, faults_of, program, request_of}
 use Rattle.command_line.specs.ChoiceFault.{IsFaultAmong, fault_of_words, refusal_text, status_of_fault}
 use Rattle.command_line.specs.Commands.{IsAnswerOf}
 use Rattle.command_line.specs.Coloring.{request_on_screen}
-use Rattle.command_line.specs.Runs.{IsCommandRun, ended, ending_after}
+use Rattle.command_line.specs.Runs.{Ending, IsCommandRun, ended, ending_after}
 use Rattle.command_line.specs.StoppingWriter.{contents_of, writing_failed}
 use Rattle.command_line.specs.declared.choice.commands.Request.{Request}
 use Rattle.command_line.specs.declared.choice.fault.ChoiceFault.{ChoiceFault}
@@ -20,7 +20,6 @@ use Rattle.command_line.specs.declared.choice.word_fault.WordFault.{WordFault}
 use Rattle.command_line.specs.declared.input.counted_reader.CountedReader.{CountedReader}
 use Rattle.command_line.specs.declared.output.stopping_writer.StoppingWriter.{StoppingWriter}
 use Rattle.command_line.specs.Remarks.{remark_text}
-use Rattle.command_line.specs.declared.ending.Ending.{Ending}
 use Rattle.command_line.specs.declared.remark.Remark.{Remark}
 use Rattle.command_line.specs.declared.remark.Remark.TheVariants.{Nothing, NoMemory}
 use Rattle.command_line.specs.declared.status.Status.{Status}
@@ -69,12 +68,15 @@ pub record IsRefusalRun {R W : Type 0} (contents : W → Option (List ℕ)) (IsS
   pub remarked : ending ≡ refusal_ending (writing_failed writer_after) ending.status
   pub stopped : writing_failed writer ≡ true → writer_after ≡ writer
 
+-- what the words of a command line ask for, if they could be read
+abbrev pub IsRequestIn : Result (List Text) Error → Result Request ChoiceFault → Type 0
+IsRequestIn (Ok words) requested = MatchResult requested (AsksFor words) (IsRefusalOf words)
+IsRequestIn (Err error) requested = requested ≡ Err (fault_of_words (error_kind error))
+
 -- what the words ask for was run, on a screen that shows colors or not, or they were refused
 abbrev pub IsProgramRun : {R W : Type 0} → (R → Option (List ℕ)) → (W → Option (List ℕ)) → Bool → Result (List Text) Error
     → CountedReader R → CountedReader R → StoppingWriter W → StoppingWriter W → Ending → Type 0
-IsProgramRun remaining contents shows_colors (Ok words) reader reader_after writer writer_after ending =
-    ((request : Request) × (request_of words ≡ Some (Ok request))
-    × IsCommandRun remaining contents request.options.json (IsAnswerOf (request_on_screen shows_colors request)) reader reader_after writer writer_after ending)
-    ⊎ ((fault : ChoiceFault) × IsRefusalOf words fault × IsRefusalRun contents (IsRefusalSaid fault) reader reader_after writer writer_after ending)
-IsProgramRun remaining contents shows_colors (Err error) reader reader_after writer writer_after ending =
-    IsRefusalRun contents (IsRefusalSaid (fault_of_words (error_kind error))) reader reader_after writer writer_after ending
+IsProgramRun remaining contents shows_colors words reader reader_after writer writer_after ending =
+    (requested : Result Request ChoiceFault) × IsRequestIn words requested × MatchResult requested
+    (λ request. IsCommandRun remaining contents request.options.json (IsAnswerOf (request_on_screen shows_colors request)) reader reader_after writer writer_after ending)
+    (λ fault. IsRefusalRun contents (IsRefusalSaid fault) reader reader_after writer writer_after ending)

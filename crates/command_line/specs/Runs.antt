@@ -10,7 +10,6 @@ use Rattle.command_line.specs.Remarks.{beside_told, clue_for}
 use Rattle.command_line.specs.declared.remark.clue.Clue.{Clue}
 use Rattle.command_line.specs.declared.remark.opening.Opening.{Opening}
 use Rattle.command_line.specs.declared.remark.opening.Opening.TheVariants.{Other}
-use Rattle.command_line.specs.declared.ending.Ending.{Ending}
 use Rattle.command_line.specs.declared.remark.Remark.{Remark}
 use Rattle.command_line.specs.declared.remark.Remark.TheVariants.{Unwritten, Refused, Warned}
 use Rattle.command_line.specs.declared.remark.warnings.Warnings.{Warnings}
@@ -108,7 +107,12 @@ abbrev pub IsSaidBeside : Bool → List ℕ → Answer → Remark → Type 0
 IsSaidBeside true input answer remark = remark ≡ Unwritten
 IsSaidBeside false input answer remark = IsRemarkBeside answer (clue_beside answer input) remark
 
--- how a run ends with this status, and this to be said: after a failed write that alone
+-- how a run ends: its status, and what standard error says
+pub record Ending : Type 0 where
+  pub status : Status
+  pub remark : Remark
+
+-- with this status, and this to be said: after a failed write that alone
 abbrev pub ending_after : Bool → Status → Remark → Ending
 ending_after true status remark = record { status = status; remark = Unwritten }
 ending_after false status remark = record { status = status; remark = remark }

@@ -4,7 +4,6 @@
 pub mod choice;
 mod command_output;
 mod commands;
-mod ending;
 mod failure;
 mod fault;
 mod input;

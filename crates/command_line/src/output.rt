@@ -35,16 +35,16 @@ impl From<io::Error> for OutputFault {
 /// Writes an answer, a text or a fault or both, the fault in this form, and answers how the program ends.
 pub fn write_answer<W: Write>(
     writer: &mut StoppingWriter<W>,
-    answer: Result<CommandOutput, Fault>,
+    answer: &Result<CommandOutput, Fault>,
     form: &FaultForm,
 ) -> Status
-    ensures written { IsWritten (output_in form.now (answer_of answer)) (answer_of answer)
+    ensures written { IsWritten (output_in form.now (answer_of answer.now)) (answer_of answer.now)
         (contents_of W.contents writer.old) (contents_of W.contents writer.new) (writing_failed writer.new) result }
     ensures stopped { writing_failed writer.old ≡ true → writer.new ≡ writer.old }
 {
     match answer {
-        Ok(output) => write_output(writer, &output, form),
-        Err(fault) => write_fault(writer, fault, form),
+        Ok(output) => write_output(writer, output, form),
+        Err(fault) => write_fault(writer, *fault, form),
     }
 }
 
@@ -72,7 +72,12 @@ fn write_output<W: Write>(
     }
 }
 
-fn write_fault<W: Write>(writer: &mut StoppingWriter<W>, fault: Fault, form: &FaultForm) -> Status
+/// Writes a fault in this form, and answers how the program ends.
+pub fn write_fault<W: Write>(
+    writer: &mut StoppingWriter<W>,
+    fault: Fault,
+    form: &FaultForm,
+) -> Status
     ensures written { IsWritten (fault_in form.now fault) (Err fault)
         (contents_of W.contents writer.old) (contents_of W.contents writer.new) (writing_failed writer.new) result }
     ensures stopped { writing_failed writer.old ≡ true → writer.new ≡ writer.old }

@@ -14,6 +14,8 @@ use text_lines::{LF, split_ended_line};
 pub const MAX_PARTS: usize = 4;
 
 /// The parts of an input, if there are so many.
+// A function of its own once compiled too: its loop is slower where it shares registers with its caller's.
+#[inline(never)]
 pub fn parts(input: &[u8], count: usize) -> Result<ArrayVec<&[u8], MAX_PARTS>, Fault>
     requires room { count ≤ most_parts }
     requires limit { length input.now ≤ input_limit }

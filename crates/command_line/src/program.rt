@@ -1,12 +1,13 @@
 //! One run of the whole program.
 ghost use Rattle.std.specs.Prelude.{◌≡◌};
-ghost use Rattle.command_line.specs.Program.{IsProgramRun, IsRemarkSaid, refusal_ending, refusal_remark, words_of};
+ghost use Rattle.command_line.specs.Runs.{ending_after};
 ghost use Rattle.command_line.specs.StoppingWriter.{writing_failed};
+ghost use Rattle.command_line.specs.Program.{IsProgramRun, IsRemarkSaid, IsRequestIn, refusal_remark, words_of};
 
+use crate::choice::commands::Request;
 use crate::choice::fault::{ChoiceFault, choice_refused};
 use crate::choice::request;
 use crate::commands;
-use crate::ending::Ending;
 use crate::input::CountedReader;
 use crate::output::StoppingWriter;
 use crate::remark::Remark;
@@ -29,9 +30,13 @@ pub fn run<R: Read, W: Write, E: Write>(
         reader.old reader.new writer.old writer.new record { status = result; remark = remark }
         × IsRemarkSaid E.contents remark errors.old errors.new }
 {
-    let ending = ending(alloc, words, shows_colors, reader, writer);
-    say(&ending.remark, errors);
-    ending.status
+    let mut remark = Remark::Nothing;
+    let status = run_words(alloc, words, shows_colors, reader, writer, &mut remark);
+    if writer.has_failed() {
+        remark = Remark::Unwritten;
+    }
+    say(&remark, errors);
+    status
 }
 
 /// Says a remark, if it can be said.
@@ -41,35 +46,45 @@ fn say<E: Write>(remark: &Remark, errors: &mut StoppingWriter<E>)
     let _said = errors.put_text(remark);
 }
 
-/// Does what the words ask for, or says why it does not.
-fn ending<R: Read, W: Write>(
+/// Does what the words ask for, or says why it does not, and notes what is to be said beside it.
+fn run_words<R: Read, W: Write>(
     alloc: Global,
     words: io::Result<Vec<String>>,
     shows_colors: bool,
     reader: &mut CountedReader<R>,
     writer: &mut StoppingWriter<W>,
-) -> Ending
+    remark: &mut Remark,
+) -> Status
     ensures { IsProgramRun R.remaining W.contents shows_colors (words_of words)
-        reader.old reader.new writer.old writer.new result }
+        reader.old reader.new writer.old writer.new (ending_after (writing_failed writer.new) result remark.new) }
 {
-    let words = match words {
-        Ok(words) => words,
-        Err(error) => return refused(choice_refused(&ChoiceFault::from(error), writer), writer),
-    };
-    match request(alloc, words.as_slice()) {
-        Ok(request) => commands::run(alloc, request.on_screen(shows_colors), reader, writer),
-        Err(fault) => refused(choice_refused(&fault, writer), writer),
+    match requested(alloc, words) {
+        Ok(request) => {
+            commands::run(
+                alloc,
+                request.on_screen(shows_colors),
+                reader,
+                writer,
+                remark,
+            )
+        }
+        Err(fault) => {
+            let status = choice_refused(&fault, writer);
+            *remark = refusal_remark(status);
+            status
+        }
     }
 }
 
-/// How a run ends whose command line was refused with this status.
-fn refused<W>(status: Status, writer: &StoppingWriter<W>) -> Ending
-    ensures { result ≡ refusal_ending (writing_failed writer.now) status }
+/// What the words ask for, if they could be read.
+fn requested(alloc: Global, words: io::Result<Vec<String>>) -> Result<Request, ChoiceFault>
+    ensures { IsRequestIn (words_of words) result }
 {
-    Ending::after(status, refusal_remark(status), writer)
+    let words = words?;
+    request(alloc, words.as_slice())
 }
 
-/// What is said beside it.
+/// What is said beside a refusal that ends with this status.
 fn refusal_remark(status: Status) -> Remark
     ensures { result ≡ refusal_remark status }
 {

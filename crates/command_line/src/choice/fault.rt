@@ -9,7 +9,7 @@ ghost use Rattle.command_line.specs.declared.choice.fault.ChoiceFault.TheVariant
 
 use super::word_fault::WordFault;
 use crate::fault::Fault;
-use crate::output::{FaultForm, StoppingWriter, status_after, write_answer};
+use crate::output::{FaultForm, StoppingWriter, status_after, write_fault};
 use crate::status::Status;
 use clap::error::ErrorKind;
 use module_metrics::LabelFault;
@@ -92,7 +92,7 @@ pub fn choice_refused<W: Write>(fault: &ChoiceFault, writer: &mut StoppingWriter
     ensures stopped { writing_failed writer.old ≡ true → writer.new ≡ writer.old }
 {
     match fault {
-        ChoiceFault::Memory => write_answer(writer, Err(Fault::Memory), &FaultForm::Line),
+        ChoiceFault::Memory => write_fault(writer, Fault::Memory, &FaultForm::Line),
         ChoiceFault::Line(error) => status_after(writer.put_text(error), status_of(error)),
         ChoiceFault::Word(fault) => status_after(writer.put_text(*fault), Status::CommandLine),
         ChoiceFault::Unreadable => {

@@ -5,7 +5,8 @@ ghost use Rattle.command_line.specs.CountedReader.{reading_failed, reads_of, rem
 ghost use Rattle.command_line.specs.Input.{TakesWithinLimit};
 ghost use Rattle.command_line.specs.Limits.{input_limit, read_limit};
 ghost use Rattle.command_line.specs.Inputs.{inputs_of};
-ghost use Rattle.command_line.specs.Runs.{IsCommandRun, IsOwnAnswer, SaysReading, answer_of, clue_beside, output_of};
+ghost use Rattle.command_line.specs.Runs.{IsCommandRun, IsOwnAnswer, SaysReading, answer_of, clue_beside, ending_after, output_of};
+ghost use Rattle.command_line.specs.StoppingWriter.{writing_failed};
 ghost use Rattle.command_line.specs.FaultForms.{output_in};
 
 use super::check_command::check;
@@ -16,29 +17,29 @@ use super::provision_command::provision;
 use super::report_commands::{print_observables, report};
 use crate::choice::commands::{CommandName, Request};
 use crate::command_output::CommandOutput;
-use crate::ending::Ending;
 use crate::fault::Fault;
 use crate::input::{CountedReader, read_input};
 use crate::output::{FaultForm, StoppingWriter, write_answer};
 use crate::parts::parts;
 use crate::remark::{Clue, Remark};
+use crate::status::Status;
 use std::alloc::Global;
 use std::io::{Read, Write};
 
-/// Reads the whole input, and writes what the command that was chosen answers to it.
+/// Reads the whole input, writes what the command that was chosen answers to it, and notes what is to be said beside it.
 pub fn run<R: Read, W: Write>(
     alloc: Global,
     request: Request,
     reader: &mut CountedReader<R>,
     writer: &mut StoppingWriter<W>,
-) -> Ending
+    remark: &mut Remark,
+) -> Status
     ensures { IsCommandRun R.remaining W.contents request.options.json (IsAnswerOf request)
-        reader.old reader.new writer.old writer.new result }
+        reader.old reader.new writer.old writer.new (ending_after (writing_failed writer.new) result remark.new) }
 {
     let Reply { answer, clue, form } = read_and_answer(alloc, &request, reader);
-    let remark = Remark::beside(&answer, clue);
-    let status = write_answer(writer, answer, &form);
-    Ending::after(status, remark, writer)
+    *remark = Remark::beside(&answer, clue);
+    write_answer(writer, &answer, &form)
 }
 
 /// An answer, what its input tells beside its fault, and how the fault is written.

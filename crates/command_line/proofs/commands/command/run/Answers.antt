@@ -1,4 +1,4 @@
-use Rattle.std.proofs.Common.{◌∙◌, rules, ap}
+use Rattle.std.proofs.Common.{rules, ap}
 use Rattle.command_line.specs.CountedReader.{remaining_of}
 use Rattle.command_line.specs.Runs.{answer_of}
 use Rattle.command_line.specs.StoppingWriter.{writing_failed}
@@ -10,11 +10,11 @@ use Rattle.command_line.proofs.commands.command.run.Goals as goal
 pub returns : goal.returns
 returns g c =
     let answer = answer_of c.read_and_answer-answer.result.answer in
-    let failed = writing_failed c.write_answer-status.new.writer in
-    let status = ap (λ ending. ending.status) c.after.ensures ∙ ending_status failed c.write_answer-status.result c.beside-remark.result in
+    let failed = writing_failed c.write_answer.new.writer in
+    let status = ending_status failed c.write_answer.result c.beside.result in
     record {
       reads = search rules;
-      failure = rw status (ends_by_failure (reading_failed c.read_and_answer-answer.new.reader) failed answer c.write_answer-status.result c.write_answer-status.ensures.written.0 c.read_and_answer-answer.ensures.reading);
+      failure = rw status (ends_by_failure (reading_failed c.read_and_answer-answer.new.reader) failed answer c.write_answer.result c.write_answer.ensures.written.0 c.read_and_answer-answer.ensures.reading);
       stopped = search rules;
       answered = if_known_both (remaining_of g.R.Read.remaining c.args.reader.now) _ _ _ (λ input told clue. record {
         answer = answer;
@@ -23,8 +23,8 @@ returns g c =
         taken =
             let taken = c.read_and_answer-answer.ensures.taken in
             (taken.0, record { consumed = taken.1.consumed; within = taken.1.within; at_once = λ more. ap answer_of (taken.1.at_once more) });
-        written = rw status (written_as c.args.request.options.json answer input _ _ _ _ failed c.write_answer-status.result
-            c.read_and_answer-answer.ensures.output (ap (λ (k : Clue). k.opening) clue) c.write_answer-status.ensures.written);
-        remarked = rw c.after.ensures (said_beside failed c.write_answer-status.result input answer _ c.beside-remark.result c.beside-remark.ensures clue);
+        written = rw status (written_as c.args.request.options.json answer input _ _ _ _ failed c.write_answer.result
+            c.read_and_answer-answer.ensures.output (ap (λ (k : Clue). k.opening) clue) c.write_answer.ensures.written);
+        remarked = said_beside failed c.write_answer.result input answer _ c.beside.result c.beside.ensures clue;
       }) c.read_and_answer-answer.ensures.answer c.read_and_answer-answer.ensures.clue;
     }
