@@ -29,11 +29,11 @@ use Rattle.plan_certificate.specs.Limits.{most_states}
 use Rattle.plan_certificate.specs.declared.verdict.Verdict.{Verdict}
 use Rattle.plan_certificate.specs.declared.verdict.Verdict.TheVariants.{Good, Bad}
 use Rattle.plan_certificate.proofs.OneAnswer.{same_answer}
-use Rattle.command_line.specs.CheckCommand.{IsCheckAnswer, IsGoodAnswer, IsJudged, SaysFirst, good_output}
+use Rattle.command_line.specs.CheckCommand.{IsCheckAnswer, IsGoodAnswer, IsJudged, IsFirstNoted, good_output}
 use Rattle.command_line.specs.Inputs.{Inputs, inputs_in, parts_read}
 use Rattle.command_line.specs.Limits.{input_limit}
 use Rattle.command_line.specs.Parts.{is_separator_line, parts_of}
-use Rattle.command_line.specs.PlanCommand.{IsPlanAnswer, IsPlanned, TellsPlan}
+use Rattle.command_line.specs.PlanCommand.{IsPlanAnswer, IsPlanned, IsPlanReport}
 use Rattle.command_line.specs.PlanningInputs.{IsAdvertText}
 use Rattle.command_line.specs.PlanThenCheck.{check_request, first_if, good_text, input_with, plan_inputs, plan_request, IsCalledGood, IsEnded, IsGoodBehind, IsGoodBehindInput, IsGoodInPlace}
 use Rattle.command_line.specs.Commands.{IsAnswerOf}
@@ -104,7 +104,7 @@ IsCheckTo options parts = IsCheckAnswer options (inputs_in (parts_read Check opt
 abbrev IsPlanTo : Bool → Options → List (List ℕ) → Answer → Type 0
 IsPlanTo keep options parts = IsPlanAnswer false (record options { keep = keep; json = false }) (inputs_in (parts_read Plan keep) parts)
 
-module _ (conventions : Conventions) (inputs : Inputs) (text : List ℕ) (planned : IsPlanned (TellsPlan false) conventions inputs text) where
+module _ (conventions : Conventions) (inputs : Inputs) (text : List ℕ) (planned : IsPlanned (IsPlanReport false) conventions inputs text) where
   abbrev advert : Advertised
   advert = planned.planning.advert
 
@@ -113,19 +113,19 @@ module _ (conventions : Conventions) (inputs : Inputs) (text : List ℕ) (planne
   path_weights = app_weights advert planned.planning.weights
 
   abbrev certificate : Claim
-  certificate = planned.told.certificate
+  certificate = planned.reported.certificate
 
   -- by the kept paths that the certificate names
   is_best : IsBest advert path_weights certificate.kept certificate.paths
-  is_best = subst (λ (k : List Path). IsBest advert path_weights k certificate.paths) (sym planned.told.certified.keeps) planned.told.certified.best
+  is_best = subst (λ (k : List Path). IsBest advert path_weights k certificate.paths) (sym planned.reported.certified.keeps) planned.reported.certified.best
 
   is_first : IsFirstBest advert path_weights certificate.kept certificate.paths
-  is_first = subst (λ (k : List Path). IsFirstBest advert path_weights k certificate.paths) (sym planned.told.certified.keeps) planned.told.certified.first
+  is_first = subst (λ (k : List Path). IsFirstBest advert path_weights k certificate.paths) (sym planned.reported.certified.keeps) planned.reported.certified.first
 
   is_advert : IsAdvertText conventions inputs.image advert
   is_advert = record { memory = planned.planning.image; is_module = planned.is_planning.is_module }
 
-  says : (first : Bool) → SaysFirst first advert path_weights certificate (first_if first)
+  says : (first : Bool) → IsFirstNoted first advert path_weights certificate (first_if first)
   says true = ((λ _. is_first), (λ _. refl))
   says false = tt
 
@@ -144,13 +144,13 @@ module _ (conventions : Conventions) (inputs : Inputs) (text : List ℕ) (planne
     the_path_weights = (λ i. app_weights (the_advert i) (the_weights i))
 
     the_certificate : is.certificate ≡ certificate
-    the_certificate = same_claim text is.certificate certificate is.is_certificate planned.told.read_back
+    the_certificate = same_claim text is.certificate certificate is.is_certificate planned.reported.read_back
 
     judged_good : judged ≡ Good
-    judged_good = sym is.is_verdict ∙ (λ i. verdict (the_advert i) (the_path_weights i) (the_certificate i)) ∙ planned.told.certified.judged
+    judged_good = sym is.is_verdict ∙ (λ i. verdict (the_advert i) (the_path_weights i) (the_certificate i)) ∙ planned.reported.certified.judged
 
   -- the plan is the first of the best, so this is said of it where it is asked for
-  says_so : (first : Bool) (said : Option Bool) → SaysFirst first advert path_weights certificate said → said ≡ first_if first
+  says_so : (first : Bool) (said : Option Bool) → IsFirstNoted first advert path_weights certificate said → said ≡ first_if first
   says_so true (Some first) same = ap Some (same.1 is_first)
   says_so true None never = absurd never
   says_so false None said = refl
@@ -169,27 +169,27 @@ module _ (conventions : Conventions) (inputs : Inputs) (text : List ℕ) (planne
         certificate = certificate;
         is_advert = is_advert;
         are_weights = planned.is_planning.are_weights;
-        is_certificate = planned.told.read_back;
-        is_verdict = planned.told.certified.judged;
+        is_certificate = planned.reported.read_back;
+        is_verdict = planned.reported.certified.judged;
       };
       is_best = is_best;
-      told = record { is_first = first_if options.first; says_first = says options.first; told = refl };
+      reported = record { is_first = first_if options.first; first_noted = says options.first; reported = refl };
     }
 
-    told_good : (told : List ℕ) → IsGoodAnswer ours checked told → told ≡ good_text options planned
-    told_good told is =
+    good_is : (reported : List ℕ) → IsGoodAnswer ours checked reported → reported ≡ good_text options planned
+    good_is reported is =
         let same_advert = the_advert Good is.judged in
         let weights = the_path_weights Good is.judged in
         let same_certificate = the_certificate Good is.judged in
-        let said = says_so options.first is.told.is_first (rw (weights, same_certificate, same_advert) at is.told.says_first) in
-        is.told.told ∙ (λ i. good_output options.json (said i) (same_advert i) (weights i) (same_certificate i))
+        let said = says_so options.first is.reported.is_first (rw (weights, same_certificate, same_advert) at is.reported.first_noted) in
+        is.reported.reported ∙ (λ i. good_output options.json (said i) (same_advert i) (weights i) (same_certificate i))
 
     alone : (answer : Answer) → IsCheckAnswer ours checked answer → answer ≡ Ok (good_text options planned, None)
-    alone (Ok (told, None)) is = let same = told_good told is in λ i. Ok (same i, None)
-    alone (Ok (told, Some f)) is = absurd is
+    alone (Ok (reported, None)) is = let same = good_is reported is in λ i. Ok (same i, None)
+    alone (Ok (reported, Some f)) is = absurd is
     alone (Err (fault.Bad reason number)) is = let good = judged_good (Bad reason number) is in absurd cc
     alone (Err (fault.Certificate f)) is =
-        let same = same_answer most_states (lines_of text) (Ok certificate) (Err f) planned.told.read_back is.2 in
+        let same = same_answer most_states (lines_of text) (Ok certificate) (Err f) planned.reported.read_back is.2 in
         absurd cc
     alone (Err (fault.Weights f)) is = absurd (not_refused inputs.weights planned.planning.weights f is.1.0 planned.is_planning.are_weights is.1.1)
     alone (Err (fault.Image f)) is =
@@ -212,8 +212,8 @@ module _ (conventions : Conventions) (inputs : Inputs) (text : List ℕ) (planne
     alone_to : (options : Options) (answer : Answer) → IsAnswerOf (check_request conventions options) input answer → answer ≢ Err fault.Memory → answer ≢ Err fault.Io
         → answer ≡ Ok (good_text options planned, None)
     alone_to options answer is memory read =
-        let told = judged (parts_read Check options.keep) (IsCheckAnswer (ours options)) input answer is memory read in
-        let mine = MatchOption-at_none _ _ (not_cut (parts_read Check options.keep) input within counted) told in
+        let reported = judged (parts_read Check options.keep) (IsCheckAnswer (ours options)) input answer is memory read in
+        let mine = MatchOption-at_none _ _ (not_cut (parts_read Check options.keep) input within counted) reported in
         alone options answer (subst (λ l. IsCheckTo (ours options) l answer) cut mine)
 
     called_good : IsCalledGood planned input
@@ -247,16 +247,16 @@ certificate_behind input text ended two certificate is = third_part input text e
 pub good_behind : (options : Options) (image listed kept text input : List ℕ) → parts_of input ≡ image ∷ listed ∷ kept ∷ []
     → IsAnswerOf (plan_request true options) input (Ok (text, None)) → IsGoodBehind options.conventions image listed kept text
 good_behind options image listed kept text input cut is =
-    let planned : IsPlanned (TellsPlan false) options.conventions (plan_inputs image listed kept) text = subst (λ l. IsPlanTo true options l (Ok (text, None))) cut is.2 in
+    let planned : IsPlanned (IsPlanReport false) options.conventions (plan_inputs image listed kept) text = subst (λ l. IsPlanTo true options l (Ok (text, None))) cut is.2 in
     record { planned = planned; good = λ other within parts. called_good options.conventions (plan_inputs image listed kept) text planned other parts within }
 
 pub good_behind_input : (options : Options) (input text : List ℕ) → IsEnded input → IsAnswerOf (plan_request false options) input (Ok (text, None))
     → length (input_with input text) ≤ input_limit → IsGoodBehindInput options.conventions input text
 good_behind_input options input text ended is within =
     let inputs : Inputs = plan_inputs (part_in input 0) (part_in input 1) [] in
-    let planned : IsPlanned (TellsPlan false) options.conventions inputs text =
+    let planned : IsPlanned (IsPlanReport false) options.conventions inputs text =
     subst (λ l. IsPlanTo false options l (Ok (text, None))) (two_parts (parts_of input) is.1) is.2 in
-    let cut = certificate_behind input text ended is.1 planned.told.certificate planned.told.read_back in
+    let cut = certificate_behind input text ended is.1 planned.reported.certificate planned.reported.read_back in
     record {
       image = part_in input 0;
       weights = part_in input 1;
@@ -275,7 +275,7 @@ good_in_place options input kept text ended two is within =
     let own = one_part (parts_of kept) (omega (arith, three, counted, length-append (parts_of input) (parts_of kept))) in
     let kept_behind = third_part input kept ended two (part_in kept 0) own in
     let behind = good_behind options (part_in input 0) (part_in input 1) (part_in kept 0) text (input_with input kept) kept_behind is in
-    let cut = certificate_behind input text ended two behind.planned.told.certificate behind.planned.told.read_back in
+    let cut = certificate_behind input text ended two behind.planned.reported.certificate behind.planned.reported.read_back in
     record {
       image = part_in input 0;
       weights = part_in input 1;

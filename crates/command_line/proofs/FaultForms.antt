@@ -15,8 +15,8 @@ use Rattle.command_line.specs.declared.fault.Fault.{Fault}
 use Rattle.command_line.specs.declared.fault.Fault.TheVariants.{Memory, Io, TooLong}
 use Rattle.command_line.specs.declared.output.fault_form.FaultForm.{FaultForm}
 use Rattle.command_line.specs.declared.output.fault_form.FaultForm.TheVariants.{Line, Ready}
-use Rattle.command_line.specs.declared.told_fault.ToldFault.{ToldFault}
-use Rattle.command_line.specs.declared.told_fault.ToldFault.TheVariants.{Procedure, Metrics}
+use Rattle.command_line.specs.declared.reported_fault.ReportedFault.{ReportedFault}
+use Rattle.command_line.specs.declared.reported_fault.ReportedFault.TheVariants.{Procedure, Metrics}
 use Rattle.command_line.specs.declared.remark.opening.Opening.{Opening}
 use Rattle.command_line.specs.declared.remark.opening.Opening.TheVariants.{Other}
 
@@ -33,14 +33,14 @@ of_reading true f is = reading_text f Other is
 of_reading false f is = refl
 
 -- an answer with a text, whose JSON has the fault
-text_alone : (opening : Opening) (text : List ℕ) (told : Option ToldFault) → output_in Ready (Ok (text, told)) ≡ output_of true opening (Ok (text, told))
+text_alone : (opening : Opening) (text : List ℕ) (reported : Option ReportedFault) → output_in Ready (Ok (text, reported)) ≡ output_of true opening (Ok (text, reported))
 text_alone opening text None = refl
 text_alone opening text (Some (Procedure f inactive)) = refl
 text_alone opening text (Some (Metrics f)) = refl
 
-pub ready_if_ok : (json : Bool) (opening : Opening) (answer : Result CommandOutput Fault) (told : CommandOutput) → json ≡ true → answer ≡ Ok told
+pub ready_if_ok : (json : Bool) (opening : Opening) (answer : Result CommandOutput Fault) (reported : CommandOutput) → json ≡ true → answer ≡ Ok reported
     → output_in Ready (answer_of answer) ≡ output_of json opening (answer_of answer)
-ready_if_ok json opening answer told is same = rw (is, same) (text_alone opening told.text.items told.fault)
+ready_if_ok json opening answer reported is same = rw (is, same) (text_alone opening reported.text.items reported.fault)
 
 -- a fault alone
 pub json_if_err : {E : Type 0} (json : Bool) (opening : Opening) (answer : Result CommandOutput Fault) (f : Fault) (r : Result FaultForm E) → json ≡ true → answer ≡ Err f

@@ -2,11 +2,11 @@
 use Rattle.std.proofs.Common.{◌≡◌, Option, Some, None, Result, Ok, Err, refl}
 use Rattle.std.specs.Prelude.{MatchOption}
 
-module _ {T F : Type 0} (told : T) where
+module _ {T F : Type 0} (reported : T) where
   abbrev Answers : Option F → Result T F → Type 0
-  Answers o r = MatchOption o (r ≡ Ok told) (λ f. r ≡ Err f)
+  Answers o r = MatchOption o (r ≡ Ok reported) (λ f. r ≡ Err f)
 
-  pub answered : (made : T) (o : Option F) → Answers o (Ok made) → (o ≡ None) × (made ≡ told)
+  pub answered : (made : T) (o : Option F) → Answers o (Ok made) → (o ≡ None) × (made ≡ reported)
   answered made None h = (refl, cc)
   answered made (Some f) h = absurd cc
 

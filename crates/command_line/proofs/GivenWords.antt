@@ -7,7 +7,7 @@ use Rattle.module_metrics.specs.CommonLabels.{Adds, IsAdded, label_fault}
 use Rattle.module_metrics.specs.Exposition.{Label}
 use Rattle.module_metrics.specs.declared.label_fault.LabelFault.{LabelFault}
 use Rattle.module_metrics.specs.declared.label_fault.LabelFault.TheVariants as label
-use Rattle.command_line.specs.Choice.{AsksFor, faults_of, request_of}
+use Rattle.command_line.specs.Choice.{IsRequestOf, faults_of, request_of}
 use Rattle.command_line.specs.ChoiceFault.{Gives, fault_of_label}
 use Rattle.command_line.specs.Options.{labels_with, more_labels, then_with, with_label}
 use Rattle.command_line.specs.Program.{IsRefusalOf}
@@ -22,28 +22,28 @@ pub ruleset by_rows = (first_value-rows, raw_values-rows)
 
 -- ---- labels
 
--- what one more word is told to come to, by the answer to it
-abbrev Tells : {T : Type 0} → Result (List Label) WordFault → List Label → Result T LabelFault → Type 0
-Tells told new (Ok t) = told ≡ Ok new
-Tells told new (Err fault) = Gives told (Err (fault_of_label fault))
+-- what one more word is reported to come to, by the answer to it
+abbrev IsPlanOutput : {T : Type 0} → Result (List Label) WordFault → List Label → Result T LabelFault → Type 0
+IsPlanOutput reported new (Ok t) = reported ≡ Ok new
+IsPlanOutput reported new (Err fault) = Gives reported (Err (fault_of_label fault))
 
 wrong : (fault : LabelFault) → Gives {T = List Label} (Err (WrongLabel fault)) (Err (fault_of_label fault))
 wrong label.Memory = tt
 wrong fault = refl
 
 tells : {T : Type 0} (old new : List Label) (w : Text) (o : Option LabelFault) (r : Result T LabelFault)
-    → MatchOption o (IsAdded old new w r) (λ fault. (r ≡ Err fault) × (new ≡ old)) → Tells (more_labels old w o) new r
+    → MatchOption o (IsAdded old new w r) (λ fault. (r ≡ Err fault) × (new ≡ old)) → IsPlanOutput (more_labels old w o) new r
 tells old new w None (Ok t) added = ap Ok (sym added)
 tells old new w None (Err f) added = let memory : f ≡ label.Memory = added.0 in rw memory tt
 tells old new w (Some fault) (Ok t) same = absurd cc
 tells old new w (Some fault) (Err f) same = let one : f ≡ fault = cc in rw one (wrong fault)
 
 -- a wrong word makes those after it count for nothing
-then_wrong : (k : List Label → Result (List Label) WordFault) (told : Result (List Label) WordFault) (e : ChoiceFault) → Gives told (Err e)
-    → Gives (then_with k told) (Err e)
-then_wrong k told Memory gives = tt
-then_wrong k told (Word f) gives = ap (then_with k) gives
-then_wrong k told e gives = absurd gives
+then_wrong : (k : List Label → Result (List Label) WordFault) (reported : Result (List Label) WordFault) (e : ChoiceFault) → Gives reported (Err e)
+    → Gives (then_with k reported) (Err e)
+then_wrong k reported Memory gives = tt
+then_wrong k reported (Word f) gives = ap (then_with k) gives
+then_wrong k reported e gives = absurd gives
 
 -- labels, and those of words after them, as the code has the words
 abbrev pub labels_of : List Label → List (Bor Text) → Result (List Label) WordFault
@@ -64,15 +64,15 @@ module _ (old new : List Label) (words : List (Bor Text)) (i : ℕ) (d : Bor Tex
 
   pub word_refused : {T : Type 0} (r : Result T LabelFault) (fault : LabelFault) → r ≡ Err fault → Adds old new (get_or words i d).now r
       → Gives (labels_of old (drop i words)) (Err (fault_of_label fault))
-  word_refused r fault same adds = subst (λ (told : Result (List Label) WordFault). Gives told (Err (fault_of_label fault))) (sym place_known)
+  word_refused r fault same adds = subst (λ (reported : Result (List Label) WordFault). Gives reported (Err (fault_of_label fault))) (sym place_known)
       (then_wrong rest _ (fault_of_label fault) (rw same at (tells old new (get_or words i d).now (label_fault old (get_or words i d).now) r adds)))
 
 -- ---- what words ask for
 
-pub answered : (words : List Text) (told : Result Request WordFault) (r : Result Request ChoiceFault) → request_of words ≡ Some told → faults_of words ≡ []
-    → Gives told r → MatchResult r (AsksFor words) (IsRefusalOf words)
-answered words told (Ok request) is none gives = (is ∙ ap Some gives, none)
-answered words told (Err Memory) is none gives = inl (tt, λ _. refl)
-answered words told (Err (Line error)) is none gives = absurd gives
-answered words told (Err Unreadable) is none gives = absurd gives
-answered words told (Err (Word w)) is none gives = inr (w, refl, none, is ∙ ap Some gives)
+pub answered : (words : List Text) (reported : Result Request WordFault) (r : Result Request ChoiceFault) → request_of words ≡ Some reported → faults_of words ≡ []
+    → Gives reported r → MatchResult r (IsRequestOf words) (IsRefusalOf words)
+answered words reported (Ok request) is none gives = (is ∙ ap Some gives, none)
+answered words reported (Err Memory) is none gives = inl (tt, λ _. refl)
+answered words reported (Err (Line error)) is none gives = absurd gives
+answered words reported (Err Unreadable) is none gives = absurd gives
+answered words reported (Err (Word w)) is none gives = inr (w, refl, none, is ∙ ap Some gives)

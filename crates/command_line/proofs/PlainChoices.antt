@@ -11,7 +11,7 @@ use Rattle.clap.specs.Walk.{Row, Text, Walk, finished, nothing_held, rows_after,
 use Rattle.clap.proofs.FaultLemmas.{stopped_fault}
 use Rattle.clap.proofs.OnLiterals.{clap_on_literals}
 use Rattle.clap.proofs.WalkLemmas.{walk_stopped}
-use Rattle.command_line.specs.Choice.{AsksFor, Entry, command_app, commands, entry_named, faults_of, program, request_in, request_of, request_with}
+use Rattle.command_line.specs.Choice.{IsRequestOf, Entry, command_app, commands, entry_named, faults_of, program, request_in, request_of, request_with}
 use Rattle.command_line.specs.Coloring.{coloring_by}
 use Rattle.command_line.specs.GivenFlags.{FlagEntry, color_flag, flags_flag, is_given, label_flag}
 use Rattle.command_line.specs.Options.{all_by, labels_with, options_by, options_in, then_with}
@@ -169,7 +169,7 @@ module _ (first name : Text) (entry : Entry) (met : entry_named name ≡ Some en
   passes = ap₂ or_else (ap (λ (t : EntryTests). t.fault) tests)
       (ap (λ (v : Walk). walk_fault top (names_of (built program)) v words) name_walks ∙ stopped_fault top (names_of (built program)) start (entry.name, []) words)
 
-  pub chosen : AsksFor (first ∷ name ∷ words) (record { command = entry.command; options = options_by (gives words) Auto [] false })
+  pub chosen : IsRequestOf (first ∷ name ∷ words) (record { command = entry.command; options = options_by (gives words) Auto [] false })
   chosen =
       let named = its_name name entry met in
       let after = after_program first (entry.name ∷ words) in (

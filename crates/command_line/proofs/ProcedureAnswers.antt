@@ -31,14 +31,14 @@ use Rattle.sim_module.proofs.SoundRuns.{runs_leave_sound}
 use Rattle.command_line.specs.Inputs.{Inputs}
 use Rattle.command_line.specs.PlanningInputs.{IsPlanningRefusal}
 use Rattle.command_line.specs.declared.choice.options.Options.{Options}
-use Rattle.command_line.specs.ProvisionCommand.{Activates, BusProcedure, CarriesOut, IsCarriedOut, IsSetUpRefusal, MakesIf, ModuleBus, Provisions, StepsOrFault, Wakes, control_words, delays, fault_of, outcome_fault, outcome_of, steps_of, told_output}
+use Rattle.command_line.specs.ProvisionCommand.{Activates, BusProcedure, CarriesOut, IsCarriedOut, IsSetUpRefusal, MakesIf, ModuleBus, Provisions, StepsOrFault, Wakes, control_words, delays, fault_of, outcome_fault, outcome_of, steps_of, procedure_output}
 use Rattle.plan_reports.specs.declared.json_procedure.Outcome.{Outcome}
 use Rattle.command_line.proofs.OwnAnswers.{if_known}
 use Rattle.command_line.specs.Sessions.{IsSessionOf}
 use Rattle.command_line.specs.declared.commands.outcome.ProcedureResults.{ProcedureResults}
 use Rattle.command_line.specs.declared.commands.session.Session.{Session}
-use Rattle.command_line.specs.declared.told_fault.ToldFault.{ToldFault}
-use Rattle.command_line.specs.declared.told_fault.ToldFault.TheVariants.{Procedure}
+use Rattle.command_line.specs.declared.reported_fault.ReportedFault.{ReportedFault}
+use Rattle.command_line.specs.declared.reported_fault.ReportedFault.TheVariants.{Procedure}
 use Rattle.command_line.specs.declared.fault.Fault.{Fault}
 use Rattle.command_line.specs.declared.fault.Fault.TheVariants as fault
 
@@ -64,12 +64,12 @@ pub pushed : (old a b c d : List ℕ) (woken provisioned activated active : List
     → d ≡ old ++ text_of (woken ++ provisioned ++ activated ++ active)
 pushed old a b c d woken provisioned activated active first second third last = grind (arith, common_steps)
 
--- what is told, by what the bus has
-pub told_as : (json traced : Bool) (bus : ModuleBus) (results : ProcedureResults) (text active : List ℕ) (steps : List Step) (outcome : Outcome) (ended : Option ProvisionFault)
-    → text ≡ told_output json traced steps outcome ended → outcome ≡ outcome_of results active → steps ≡ bus.steps → active ≡ active_bytes bus.state.1
-    → text ≡ told_output json traced bus.steps (outcome_of results (active_bytes bus.state.1)) ended
-told_as json traced bus results text active steps outcome ended told is same shown =
-    told ∙ ap₂ (λ (l : List Step) (o : Outcome). told_output json traced l o ended) same (is ∙ ap (λ (l : List ℕ). outcome_of results l) shown)
+-- what is reported, by what the bus has
+pub reported_as : (json traced : Bool) (bus : ModuleBus) (results : ProcedureResults) (text active : List ℕ) (steps : List Step) (outcome : Outcome) (ended : Option ProvisionFault)
+    → text ≡ procedure_output json traced steps outcome ended → outcome ≡ outcome_of results active → steps ≡ bus.steps → active ≡ active_bytes bus.state.1
+    → text ≡ procedure_output json traced bus.steps (outcome_of results (active_bytes bus.state.1)) ended
+reported_as json traced bus results text active steps outcome ended reported is same shown =
+    reported ∙ ap₂ (λ (l : List Step) (o : Outcome). procedure_output json traced l o ended) same (is ∙ ap (λ (l : List ℕ). outcome_of results l) shown)
 
 -- a new module is in no apply
 new_at_rest : (memory : Memory) (given : Delays) → HasNoApply (start memory given)
@@ -78,16 +78,16 @@ new_at_rest memory given lane is = made_keeps (λ (l : Lane). l.applying ≡ Non
 
 module _ (options : Options) (inputs : Inputs) (session : Session) (is : IsSessionOf options.conventions inputs session) where
   -- what a session's bus makes of the plan
-  pub carried : (traced : Bool) (text : List ℕ) (after : ModuleBus) (results : ProcedureResults) (ended : Option ProvisionFault) (told_fault : Option ToldFault)
+  pub carried : (traced : Bool) (text : List ℕ) (after : ModuleBus) (results : ProcedureResults) (ended : Option ProvisionFault) (reported_fault : Option ReportedFault)
       → CarriesOut options.wake options.activate session.advert session.plan session.kept (seen_at session.bus) after results
-      → text ≡ told_output options.json traced after.steps (outcome_of results (active_bytes after.state.1)) ended → ended ≡ outcome_fault results → told_fault ≡ option_map (λ f. Procedure f session.inactive) ended
-      → IsCarriedOut traced options inputs text told_fault
-  carried traced text after results ended told_fault done told fault same = record {
+      → text ≡ procedure_output options.json traced after.steps (outcome_of results (active_bytes after.state.1)) ended → ended ≡ outcome_fault results → reported_fault ≡ option_map (λ f. Procedure f session.inactive) ended
+      → IsCarriedOut traced options inputs text reported_fault
+  carried traced text after results ended reported_fault done reported fault same = record {
     set_up = is.set_up;
     after = after;
     results = results;
     done = rw (is.advert, is.plan, is.kept, is.bus) at done;
-    told = told ∙ ap (told_output options.json traced after.steps (outcome_of results (active_bytes after.state.1))) fault;
+    reported = reported ∙ ap (procedure_output options.json traced after.steps (outcome_of results (active_bytes after.state.1))) fault;
     fault = same ∙ ap₂ (λ (o : Option Path) (e : Option ProvisionFault). option_map (λ f. Procedure f o) e) is.inactive fault;
   }
 

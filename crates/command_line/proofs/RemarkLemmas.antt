@@ -1,8 +1,8 @@
 -- What is said beside an answer is what its input gives cause for.
 use Rattle.std.proofs.Common.{◌≡◌, ◌∙◌, ℕ, Bool, true, false, List, Option, Some, None, IfSome, Ok, Err, ap, sym, refl, subst}
-use Rattle.command_line.specs.Runs.{Answer, Ending, EndsByFailure, IsRemarkBeside, IsSaidBeside, IsWritten, SaysReading, clue_beside, ended, ending_after, opening_beside, output_of, status_after}
+use Rattle.command_line.specs.Runs.{Answer, Ending, EndsByFailure, IsRemarkBeside, IsRemarkAfter, IsWritten, IsReadingFailure, clue_beside, ended, ending_after, opening_beside, output_of, status_after}
 use Rattle.reports.specs.declared.fault.ReportFault.TheVariants as report
-use Rattle.command_line.specs.declared.told_fault.ToldFault.TheVariants.{Procedure, Metrics}
+use Rattle.command_line.specs.declared.reported_fault.ReportedFault.TheVariants.{Procedure, Metrics}
 use Rattle.command_line.specs.declared.fault.Fault.TheVariants as fault
 use Rattle.command_line.specs.declared.remark.Remark.{Remark}
 use Rattle.command_line.specs.declared.remark.clue.Clue.{Clue}
@@ -11,10 +11,10 @@ use Rattle.command_line.specs.declared.status.Status.{Status}
 use Rattle.command_line.specs.declared.status.Status.TheVariants.{ReadOrWrite}
 use Rattle.command_line.specs.Program.{refusal_ending, refusal_remark}
 
-pub said_beside : (failed : Bool) (status : Status) (input : List ℕ) (answer : Answer) (clue : Clue) (remark : Remark) → IsRemarkBeside answer clue remark
-    → clue ≡ clue_beside answer input → IsSaidBeside failed input answer (ending_after failed status remark).remark
-said_beside true status input answer clue remark is same = refl
-said_beside false status input answer clue remark is same = subst (λ (c : Clue). IsRemarkBeside answer c remark) same is
+pub remark_after : (failed : Bool) (status : Status) (input : List ℕ) (answer : Answer) (clue : Clue) (remark : Remark) → IsRemarkBeside answer clue remark
+    → clue ≡ clue_beside answer input → IsRemarkAfter failed input answer (ending_after failed status remark).remark
+remark_after true status input answer clue remark is same = refl
+remark_after false status input answer clue remark is same = subst (λ (c : Clue). IsRemarkBeside answer c remark) same is
 
 -- what follows of two facts of the input holds of it, where it is known
 pub if_known_both : {T : Type 0} (o : Option T) (P Q R : T → Type 0) → ((x : T) → P x → Q x → R x) → IfSome o P → IfSome o Q → IfSome o R
@@ -52,7 +52,7 @@ only_reading (Err (fault.Script f)) ends = cc
 only_reading (Err (fault.Module f)) ends = cc
 only_reading (Err (fault.Provision f)) ends = cc
 
-pub ends_by_failure : (read write : Bool) (answer : Answer) (status : Status) → status ≡ ended write (status_after answer) → SaysReading read answer
+pub ends_by_failure : (read write : Bool) (answer : Answer) (status : Status) → status ≡ ended write (status_after answer) → IsReadingFailure read answer
     → EndsByFailure read write status
 ends_by_failure true true answer status is says = (λ _. refl, λ _. is)
 ends_by_failure false true answer status is says = (λ _. refl, λ _. is)

@@ -17,9 +17,9 @@ use Rattle.reports.specs.declared.fault.ReportFault.TheVariants as report
 use Rattle.report_entries.specs.Entries.{Entry}
 use Rattle.command_line.specs.Coloring.{shown_as}
 use Rattle.command_line.specs.OverBus.{IsFetchedFrom, IsReading, window_at_start}
-use Rattle.command_line.specs.ReportCommands.{IsReported, Told, answer_told, entries_of, printed, printed_of, refusal_of, report_told, text_unless}
+use Rattle.command_line.specs.ReportCommands.{IsReported, Reported, answer_of_reported, entries_of, printed, printed_of, refusal_of, report_of, text_unless}
 use Rattle.command_line.specs.Runs.{Answer, IsAnswerTo}
-use Rattle.command_line.specs.SameOverBus.{IsGivenUp, IsToldAlike, image_of, over_bus}
+use Rattle.command_line.specs.SameOverBus.{IsGivenUp, IsReportedAlike, image_of, over_bus}
 use Rattle.command_line.specs.declared.choice.commands.CommandName.TheVariants.{Report}
 use Rattle.command_line.specs.declared.choice.commands.ReportName.{ReportName}
 use Rattle.command_line.specs.declared.choice.commands.ReportName.TheVariants.{Inventory, Apps, Monitors, Flags, Details}
@@ -48,34 +48,34 @@ same_reports memory fetched image (after, (history, ran, is)) = fetched_reports 
 
 -- ---- a command that reads an image alone, by what it tells of what there is to report of, with the flag and without it
 
-module _ (told : Bool → Result Memory ReportFault → Told) where
+module _ (reported : Bool → Result Memory ReportFault → Reported) where
   abbrev IsMine : Bool → List ℕ → Answer → Type 0
-  IsMine over = IsReported over (told over)
+  IsMine over = IsReported over (reported over)
 
   abbrev pub IsAnswerOver : Bool → List ℕ → Answer → Type 0
   IsAnswerOver over = IsAnswerTo (Image ∷ []) (λ inputs. IsMine over inputs.image)
 
   -- ---- without the flag a text has one answer, by what reading it answers
 
-  abbrev told_by : Result Memory ImageFault → Answer
-  told_by (Ok memory) = answer_told (told false (Ok memory))
-  told_by (Err f) = Err (fault.Image f)
+  abbrev reported_by : Result Memory ImageFault → Answer
+  reported_by (Ok memory) = answer_of_reported (reported false (Ok memory))
+  reported_by (Err f) = Err (fault.Image f)
 
-  record IsTold (text : List ℕ) (answer : Answer) : Type 0 where
+  record IsReportedRead (text : List ℕ) (answer : Answer) : Type 0 where
     pub read : Result Memory ImageFault
     pub is_read : IsAnswer (lines_of text) read
-    pub is_told : answer ≡ told_by read
+    pub is_reported : answer ≡ reported_by read
 
-  is_told : (text : List ℕ) (a : Answer) → IsMine false text a → IsTold text a
-  is_told text (Err (fault.Image f)) first = record { read = Err f; is_read = first; is_told = refl }
-  is_told text a (Ok memory, is, same) = record { read = Ok memory; is_read = is; is_told = same }
-  is_told text a (Err f, never, same) = absurd never
+  is_reported : (text : List ℕ) (a : Answer) → IsMine false text a → IsReportedRead text a
+  is_reported text (Err (fault.Image f)) first = record { read = Err f; is_read = first; is_reported = refl }
+  is_reported text a (Ok memory, is, same) = record { read = Ok memory; is_read = is; is_reported = same }
+  is_reported text a (Err f, never, same) = absurd never
 
   agree : (o : Option Fault) (text : List ℕ) (a b : Answer) → MatchOption o (IsMine false text a) (λ f. a ≡ Err f) → MatchOption o (IsMine false text b) (λ f. b ≡ Err f) → a ≡ b
   agree None text a b p q =
-      let first = is_told text a p in
-      let other = is_told text b q in
-      first.is_told ∙ ap told_by (same_answer (lines_of text) first.read other.read first.is_read other.is_read) ∙ sym other.is_told
+      let first = is_reported text a p in
+      let other = is_reported text b q in
+      first.is_reported ∙ ap reported_by (same_answer (lines_of text) first.read other.read first.is_read other.is_read) ∙ sym other.is_reported
   agree (Some f) text a b p q = p ∙ sym q
 
   pub alone : (input : List ℕ) (a other : Answer) → IsAnswerOver false input a → a ≢ Err fault.Memory → a ≢ Err fault.Io
@@ -93,32 +93,32 @@ module _ (told : Bool → Result Memory ReportFault → Told) where
   err_to input (fault.Parts n) mine is = is
   err_to input f mine is = (is.0, is.1, mine is.2)
 
-  -- ---- with it, it is told of a memory with the same reports, unless the reading came to no end
+  -- ---- with it, it is reported of a memory with the same reports, unless the reading came to no end
 
-  pub record IsToldOfCopy (text : List ℕ) (answer : Answer) : Type 0 where
+  pub record IsReportedOfCopy (text : List ℕ) (answer : Answer) : Type 0 where
     pub memory : Memory
     pub fetched : Memory
     pub is_text : IsTextOf (lines_of text) memory
     pub alike : ReportsSame fetched memory
-    pub is_told : answer ≡ answer_told (told true (Ok fetched))
+    pub is_reported : answer ≡ answer_of_reported (reported true (Ok fetched))
 
-  pub told_of_copy : (text : List ℕ) (a : Answer) (read : Result Memory ReportFault) → IsReading true text read → a ≡ answer_told (told true read)
-      → IsGivenUp (answer_told (told true (Err report.GaveUp))) → ¬ (IsGivenUp a) → IsToldOfCopy text a
-  told_of_copy text a (Ok fetched) is same gives_up ended = record {
+  pub reported_of_copy : (text : List ℕ) (a : Answer) (read : Result Memory ReportFault) → IsReading true text read → a ≡ answer_of_reported (reported true read)
+      → IsGivenUp (answer_of_reported (reported true (Err report.GaveUp))) → ¬ (IsGivenUp a) → IsReportedOfCopy text a
+  reported_of_copy text a (Ok fetched) is same gives_up ended = record {
     memory = is.memory;
     fetched = fetched;
     is_text = is.is_text;
     alike = same_reports is.memory fetched is.is_text.image is.fetched;
-    is_told = same;
+    is_reported = same;
   }
-  told_of_copy text a (Err f) is same gives_up ended =
+  reported_of_copy text a (Err f) is same gives_up ended =
       let gave_up : f ≡ report.GaveUp = reading_fault is.memory f is.fetched in
       absurd (ended (rw (same, gave_up) gives_up))
 
--- what is told by a fault, or else by what is said, is told alike of memories with the same report
-pub same_told : {A T : Type 0} (tell : Option ReportFault → A → T) → ((f : ReportFault) (x y : A) → tell (Some f) x ≡ tell (Some f) y)
+-- what is reported by a fault, or else by what is said, is reported alike of memories with the same report
+pub same_reported : {A T : Type 0} (tell : Option ReportFault → A → T) → ((f : ReportFault) (x y : A) → tell (Some f) x ≡ tell (Some f) y)
     → (fault_in : Memory → Option ReportFault) (said_in : Memory → A) (a b : Memory) → IsSame fault_in said_in a b → tell (fault_in a) (said_in a) ≡ tell (fault_in b) (said_in b)
-same_told tell alone fault_in said_in a b same = by (fault_in a) (fault_in b) same.fault same.said
+same_reported tell alone fault_in said_in a b same = by (fault_in a) (fault_in b) same.fault same.said
   where
     by : (o p : Option ReportFault) → o ≡ p → (o ≡ None → said_in a ≡ said_in b) → tell o (said_in a) ≡ tell p (said_in b)
     by None p fault said = ap (tell None) (said refl) ∙ ap (λ (q : Option ReportFault). tell q (said_in b)) fault
@@ -127,28 +127,28 @@ same_told tell alone fault_in said_in a b same = by (fault_in a) (fault_in b) sa
 -- ---- reports
 
 module _ (name : ReportName) (options : Options) (pick : (fetched memory : Memory) → ReportsSame fetched memory → IsSame (refusal_of name) (entries_of name) fetched memory) where
-  abbrev told_of : Bool → Result Memory ReportFault → Told
-  told_of over = report_told (record options { bus = over }) (refusal_of name) (printed_of name)
+  abbrev reported_of : Bool → Result Memory ReportFault → Reported
+  reported_of over = report_of (record options { bus = over }) (refusal_of name) (printed_of name)
 
-  plain : (text : List ℕ) (a : Answer) → IsReported true (told_of true) text a → ¬ (IsGivenUp a) → IsReported false (told_of false) text a
+  plain : (text : List ℕ) (a : Answer) → IsReported true (reported_of true) text a → ¬ (IsGivenUp a) → IsReported false (reported_of false) text a
   plain text (Err (fault.Image f)) first ended = first
   plain text a (read, is, same) ended =
-      let copy = told_of_copy told_of text a read is same refl ended in
-      let tell : Option ReportFault → List Entry → Told = λ refused entries. text_unless refused (shown_as options.coloring options.json (printed options.json entries)) in
-      let alike = same_told tell (λ f x y. refl) (refusal_of name) (entries_of name) copy.fetched copy.memory (pick copy.fetched copy.memory copy.alike) in
-      (Ok copy.memory, copy.is_text, copy.is_told ∙ ap answer_told alike)
+      let copy = reported_of_copy reported_of text a read is same refl ended in
+      let tell : Option ReportFault → List Entry → Reported = λ refused entries. text_unless refused (shown_as options.coloring options.json (printed options.json entries)) in
+      let alike = same_reported tell (λ f x y. refl) (refusal_of name) (entries_of name) copy.fetched copy.memory (pick copy.fetched copy.memory copy.alike) in
+      (Ok copy.memory, copy.is_text, copy.is_reported ∙ ap answer_of_reported alike)
 
-  plain_to : (input : List ℕ) (a : Answer) → IsAnswerOver told_of true input a → ¬ (IsGivenUp a) → IsAnswerOver told_of false input a
+  plain_to : (input : List ℕ) (a : Answer) → IsAnswerOver reported_of true input a → ¬ (IsGivenUp a) → IsAnswerOver reported_of false input a
   plain_to input (Ok t) is ended = (is.0, is.1, plain (image_of input) (Ok t) is.2 ended)
-  plain_to input (Err f) is ended = err_to told_of input f (λ mine. plain (image_of input) (Err f) mine ended) is
+  plain_to input (Err f) is ended = err_to reported_of input f (λ mine. plain (image_of input) (Err f) mine ended) is
 
-  told_alike : IsToldAlike (over_bus (Report name) options)
-  told_alike input a is ended memory read =
-      let plain = plain_to input a is ended in record { plain = plain; alone = λ other. alone told_of input a other plain memory read }
+  reported_alike : IsReportedAlike (over_bus (Report name) options)
+  reported_alike input a is ended memory read =
+      let plain = plain_to input a is ended in record { plain = plain; alone = λ other. alone reported_of input a other plain memory read }
 
-pub each_told_alike : (name : ReportName) (options : Options) → IsToldAlike (over_bus (Report name) options)
-each_told_alike Inventory options = told_alike Inventory options (λ fetched memory all. all.inventory)
-each_told_alike Apps options = told_alike Apps options (λ fetched memory all. all.apps)
-each_told_alike Monitors options = told_alike Monitors options (λ fetched memory all. all.monitors)
-each_told_alike Flags options = told_alike Flags options (λ fetched memory all. all.flags)
-each_told_alike Details options = told_alike Details options (λ fetched memory all. all.details)
+pub each_reported_alike : (name : ReportName) (options : Options) → IsReportedAlike (over_bus (Report name) options)
+each_reported_alike Inventory options = reported_alike Inventory options (λ fetched memory all. all.inventory)
+each_reported_alike Apps options = reported_alike Apps options (λ fetched memory all. all.apps)
+each_reported_alike Monitors options = reported_alike Monitors options (λ fetched memory all. all.monitors)
+each_reported_alike Flags options = reported_alike Flags options (λ fetched memory all. all.flags)
+each_reported_alike Details options = reported_alike Details options (λ fetched memory all. all.details)

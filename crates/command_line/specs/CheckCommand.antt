@@ -48,10 +48,10 @@ first_lines None = []
 first_lines (Some is_first) = first_line is_first ∷ []
 
 -- that is said exactly if it is asked for
-abbrev pub SaysFirst : Bool → Advertised → PathWeights → Claim → Option Bool → Type 0
-SaysFirst true advert weights certificate (Some is_first) = IsTrue is_first ↔ IsFirstBest advert weights certificate.kept certificate.paths
-SaysFirst false advert weights certificate None = Unit {0}
-SaysFirst asked advert weights certificate said = ⊥
+abbrev pub IsFirstNoted : Bool → Advertised → PathWeights → Claim → Option Bool → Type 0
+IsFirstNoted true advert weights certificate (Some is_first) = IsTrue is_first ↔ IsFirstBest advert weights certificate.kept certificate.paths
+IsFirstNoted false advert weights certificate None = Unit {0}
+IsFirstNoted asked advert weights certificate said = ⊥
 
 -- how many paths a good certificate keeps, its plan, and whether that is the first
 abbrev pub good_lines : Option Bool → Advertised → PathWeights → Claim → List (List ℕ)
@@ -63,11 +63,11 @@ abbrev pub good_output : Bool → Option Bool → Advertised → PathWeights →
 good_output true is_first advert weights certificate = json_text (good_json is_first advert weights certificate.kept certificate.paths)
 good_output false is_first advert weights certificate = text_of (good_lines is_first advert weights certificate)
 
--- what is told of a good certificate
-pub record TellsGood (json first : Bool) (advert : Advertised) (weights : PathWeights) (certificate : Claim) (text : List ℕ) : Type 0 where
+-- what is reported of a good certificate
+pub record IsGoodReport (json first : Bool) (advert : Advertised) (weights : PathWeights) (certificate : Claim) (text : List ℕ) : Type 0 where
   pub is_first : Option Bool
-  pub says_first : SaysFirst first advert weights certificate is_first
-  pub told : text ≡ good_output json is_first advert weights certificate
+  pub first_noted : IsFirstNoted first advert weights certificate is_first
+  pub reported : text ≡ good_output json is_first advert weights certificate
 
 -- the texts are those of an image, of weights and of a certificate, of which this is the verdict
 pub record IsJudged (conventions : Conventions) (inputs : Inputs) (judged : Verdict) : Type 0 where
@@ -79,11 +79,11 @@ pub record IsJudged (conventions : Conventions) (inputs : Inputs) (judged : Verd
   pub is_certificate : IsTextOf most_states (lines_of inputs.certificate) certificate
   pub is_verdict : verdict advert (app_weights advert weights) certificate ≡ judged
 
--- the certificate is good, so its plan is best among those that hold the kept paths, and the plan is told
+-- the certificate is good, so its plan is best among those that hold the kept paths, and the plan is reported
 pub record IsGoodAnswer (options : Options) (inputs : Inputs) (text : List ℕ) : Type 0 where
   pub judged : IsJudged options.conventions inputs Good
   pub is_best : IsBest judged.advert (app_weights judged.advert judged.weights) judged.certificate.kept judged.certificate.paths
-  pub told : TellsGood options.json options.first judged.advert (app_weights judged.advert judged.weights) judged.certificate text
+  pub reported : IsGoodReport options.json options.first judged.advert (app_weights judged.advert judged.weights) judged.certificate text
 
 -- the answer to the texts of an image, of weights and of a certificate
 abbrev pub IsCheckAnswer : Options → Inputs → Answer → Type 0

@@ -96,5 +96,5 @@ abbrev pub faults_of : List Text → Kinds
 faults_of words = fault_of program words
 
 -- `clap` takes the words, and they ask for this
-abbrev pub AsksFor : List Text → Request → Type 0
-AsksFor words request = (request_of words ≡ Some (Ok request)) × (faults_of words ≡ [])
+abbrev pub IsRequestOf : List Text → Request → Type 0
+IsRequestOf words request = (request_of words ≡ Some (Ok request)) × (faults_of words ≡ [])

@@ -73,8 +73,8 @@ fault_of_label f = Word (Label f)
 
 -- what is answered is this, unless an allocation was refused
 abbrev pub Gives : {T : Type 0} → Result T WordFault → Result T ChoiceFault → Type 0
-Gives told (Ok given) = told ≡ Ok given
-Gives told (Err Memory) = ⊤
-Gives told (Err (Line error)) = ⊥
-Gives told (Err (Word f)) = told ≡ Err f
-Gives told (Err Unreadable) = ⊥
+Gives reported (Ok given) = reported ≡ Ok given
+Gives reported (Err Memory) = ⊤
+Gives reported (Err (Line error)) = ⊥
+Gives reported (Err (Word f)) = reported ≡ Err f
+Gives reported (Err Unreadable) = ⊥

@@ -5,7 +5,7 @@ use Rattle.command_line.specs.FaultTexts.{reading_fault_text}
 use Rattle.command_line.specs.Runs.{Answer}
 use Rattle.command_line.specs.declared.fault.Fault.{Fault}
 use Rattle.command_line.specs.declared.fault.Fault.TheVariants.{Provision}
-use Rattle.command_line.specs.declared.told_fault.ToldFault.TheVariants.{Procedure, Metrics}
+use Rattle.command_line.specs.declared.reported_fault.ReportedFault.TheVariants.{Procedure, Metrics}
 use Rattle.command_line.specs.declared.output.fault_form.FaultForm.{FaultForm}
 use Rattle.command_line.specs.declared.output.fault_form.FaultForm.TheVariants.{Line, Json, Ready}
 

@@ -16,8 +16,8 @@ use Rattle.reports.specs.declared.fault.ReportFault.{ReportFault}
 use Rattle.reports.specs.declared.fault.ReportFault.TheVariants as report
 use Rattle.command_line.specs.declared.fault.Fault.{Fault}
 use Rattle.command_line.specs.declared.fault.Fault.TheVariants.{Memory, Io, TooLong, Parts, Image, Report, Advert, Weights, Kept, Certificate, Bad, Script, Module, Provision}
-use Rattle.command_line.specs.declared.told_fault.ToldFault.{ToldFault}
-use Rattle.command_line.specs.declared.told_fault.ToldFault.TheVariants.{Procedure, Metrics}
+use Rattle.command_line.specs.declared.reported_fault.ReportedFault.{ReportedFault}
+use Rattle.command_line.specs.declared.reported_fault.ReportedFault.TheVariants.{Procedure, Metrics}
 use Rattle.command_line.specs.declared.status.Status.{Status}
 use Rattle.command_line.specs.declared.status.Status.TheVariants as status
 
@@ -65,6 +65,6 @@ fault_of_weights weights.Memory = Memory
 fault_of_weights f = Weights f
 
 -- the fault that a text tells of, as an answer alone
-abbrev pub fault_of_told : ToldFault → Fault
-fault_of_told (Procedure f inactive) = Provision f
-fault_of_told (Metrics f) = fault_of_report f
+abbrev pub fault_of_reported : ReportedFault → Fault
+fault_of_reported (Procedure f inactive) = Provision f
+fault_of_reported (Metrics f) = fault_of_report f

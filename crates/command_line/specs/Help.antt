@@ -12,18 +12,18 @@ use Rattle.command_line.specs.declared.choice.part.Part.{Part}
 use Rattle.command_line.specs.declared.choice.part.Part.TheVariants.{Image, Weights, Kept, Certificate, Script}
 
 -- the lines that say what a part of the input is
-abbrev pub lines_told : Part → List Text
-lines_told Image = codes "the image text of a module" ∷ []
-lines_told Weights =
+abbrev pub lines_of_part : Part → List Text
+lines_of_part Image = codes "the image text of a module" ∷ []
+lines_of_part Weights =
     codes "then, after a line '---', weights: '[host]', then lines such as '0Dh = 101', by HostInterfaceID;"
     ∷ codes "  there may be '[media]', by MediaInterfaceID, '[app]', by number, and 'stay = 50' above all"
     ∷ []
-lines_told Kept =
+lines_of_part Kept =
     codes "with --keep then, after a line '---', data paths to keep: lines such as 'keep 2 3 2',"
     ∷ codes "  Application 2 from host lane 3 and media lane 2 on"
     ∷ []
-lines_told Certificate = codes "then, after a line '---', a certificate, as 'cmisctl plan' prints it" ∷ []
-lines_told Script = codes "then, after a line '---', a script of the bus: lines such as 'ok 4' and 'nack 1', or no line" ∷ []
+lines_of_part Certificate = codes "then, after a line '---', a certificate, as 'cmisctl plan' prints it" ∷ []
+lines_of_part Script = codes "then, after a line '---', a script of the bus: lines such as 'ok 4' and 'nack 1', or no line" ∷ []
 
 -- what is typed after the program's name
 abbrev pub examples : CommandName → List Text
@@ -102,7 +102,7 @@ lines_after beginning lines = flat_map (λ line. codes "\n" ++ beginning ++ line
 abbrev pub help_of : CommandName → Text
 help_of command =
     codes "INPUT is read from standard input:"
-    ++ lines_after (codes "  ") (flat_map lines_told (parts_of_command command))
+    ++ lines_after (codes "  ") (flat_map lines_of_part (parts_of_command command))
     ++ codes "\n\nExamples, in the repository's folder:"
     ++ lines_after (codes "  ./cmisctl ") (examples command)
     ++ codes "\n\nStatus: 0 answered, 1 input refused, 2 command line refused,\n"

@@ -6,17 +6,17 @@ use Rattle.module_metrics.specs.Answers.{fault_text, first_fault, metrics_of}
 use Rattle.module_metrics.specs.Exposition.{exposition}
 use Rattle.reports.specs.declared.fault.ReportFault.{ReportFault}
 use Rattle.command_line.specs.declared.choice.options.Options.{Options}
-use Rattle.command_line.specs.declared.told_fault.ToldFault.TheVariants.{Metrics}
-use Rattle.command_line.specs.ReportCommands.{IsReported, Told}
+use Rattle.command_line.specs.declared.reported_fault.ReportedFault.TheVariants.{Metrics}
+use Rattle.command_line.specs.ReportCommands.{IsReported, Reported}
 use Rattle.command_line.specs.Runs.{Answer}
 
--- what is told of a memory, over a bus without VDM, whose pages a host doesn't read: its metrics and the first fault of its reports; or else
+-- what is reported of a memory, over a bus without VDM, whose pages a host doesn't read: its metrics and the first fault of its reports; or else
 -- of why there is none: that alone
-abbrev pub metrics_told : Options → Result Memory ReportFault → Told
-metrics_told options (Ok memory) =
+abbrev pub metrics_reported : Options → Result Memory ReportFault → Reported
+metrics_reported options (Ok memory) =
     Ok (exposition options.labels (metrics_of options.all_flags (not options.bus) memory), option_map Metrics (first_fault memory))
-metrics_told options (Err f) = Ok (fault_text options.labels f, Some (Metrics f))
+metrics_reported options (Err f) = Ok (fault_text options.labels f, Some (Metrics f))
 
 -- the answer; an image that is none has a line, as for other commands
 abbrev pub IsMetricsAnswer : Options → List ℕ → Answer → Type 0
-IsMetricsAnswer options = IsReported options.bus (metrics_told options)
+IsMetricsAnswer options = IsReported options.bus (metrics_reported options)

@@ -33,8 +33,8 @@ weighed None content = None
 weighed (Some table) content = if is_number (value_in content) then named_by table (key_in content) else None
 
 -- a content before all tables that says what staying weighs
-abbrev pub says_stay : Option WeightTable → List ℕ → Bool
-says_stay table content = is_none table && bytes_eq (key_in content) stay_name && is_number (value_in content)
+abbrev pub is_stay : Option WeightTable → List ℕ → Bool
+is_stay table content = is_none table && bytes_eq (key_in content) stay_name && is_number (value_in content)
 
 -- what a line with this content says
 abbrev pub kind_in : Option WeightTable → List ℕ → Kind
@@ -42,7 +42,7 @@ kind_in table content = if length content == 0 then Nothing
     else if bytes_eq content host_line then Header Host
     else if bytes_eq content media_line then Header Media
     else if bytes_eq content app_line then Header App
-    else if says_stay table content then Stay
+    else if is_stay table content then Stay
     else option_map_or Weight (weighed table content) Other
 
 -- what a line says; a usual one is UTF-8

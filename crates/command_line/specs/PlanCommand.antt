@@ -25,31 +25,31 @@ pub record IsPlanJson (advert : Advertised) (weights : PathWeights) (kept : List
   pub written : text ≡ json_text (plan_json advert weights kept certificate.paths)
 
 -- that, or the certificate's text
-abbrev pub TellsPlanFor : Bool → Advertised → PathWeights → List Path → List ℕ → Type 0
-TellsPlanFor true advert weights kept text = IsPlanJson advert weights kept text
-TellsPlanFor false advert weights kept text = IsPlanText advert weights kept text
+abbrev pub IsPlanReportFor : Bool → Advertised → PathWeights → List Path → List ℕ → Type 0
+IsPlanReportFor true advert weights kept text = IsPlanJson advert weights kept text
+IsPlanReportFor false advert weights kept text = IsPlanText advert weights kept text
 
-abbrev pub TellsPlan : Bool → Planning → List ℕ → Type 0
-TellsPlan json planning text = TellsPlanFor json planning.advert (app_weights planning.advert planning.weights) planning.kept text
+abbrev pub IsPlanReport : Bool → Planning → List ℕ → Type 0
+IsPlanReport json planning text = IsPlanReportFor json planning.advert (app_weights planning.advert planning.weights) planning.kept text
 
 -- the drawing of the plan, as an SVG or as text
 abbrev pub DrawsPlan : Bool → Planning → List ℕ → Type 0
 DrawsPlan svg planning text = (has_paths : Bool)
     × IsDrawing svg (number planning.image CMediaType) planning.advert (app_weights planning.advert planning.weights) planning.kept text has_paths
 
--- what is told by the options of the command, which draws the plan or not
-abbrev pub Tells : Bool → Options → Planning → List ℕ → Type 0
-Tells true options = DrawsPlan options.svg
-Tells false options = TellsPlan options.json
+-- what is reported by the options of the command, which draws the plan or not
+abbrev pub IsPlanOutput : Bool → Options → Planning → List ℕ → Type 0
+IsPlanOutput true options = DrawsPlan options.svg
+IsPlanOutput false options = IsPlanReport options.json
 
 -- the plan for the image, the weights and the kept paths of these texts
-pub record IsPlanned (Told : Planning → List ℕ → Type 0) (conventions : Conventions) (inputs : Inputs) (text : List ℕ) : Type 0 where
+pub record IsPlanned (Reported : Planning → List ℕ → Type 0) (conventions : Conventions) (inputs : Inputs) (text : List ℕ) : Type 0 where
   pub planning : Planning
   pub is_planning : IsPlanning conventions inputs planning
-  pub told : Told planning text
+  pub reported : Reported planning text
 
 -- the answer to the texts of an image, of weights and of kept paths, by whether the plan is drawn
 abbrev pub IsPlanAnswer : Bool → Options → Inputs → Answer → Type 0
-IsPlanAnswer draws options inputs (Ok (text, None)) = IsPlanned (Tells draws options) options.conventions inputs text
+IsPlanAnswer draws options inputs (Ok (text, None)) = IsPlanned (IsPlanOutput draws options) options.conventions inputs text
 IsPlanAnswer draws options inputs (Ok (text, ended)) = ⊥
 IsPlanAnswer draws options inputs (Err f) = IsPlanningRefusal options.conventions inputs f

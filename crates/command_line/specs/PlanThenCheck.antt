@@ -11,7 +11,7 @@ use Rattle.command_line.specs.declared.choice.options.Options.{Options}
 use Rattle.command_line.specs.Inputs.{Inputs}
 use Rattle.command_line.specs.Limits.{input_limit}
 use Rattle.command_line.specs.Parts.{parts_of}
-use Rattle.command_line.specs.PlanCommand.{IsPlanned, TellsPlan}
+use Rattle.command_line.specs.PlanCommand.{IsPlanned, IsPlanReport}
 use Rattle.command_line.specs.Runs.{Answer}
 use Rattle.command_line.specs.declared.fault.Fault.TheVariants.{Memory, Io}
 
@@ -29,9 +29,9 @@ first_if true = Some true
 first_if false = None
 
 -- that it is good, and the plan that was given
-abbrev pub good_text : {conventions : Conventions} {inputs : Inputs} {text : List ℕ} → Options → IsPlanned (TellsPlan false) conventions inputs text → List ℕ
+abbrev pub good_text : {conventions : Conventions} {inputs : Inputs} {text : List ℕ} → Options → IsPlanned (IsPlanReport false) conventions inputs text → List ℕ
 good_text options planned = good_output options.json (first_if options.first) planned.planning.advert
-    (app_weights planned.planning.advert planned.planning.weights) planned.told.certificate
+    (app_weights planned.planning.advert planned.planning.weights) planned.reported.certificate
 
 -- `plan` with or without `--keep`, and not as JSON
 abbrev pub plan_request : Bool → Options → Request
@@ -43,7 +43,7 @@ check_request conventions options = record { command = Check; options = record o
 
 -- whatever other flags are given, `check` answers `good` and the plan to this input, as JSON or not, and, if no allocation and no read
 -- is refused, nothing else
-pub record IsCalledGood {conventions : Conventions} {inputs : Inputs} {text : List ℕ} (planned : IsPlanned (TellsPlan false) conventions inputs text) (input : List ℕ) : Type 0 where
+pub record IsCalledGood {conventions : Conventions} {inputs : Inputs} {text : List ℕ} (planned : IsPlanned (IsPlanReport false) conventions inputs text) (input : List ℕ) : Type 0 where
   pub good : (options : Options) → IsAnswerOf (check_request conventions options) input (Ok (good_text options planned, None))
   pub alone : (options : Options) (answer : Answer) → IsAnswerOf (check_request conventions options) input answer → answer ≢ Err Memory → answer ≢ Err Io
       → answer ≡ Ok (good_text options planned, None)
@@ -54,14 +54,14 @@ plan_inputs image weights kept = record { image = image; weights = weights; kept
 
 -- the text is of the plan of these texts, and after the image and the weights `check` calls it good
 pub record IsGoodBehind (conventions : Conventions) (image weights kept text : List ℕ) : Type 0 where
-  pub planned : IsPlanned (TellsPlan false) conventions (plan_inputs image weights kept) text
+  pub planned : IsPlanned (IsPlanReport false) conventions (plan_inputs image weights kept) text
   pub good : (input : List ℕ) → length input ≤ input_limit → parts_of input ≡ image ∷ weights ∷ text ∷ [] → IsCalledGood planned input
 
 -- the text is of the plan of an input without kept paths, and is the third part after that input
 pub record IsGoodBehindInput (conventions : Conventions) (input text : List ℕ) : Type 0 where
   pub image : List ℕ
   pub weights : List ℕ
-  pub planned : IsPlanned (TellsPlan false) conventions (plan_inputs image weights []) text
+  pub planned : IsPlanned (IsPlanReport false) conventions (plan_inputs image weights []) text
   pub parts : parts_of (input_with input text) ≡ image ∷ weights ∷ text ∷ []
   pub good : IsCalledGood planned (input_with input text)
 
@@ -70,7 +70,7 @@ pub record IsGoodInPlace (conventions : Conventions) (input kept text : List ℕ
   pub image : List ℕ
   pub weights : List ℕ
   pub kept_text : List ℕ
-  pub planned : IsPlanned (TellsPlan false) conventions (plan_inputs image weights kept_text) text
+  pub planned : IsPlanned (IsPlanReport false) conventions (plan_inputs image weights kept_text) text
   pub parts_planned : parts_of (input_with input kept) ≡ image ∷ weights ∷ kept_text ∷ []
   pub parts : parts_of (input_with input text) ≡ image ∷ weights ∷ text ∷ []
   pub good : IsCalledGood planned (input_with input text)

@@ -7,7 +7,7 @@ use Rattle.std.specs.Io.KnownBytes.{Appends}
 use Rattle.std.specs.declared.alloc.Global.{Global}
 use Rattle.std.specs.declared.io.Error.{Error}
 use Rattle.clap.specs.Words.{Text, takes}
-use Rattle.command_line.specs.Choice.{AsksFor, faults_of, program, request_of}
+use Rattle.command_line.specs.Choice.{IsRequestOf, faults_of, program, request_of}
 use Rattle.command_line.specs.ChoiceFault.{IsFaultAmong, fault_of_words, refusal_text, status_of_fault}
 use Rattle.command_line.specs.Commands.{IsAnswerOf}
 use Rattle.command_line.specs.Coloring.{request_on_screen}
@@ -37,9 +37,9 @@ IsRefusalOfWord words fault = (wrong : WordFault) × (fault ≡ Word wrong) × (
 abbrev pub IsRefusalOf : List Text → ChoiceFault → Type 0
 IsRefusalOf words fault = IsRefusalByClap words fault ⊎ IsRefusalOfWord words fault
 
--- a refusal was said, all but `clap`'s in words that are known, and the run ended so
-abbrev pub IsRefusalSaid : ChoiceFault → Option (List ℕ) → Option (List ℕ) → Bool → Status → Type 0
-IsRefusalSaid refusal before after write_failed status =
+-- a refusal was written, all but `clap`'s in words that are known, and the run ended so
+abbrev pub IsRefusalWritten : ChoiceFault → Option (List ℕ) → Option (List ℕ) → Bool → Status → Type 0
+IsRefusalWritten refusal before after write_failed status =
     (status ≡ ended write_failed (status_of_fault refusal))
     × (write_failed ≡ false → IfSome (refusal_text refusal) (Appends before after))
 
@@ -47,7 +47,7 @@ IsRefusalSaid refusal before after write_failed status =
 abbrev pub words_of : Result (Vec (String Global) Global) Error → Result (List Text) Error
 words_of words = result_map_both (λ words. map string_bytes words.items) (λ error. error) words
 
--- what is said beside a refusal of the command line that ends with this status
+-- the remark beside a refusal of the command line that ends with this status
 abbrev pub refusal_remark : Status → Remark
 refusal_remark status.Memory = NoMemory
 refusal_remark status = Nothing
@@ -55,9 +55,9 @@ refusal_remark status = Nothing
 abbrev pub refusal_ending : Bool → Status → Ending
 refusal_ending write_failed status = ending_after write_failed status (refusal_remark status)
 
--- where nothing fails, standard error gets what is said
-abbrev pub IsRemarkSaid : {E : Type 0} → (E → Option (List ℕ)) → Remark → StoppingWriter E → StoppingWriter E → Type 0
-IsRemarkSaid contents remark errors errors_after = writing_failed errors_after ≡ false
+-- where nothing fails, standard error gets the remark
+abbrev pub IsRemarkWritten : {E : Type 0} → (E → Option (List ℕ)) → Remark → StoppingWriter E → StoppingWriter E → Type 0
+IsRemarkWritten contents remark errors errors_after = writing_failed errors_after ≡ false
     → IfSome (remark_text remark) (Appends (contents_of contents errors) (contents_of contents errors_after))
 
 -- a refusal of the command line: the reader is left as it was, and after a failed write nothing more is written
@@ -70,7 +70,7 @@ pub record IsRefusalRun {R W : Type 0} (contents : W → Option (List ℕ)) (IsS
 
 -- what the words of a command line ask for, if they could be read
 abbrev pub IsRequestIn : Result (List Text) Error → Result Request ChoiceFault → Type 0
-IsRequestIn (Ok words) requested = MatchResult requested (AsksFor words) (IsRefusalOf words)
+IsRequestIn (Ok words) requested = MatchResult requested (IsRequestOf words) (IsRefusalOf words)
 IsRequestIn (Err error) requested = requested ≡ Err (fault_of_words (error_kind error))
 
 -- what the words ask for was run, on a screen that shows colors or not, or they were refused
@@ -79,4 +79,4 @@ abbrev pub IsProgramRun : {R W : Type 0} → (R → Option (List ℕ)) → (W �
 IsProgramRun remaining contents shows_colors words reader reader_after writer writer_after ending =
     (requested : Result Request ChoiceFault) × IsRequestIn words requested × MatchResult requested
     (λ request. IsCommandRun remaining contents request.options.json (IsAnswerOf (request_on_screen shows_colors request)) reader reader_after writer writer_after ending)
-    (λ fault. IsRefusalRun contents (IsRefusalSaid fault) reader reader_after writer writer_after ending)
+    (λ fault. IsRefusalRun contents (IsRefusalWritten fault) reader reader_after writer writer_after ending)

@@ -50,8 +50,8 @@ use Rattle.command_line.specs.declared.choice.options.Options.{Options}
 use Rattle.command_line.specs.declared.commands.planning_inputs.Planning.{Planning}
 use Rattle.command_line.specs.Runs.{Answer}
 use Rattle.command_line.specs.declared.commands.outcome.ProcedureResults.{ProcedureResults}
-use Rattle.command_line.specs.declared.told_fault.ToldFault.{ToldFault}
-use Rattle.command_line.specs.declared.told_fault.ToldFault.TheVariants.{Procedure}
+use Rattle.command_line.specs.declared.reported_fault.ReportedFault.{ReportedFault}
+use Rattle.command_line.specs.declared.reported_fault.ReportedFault.TheVariants.{Procedure}
 use Rattle.command_line.specs.declared.fault.Fault.{Fault}
 use Rattle.command_line.specs.declared.fault.Fault.TheVariants as fault
 
@@ -152,7 +152,7 @@ outcome_of results active = record {
 
 abbrev pub line_if : {T : Type 0} → (T → List ℕ) → Option T → List (List ℕ)
 line_if line None = []
-line_if line (Some told) = line told ∷ []
+line_if line (Some reported) = line reported ∷ []
 
 abbrev pub outcome_lines : Outcome → List (List ℕ)
 outcome_lines outcome =
@@ -164,23 +164,23 @@ abbrev pub steps_lines : Bool → List Step → List (List ℕ)
 steps_lines true steps = trace_lines steps
 steps_lines false steps = []
 
-abbrev pub told_text : Bool → List Step → Outcome → List ℕ
-told_text traced steps outcome = text_of (steps_lines traced steps) ++ text_of (outcome_lines outcome)
+abbrev pub procedure_text : Bool → List Step → Outcome → List ℕ
+procedure_text traced steps outcome = text_of (steps_lines traced steps) ++ text_of (outcome_lines outcome)
 
 -- ---- as JSON
 
 -- with the words and the sentence of the fault, if there is one
-abbrev pub told_tree : Bool → List Step → Outcome → Option ProvisionFault → Json
-told_tree traced steps outcome None = procedure_json traced steps outcome [] []
-told_tree traced steps outcome (Some f) =
+abbrev pub procedure_tree : Bool → List Step → Outcome → Option ProvisionFault → Json
+procedure_tree traced steps outcome None = procedure_json traced steps outcome [] []
+procedure_tree traced steps outcome (Some f) =
     procedure_json traced steps outcome (fault_words (fault.Provision f)) (fault_sentence (fault.Provision f) Other)
 
--- ---- what is told
+-- ---- what is reported
 
 -- as JSON, which has the fault too, or not
-abbrev pub told_output : Bool → Bool → List Step → Outcome → Option ProvisionFault → List ℕ
-told_output true traced steps outcome refused = json_text (told_tree traced steps outcome refused)
-told_output false traced steps outcome refused = told_text traced steps outcome
+abbrev pub procedure_output : Bool → Bool → List Step → Outcome → Option ProvisionFault → List ℕ
+procedure_output true traced steps outcome refused = json_text (procedure_tree traced steps outcome refused)
+procedure_output false traced steps outcome refused = procedure_text traced steps outcome
 
 -- the texts are those of an image, of weights, of kept paths and of a script; their plan, and the module that the image makes
 pub record IsSetUp (conventions : Conventions) (inputs : Inputs) : Type 0 where
@@ -210,16 +210,16 @@ IsSetUpRefusal conventions inputs (fault.Module f) = IsNoModule conventions inpu
 IsSetUpRefusal conventions inputs (fault.Script f) = ((planning : Planning) × IsPlanning conventions inputs planning) × IsFirstFault (lines_of inputs.script) f
 IsSetUpRefusal conventions inputs f = IsPlanningRefusal conventions inputs f
 
--- what was done, and what is told of it
-pub record IsCarriedOut (traced : Bool) (options : Options) (inputs : Inputs) (text : List ℕ) (told_fault : Option ToldFault) : Type 0 where
+-- what was done, and what is reported of it
+pub record IsCarriedOut (traced : Bool) (options : Options) (inputs : Inputs) (text : List ℕ) (reported_fault : Option ReportedFault) : Type 0 where
   pub set_up : IsSetUp options.conventions inputs
   pub after : ModuleBus
   pub results : ProcedureResults
   pub done : CarriesOut options.wake options.activate set_up.planning.advert set_up.certificate.paths set_up.planning.kept (bus_at_start set_up.planning.image set_up.script) after results
-  pub told : text ≡ told_output options.json traced after.steps (outcome_of results (active_bytes after.state.1)) (outcome_fault results)
-  pub fault : told_fault ≡ option_map (λ f. Procedure f (inactive_of set_up)) (outcome_fault results)
+  pub reported : text ≡ procedure_output options.json traced after.steps (outcome_of results (active_bytes after.state.1)) (outcome_fault results)
+  pub fault : reported_fault ≡ option_map (λ f. Procedure f (inactive_of set_up)) (outcome_fault results)
 
 -- the answer to the texts of an image, of weights, of kept paths and of a script, by whether the steps are shown
 abbrev pub IsProcedureAnswer : Bool → Options → Inputs → Answer → Type 0
-IsProcedureAnswer traced options inputs (Ok (text, told)) = IsCarriedOut traced options inputs text told
+IsProcedureAnswer traced options inputs (Ok (text, reported)) = IsCarriedOut traced options inputs text reported
 IsProcedureAnswer traced options inputs (Err f) = IsSetUpRefusal options.conventions inputs f

@@ -8,7 +8,7 @@ use Rattle.applications.specs.declared.weights.fault.WeightsFault.TheVariants as
 use Rattle.applications.specs.declared.weights.table.WeightTable.{WeightTable}
 use Rattle.applications.specs.declared.weights.table.WeightTable.TheVariants as table
 use Rattle.paged_memory.specs.declared.fault.ImageFault.TheVariants as image
-use Rattle.command_line.specs.Faults.{fault_of_told, fault_words}
+use Rattle.command_line.specs.Faults.{fault_of_reported, fault_words}
 use Rattle.command_line.specs.InactivePaths.{inactive_text}
 use Rattle.command_line.specs.OddLines.{odd_line_of_weights}
 use Rattle.command_line.specs.Places.{first_word, place_of, place_text}
@@ -20,8 +20,8 @@ use Rattle.command_line.specs.declared.remark.Remark.TheVariants.{Nothing, Unwri
 use Rattle.command_line.specs.declared.remark.clue.Clue.{Clue}
 use Rattle.command_line.specs.declared.remark.opening.Opening.{Opening}
 use Rattle.command_line.specs.declared.remark.opening.Opening.TheVariants.{Empty, Mark, Returns, Binary, Other}
-use Rattle.command_line.specs.declared.told_fault.ToldFault.{ToldFault}
-use Rattle.command_line.specs.declared.told_fault.ToldFault.TheVariants.{Procedure}
+use Rattle.command_line.specs.declared.reported_fault.ReportedFault.{ReportedFault}
+use Rattle.command_line.specs.declared.reported_fault.ReportedFault.TheVariants.{Procedure}
 
 -- the first bytes are these
 abbrev pub begins : List ℕ → List ℕ → Bool
@@ -85,13 +85,13 @@ sentence_key (fault.Image image.BadHeader) opening = opening_key opening
 sentence_key (fault.Weights (weights.BadKey table)) opening = key_sentence table
 sentence_key f opening = first_word (fault_words f)
 
--- of a fault that a text tells of it is that it was to be expected, if a kept path was not active
-abbrev pub remark_on : ToldFault → Explained → Remark
+-- on a fault that a text reports it is that it was to be expected, if a kept path was not active
+abbrev pub remark_on : ReportedFault → Explained → Remark
 remark_on (Procedure fault (Some path)) explained = Foreseen path explained
-remark_on told explained = Refused explained
+remark_on reported explained = Refused explained
 
-abbrev pub beside_told : ToldFault → Clue → Remark
-beside_told told clue = remark_on told record { fault = fault_of_told told; clue = clue }
+abbrev pub remark_on_reported : ReportedFault → Clue → Remark
+remark_on_reported reported clue = remark_on reported record { fault = fault_of_reported reported; clue = clue }
 
 -- the line of a fault
 abbrev pub explained_text : Explained → List ℕ

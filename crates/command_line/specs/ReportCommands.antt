@@ -23,7 +23,7 @@ use Rattle.command_line.specs.declared.choice.commands.ReportName.TheVariants.{I
 use Rattle.command_line.specs.declared.fault.Fault.TheVariants as fault
 use Rattle.command_line.specs.Coloring.{shown_as}
 use Rattle.command_line.specs.declared.choice.options.Options.{Options}
-use Rattle.command_line.specs.declared.told_fault.ToldFault.{ToldFault}
+use Rattle.command_line.specs.declared.reported_fault.ReportedFault.{ReportedFault}
 use Rattle.command_line.specs.OverBus.{IsReading}
 use Rattle.command_line.specs.Runs.{Answer}
 
@@ -32,36 +32,36 @@ abbrev pub Prints : Option ReportFault → List ℕ → Result (Vec ℕ Global) 
 Prints refused text result =
     MatchOption refused (IfMemory (λ (written : List ℕ). written ≡ text) (result_map_both (λ written. written.items) (λ f. f) result)) (λ f. result ≡ Err f)
 
--- ---- what is told of an image
+-- ---- what is reported of an image
 
--- a text and the fault that it tells of, if there is one, or a fault alone
-abbrev pub Told : Type 0
-Told = Result (List ℕ × Option ToldFault) ReportFault
+-- a text and the fault that it reports, if there is one, or a fault alone
+abbrev pub Reported : Type 0
+Reported = Result (List ℕ × Option ReportedFault) ReportFault
 
-abbrev pub answer_told : Told → Answer
-answer_told told = result_map_both (λ text. text) fault.Report told
+abbrev pub answer_of_reported : Reported → Answer
+answer_of_reported reported = result_map_both (λ text. text) fault.Report reported
 
 -- that is answered, if there is memory for it
-abbrev pub IsToldAs : Told → Answer → Type 0
-IsToldAs told answer = (answer ≡ Err fault.Memory) ⊎ (answer ≡ answer_told told)
+abbrev pub IsReportedAs : Reported → Answer → Type 0
+IsReportedAs reported answer = (answer ≡ Err fault.Memory) ⊎ (answer ≡ answer_of_reported reported)
 
--- the answer to the text of an image by what is told of what there is to report of, over a bus or not
-abbrev pub IsReported : Bool → (Result Memory ReportFault → Told) → List ℕ → Answer → Type 0
-IsReported bus told image (Err (fault.Image f)) = IsFirstFault (lines_of image) f
-IsReported bus told image answer = (read : Result Memory ReportFault) × IsReading bus image read × (answer ≡ answer_told (told read))
+-- the answer to the text of an image by what is reported of what there is to report of, over a bus or not
+abbrev pub IsReported : Bool → (Result Memory ReportFault → Reported) → List ℕ → Answer → Type 0
+IsReported bus reported image (Err (fault.Image f)) = IsFirstFault (lines_of image) f
+IsReported bus reported image answer = (read : Result Memory ReportFault) × IsReading bus image read × (answer ≡ answer_of_reported (reported read))
 
 -- ---- reports
 
 -- the fault, or else the text
-abbrev pub text_unless : Option ReportFault → List ℕ → Told
+abbrev pub text_unless : Option ReportFault → List ℕ → Reported
 text_unless None text = Ok (text, None)
 text_unless (Some f) text = Err f
 
 -- of what there is to report of, by why there is no report of a memory and what is printed of one, as JSON or as text, in colors or not
-abbrev pub report_told : Options → (Memory → Option ReportFault) → (Bool → Memory → List ℕ) → Result Memory ReportFault → Told
-report_told options refusal printed_of (Ok memory) =
+abbrev pub report_of : Options → (Memory → Option ReportFault) → (Bool → Memory → List ℕ) → Result Memory ReportFault → Reported
+report_of options refusal printed_of (Ok memory) =
     text_unless (refusal memory) (shown_as options.coloring options.json (printed_of options.json memory))
-report_told options refusal printed_of (Err f) = Err f
+report_of options refusal printed_of (Err f) = Err f
 
 -- why there is no such report of a memory
 abbrev pub refusal_of : ReportName → Memory → Option ReportFault
@@ -89,13 +89,13 @@ printed_of report json memory = printed json (entries_of report memory)
 
 -- the answer of a report to the text of an image
 abbrev pub IsReportAnswer : ReportName → Options → List ℕ → Answer → Type 0
-IsReportAnswer report options = IsReported options.bus (report_told options (refusal_of report) (printed_of report))
+IsReportAnswer report options = IsReported options.bus (report_of options (refusal_of report) (printed_of report))
 
--- ---- observables, of the modules of which details are told
+-- ---- observables, of the modules of which details are reported
 
 abbrev pub observed_text : Bool → Memory → List ℕ
 observed_text true memory = json_text (json_of memory)
 observed_text false memory = text_of (observables_lines memory)
 
 abbrev pub IsObservablesAnswer : Options → List ℕ → Answer → Type 0
-IsObservablesAnswer options = IsReported options.bus (report_told options detail_fault observed_text)
+IsObservablesAnswer options = IsReported options.bus (report_of options detail_fault observed_text)

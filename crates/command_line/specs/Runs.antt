@@ -6,7 +6,7 @@ use Rattle.std.specs.Io.KnownBytes.{Appends}
 use Rattle.command_line.specs.declared.fault.Fault.{Fault}
 use Rattle.command_line.specs.declared.fault.Fault.TheVariants.{Memory, Io, TooLong, Parts, Provision}
 use Rattle.command_line.specs.declared.command_output.CommandOutput.{CommandOutput}
-use Rattle.command_line.specs.Remarks.{beside_told, clue_for}
+use Rattle.command_line.specs.Remarks.{remark_on_reported, clue_for}
 use Rattle.command_line.specs.declared.remark.clue.Clue.{Clue}
 use Rattle.command_line.specs.declared.remark.opening.Opening.{Opening}
 use Rattle.command_line.specs.declared.remark.opening.Opening.TheVariants.{Other}
@@ -15,10 +15,10 @@ use Rattle.command_line.specs.declared.remark.Remark.TheVariants.{Unwritten, Ref
 use Rattle.command_line.specs.declared.remark.warnings.Warnings.{Warnings}
 use Rattle.command_line.specs.declared.status.Status.{Status}
 use Rattle.command_line.specs.declared.status.Status.TheVariants.{Done, ReadOrWrite}
-use Rattle.command_line.specs.declared.told_fault.ToldFault.{ToldFault}
-use Rattle.command_line.specs.declared.told_fault.ToldFault.TheVariants.{Procedure, Metrics}
+use Rattle.command_line.specs.declared.reported_fault.ReportedFault.{ReportedFault}
+use Rattle.command_line.specs.declared.reported_fault.ReportedFault.TheVariants.{Procedure, Metrics}
 use Rattle.command_line.specs.CountedReader.{reading_failed, reads_of, remaining_of}
-use Rattle.command_line.specs.Faults.{fault_of_told, status_of}
+use Rattle.command_line.specs.Faults.{fault_of_reported, status_of}
 use Rattle.command_line.specs.FaultTexts.{fault_text}
 use Rattle.command_line.specs.Input.{TakesWithinLimit}
 use Rattle.command_line.specs.Limits.{input_limit, read_limit}
@@ -29,13 +29,13 @@ use Rattle.command_line.specs.StoppingWriter.{contents_of, writing_failed}
 use Rattle.command_line.specs.declared.input.counted_reader.CountedReader.{CountedReader}
 use Rattle.command_line.specs.declared.output.stopping_writer.StoppingWriter.{StoppingWriter}
 
--- a text and the fault that it tells of, if there is one, or a fault alone
+-- a text and the fault that it reports, if there is one, or a fault alone
 abbrev pub Answer : Type 0
-Answer = Result (List ℕ × Option ToldFault) Fault
+Answer = Result (List ℕ × Option ReportedFault) Fault
 
 -- what a function answers, as such a one
 abbrev pub answer_of : Result CommandOutput Fault → Answer
-answer_of result = result_map_both (λ told. (told.text.items, told.fault)) (λ fault. fault) result
+answer_of result = result_map_both (λ reported. (reported.text.items, reported.fault)) (λ fault. fault) result
 
 -- what an input tells beside an answer to it
 abbrev pub clue_beside : Answer → List ℕ → Clue
@@ -56,7 +56,7 @@ output_of json opening (Err fault) = fault_text json fault opening
 
 abbrev pub status_after : Answer → Status
 status_after (Ok (text, None)) = Done
-status_after (Ok (text, Some told)) = status_of (fault_of_told told)
+status_after (Ok (text, Some reported)) = status_of (fault_of_reported reported)
 status_after (Err fault) = status_of fault
 
 -- what a command itself answers to the texts of its parts, if no allocation was refused
@@ -84,8 +84,8 @@ ended true status = ReadOrWrite
 ended false status = status
 
 -- the answer is `Io` exactly if a read failed
-abbrev pub SaysReading : Bool → Answer → Type 0
-SaysReading failed answer = (answer ≡ Err Io) ↔ (failed ≡ true)
+abbrev pub IsReadingFailure : Bool → Answer → Type 0
+IsReadingFailure failed answer = (answer ≡ Err Io) ↔ (failed ≡ true)
 
 -- an answer was written whole, as this output, if no write failed, after what the writer held before, and the run ended so
 abbrev pub IsWritten : List ℕ → Answer → Option (List ℕ) → Option (List ℕ) → Bool → Status → Type 0
@@ -96,36 +96,36 @@ IsWritten output answer before after write_failed status =
 abbrev pub EndsByFailure : Bool → Bool → Status → Type 0
 EndsByFailure read_failed write_failed status = (status ≡ ReadOrWrite) ↔ ((read_failed || write_failed) ≡ true)
 
--- what is said beside an answer that was written, by what its input tells beside it; what is warned of is left open
+-- the remark beside an answer that was written, by what its input tells beside it; what is warned of is left open
 abbrev pub IsRemarkBeside : Answer → Clue → Remark → Type 0
 IsRemarkBeside (Err fault) clue remark = remark ≡ Refused record { fault = fault; clue = clue }
-IsRemarkBeside (Ok (text, Some told)) clue remark = remark ≡ beside_told told clue
+IsRemarkBeside (Ok (text, Some reported)) clue remark = remark ≡ remark_on_reported reported clue
 IsRemarkBeside (Ok (text, None)) clue remark = (warnings : Warnings) × (remark ≡ Warned warnings)
 
 -- of one that was not written whole, that alone
-abbrev pub IsSaidBeside : Bool → List ℕ → Answer → Remark → Type 0
-IsSaidBeside true input answer remark = remark ≡ Unwritten
-IsSaidBeside false input answer remark = IsRemarkBeside answer (clue_beside answer input) remark
+abbrev pub IsRemarkAfter : Bool → List ℕ → Answer → Remark → Type 0
+IsRemarkAfter true input answer remark = remark ≡ Unwritten
+IsRemarkAfter false input answer remark = IsRemarkBeside answer (clue_beside answer input) remark
 
 -- how a run ends: its status, and what standard error says
 pub record Ending : Type 0 where
   pub status : Status
   pub remark : Remark
 
--- with this status, and this to be said: after a failed write that alone
+-- with this status and this remark: after a failed write that it failed is the only remark
 abbrev pub ending_after : Bool → Status → Remark → Ending
 ending_after true status remark = record { status = status; remark = Unwritten }
 ending_after false status remark = record { status = status; remark = remark }
 
--- such an answer was written, as JSON or not, no more was read than it needs, and this is said beside it
+-- such an answer was written, as JSON or not, no more was read than it needs, and this is the remark beside it
 pub record IsAnswered {R W : Type 0} (remaining : R → Option (List ℕ)) (contents : W → Option (List ℕ)) (json : Bool) (IsAnswer : List ℕ → Answer → Type 0) (input : List ℕ)
     (reader reader_after : CountedReader R) (writer writer_after : StoppingWriter W) (ending : Ending) : Type 0 where
   pub answer : Answer
   pub is_answer : IsAnswer input answer
-  pub reading : SaysReading (reading_failed reader_after) answer
+  pub reading : IsReadingFailure (reading_failed reader_after) answer
   pub taken : TakesWithinLimit (remaining_of remaining reader) (remaining_of remaining reader_after) (answer ≡ Err TooLong)
   pub written : IsWritten (output_of json (opening_beside answer input) answer) answer (contents_of contents writer) (contents_of contents writer_after) (writing_failed writer_after) ending.status
-  pub remarked : IsSaidBeside (writing_failed writer_after) input answer ending.remark
+  pub remarked : IsRemarkAfter (writing_failed writer_after) input answer ending.remark
 
 -- one run of a command on a reader and a writer, before and after, that answers its input so, as JSON or not
 pub record IsCommandRun {R W : Type 0} (remaining : R → Option (List ℕ)) (contents : W → Option (List ℕ)) (json : Bool) (IsAnswer : List ℕ → Answer → Type 0)

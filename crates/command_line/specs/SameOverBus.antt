@@ -6,7 +6,7 @@ use Rattle.paged_memory.specs.ImageText.{IsTextOf}
 use Rattle.module_metrics.specs.Exposition.{Label, exposition}
 use Rattle.module_metrics.specs.VdmMetrics.{vdm_metrics, vdm_seen}
 use Rattle.reports.specs.declared.fault.ReportFault.TheVariants.{GaveUp}
-use Rattle.command_line.specs.Faults.{fault_of_told}
+use Rattle.command_line.specs.Faults.{fault_of_reported}
 use Rattle.command_line.specs.declared.fault.Fault.{Fault}
 use Rattle.command_line.specs.declared.fault.Fault.TheVariants.{Memory, Io, Report}
 use Rattle.command_line.specs.Commands.{IsAnswerOf}
@@ -17,11 +17,11 @@ use Rattle.command_line.specs.declared.choice.commands.CommandName.{CommandName}
 use Rattle.command_line.specs.declared.choice.commands.Request.{Request}
 use Rattle.command_line.specs.declared.choice.options.Options.{Options}
 use Rattle.command_line.specs.declared.choice.part.Part.TheVariants.{Image}
-use Rattle.command_line.specs.declared.told_fault.ToldFault.{ToldFault}
+use Rattle.command_line.specs.declared.reported_fault.ReportedFault.{ReportedFault}
 
 -- the fault of an answer, alone or beside a text
 abbrev pub answer_fault : Answer → Option Fault
-answer_fault (Ok (text, told)) = option_map fault_of_told told
+answer_fault (Ok (text, reported)) = option_map fault_of_reported reported
 answer_fault (Err f) = Some f
 
 -- the reading of the module came to no end
@@ -39,8 +39,8 @@ abbrev pub over_bus : CommandName → Options → Bool → Request
 over_bus command options bus = record { command = command; options = record options { bus = bus } }
 
 -- so is each answer with `--bus`, but for a reading that came to no end, a refused allocation and failed reads
-abbrev pub IsToldAlike : (Bool → Request) → Type 0
-IsToldAlike request =
+abbrev pub IsReportedAlike : (Bool → Request) → Type 0
+IsReportedAlike request =
     (input : List ℕ) (answer : Answer) → IsAnswerOf (request true) input answer → ¬ (IsGivenUp answer) → answer ≢ Err Memory → answer ≢ Err Io
     → IsPlainAnswer request input answer
 
@@ -49,17 +49,17 @@ abbrev pub image_of : List ℕ → List ℕ
 image_of input = text_in (Image ∷ []) (parts_of input) Image
 
 -- without `--bus` the same is followed by the metrics of what the module of the image lists itself (VDM)
-pub record IsFollowed (labels : List Label) (request : Bool → Request) (input text : List ℕ) (told : Option ToldFault) : Type 0 where
+pub record IsFollowed (labels : List Label) (request : Bool → Request) (input text : List ℕ) (reported : Option ReportedFault) : Type 0 where
   pub memory : images.Memory
   pub is_image : IsTextOf (lines_of (image_of input)) memory
-  pub whole : IsPlainAnswer request input (Ok (text ++ exposition labels (vdm_metrics (vdm_seen memory)), told))
+  pub whole : IsPlainAnswer request input (Ok (text ++ exposition labels (vdm_metrics (vdm_seen memory)), reported))
 
 abbrev pub IsFollowedAnswer : List Label → (Bool → Request) → List ℕ → Answer → Type 0
-IsFollowedAnswer labels request input (Ok (text, told)) = IsFollowed labels request input text told
+IsFollowedAnswer labels request input (Ok (text, reported)) = IsFollowed labels request input text reported
 IsFollowedAnswer labels request input (Err f) = IsPlainAnswer request input (Err f)
 
 -- so is each answer with `--bus`, but for the same
-abbrev pub AreToldBefore : List Label → (Bool → Request) → Type 0
-AreToldBefore labels request =
+abbrev pub AreReportedBefore : List Label → (Bool → Request) → Type 0
+AreReportedBefore labels request =
     (input : List ℕ) (answer : Answer) → IsAnswerOf (request true) input answer → ¬ (IsGivenUp answer) → answer ≢ Err Memory → answer ≢ Err Io
     → IsFollowedAnswer labels request input answer

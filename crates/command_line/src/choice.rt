@@ -4,7 +4,7 @@ ghost use Rattle.std.specs.Prelude.{[], filter, string_bytes, Ok, Result};
 ghost use Rattle.std.specs.List.{list_all};
 ghost use Rattle.clap.specs.declared.builder.command.Command.TheViews.{out-Command as fields_of};
 ghost use Rattle.clap.specs.Words.{Text, app_of, found_of, rows_of, rule_of, subcommand_rows_of, takes};
-ghost use Rattle.command_line.specs.Choice.{AsksFor, command_app, commands, entry_of, faults_of, json_word, plain_request, program, request_in, request_of, request_with, takes_json};
+ghost use Rattle.command_line.specs.Choice.{IsRequestOf, command_app, commands, entry_of, faults_of, json_word, plain_request, program, request_in, request_of, request_with, takes_json};
 ghost use Rattle.command_line.specs.ChoiceFault.{Gives};
 ghost use Rattle.command_line.specs.GivenFlags.{flag_of, flag_rule};
 ghost use Rattle.command_line.specs.Program.{IsRefusalOf};
@@ -99,7 +99,7 @@ fn requested(alloc: Global, matches: &ArgMatches<'_>) -> Result<Request, ChoiceF
 
 // What the words ask for, as `clap` reads them.
 fn parsed(alloc: Global, words: &[String]) -> Result<Request, ChoiceFault>
-    ensures { MatchResult result (AsksFor (map string_bytes words.now)) (IsRefusalOf (map string_bytes words.now)) }
+    ensures { MatchResult result (IsRequestOf (map string_bytes words.now)) (IsRefusalOf (map string_bytes words.now)) }
 {
     let matches = program(alloc)?.try_get_matches_from(words)?;
     requested(alloc, &matches)
@@ -107,7 +107,7 @@ fn parsed(alloc: Global, words: &[String]) -> Result<Request, ChoiceFault>
 
 /// What the words ask for, of which the first is the program's name.
 pub fn request(alloc: Global, words: &[String]) -> Result<Request, ChoiceFault>
-    ensures { MatchResult result (AsksFor (map string_bytes words.now)) (IsRefusalOf (map string_bytes words.now)) }
+    ensures { MatchResult result (IsRequestOf (map string_bytes words.now)) (IsRefusalOf (map string_bytes words.now)) }
 {
     match plain_request(alloc, words) {
         Some(request) => Ok(request),

@@ -12,9 +12,9 @@ mod output;
 mod parts;
 mod program;
 mod remark;
+mod reported_fault;
 mod screen;
 mod status;
-mod told_fault;
 
 pub use fault::Fault;
 pub use input::{CountedReader, MAX_READS, read_input};

@@ -11,8 +11,8 @@ mod stopping_writer;
 
 use crate::command_output::CommandOutput;
 use crate::fault::Fault;
+use crate::reported_fault::ReportedFault;
 use crate::status::Status;
-use crate::told_fault::ToldFault;
 pub use fault_form::FaultForm;
 use reading_fault::ReadingFault;
 use std::io;
@@ -63,8 +63,8 @@ fn write_output<W: Write>(
     }
     match output.fault {
         None => Status::Done,
-        Some(ToldFault::Metrics(fault)) => Fault::from(fault).status(),
-        Some(ToldFault::Procedure(fault, _)) => match form {
+        Some(ReportedFault::Metrics(fault)) => Fault::from(fault).status(),
+        Some(ReportedFault::Procedure(fault, _)) => match form {
             FaultForm::Line => write_fault(writer, Fault::Provision(fault), form),
             FaultForm::Json(_) => Status::NotProvisioned,
             FaultForm::Ready => Status::NotProvisioned,

@@ -2,7 +2,7 @@
 ghost use Rattle.std.specs.Prelude.{◌≡◌};
 ghost use Rattle.command_line.specs.Runs.{ending_after};
 ghost use Rattle.command_line.specs.StoppingWriter.{writing_failed};
-ghost use Rattle.command_line.specs.Program.{IsProgramRun, IsRemarkSaid, IsRequestIn, refusal_remark, words_of};
+ghost use Rattle.command_line.specs.Program.{IsProgramRun, IsRemarkWritten, IsRequestIn, refusal_remark, words_of};
 
 use crate::choice::commands::Request;
 use crate::choice::fault::{ChoiceFault, choice_refused};
@@ -28,25 +28,25 @@ pub fn run<R: Read, W: Write, E: Write>(
 ) -> Status
     ensures { (remark : Remark) × IsProgramRun R.remaining W.contents shows_colors (words_of words)
         reader.old reader.new writer.old writer.new record { status = result; remark = remark }
-        × IsRemarkSaid E.contents remark errors.old errors.new }
+        × IsRemarkWritten E.contents remark errors.old errors.new }
 {
     let mut remark = Remark::Nothing;
     let status = run_words(alloc, words, shows_colors, reader, writer, &mut remark);
     if writer.has_failed() {
         remark = Remark::Unwritten;
     }
-    say(&remark, errors);
+    write_remark(&remark, errors);
     status
 }
 
-/// Says a remark, if it can be said.
-fn say<E: Write>(remark: &Remark, errors: &mut StoppingWriter<E>)
-    ensures { IsRemarkSaid E.contents remark.now errors.old errors.new }
+/// Writes a remark, if it can be written.
+fn write_remark<E: Write>(remark: &Remark, errors: &mut StoppingWriter<E>)
+    ensures { IsRemarkWritten E.contents remark.now errors.old errors.new }
 {
-    let _said = errors.put_text(remark);
+    let _written = errors.put_text(remark);
 }
 
-/// Does what the words ask for, or says why it does not, and notes what is to be said beside it.
+/// Does what the words ask for, or says why it does not, and notes the remark beside it.
 fn run_words<R: Read, W: Write>(
     alloc: Global,
     words: io::Result<Vec<String>>,
@@ -84,7 +84,7 @@ fn requested(alloc: Global, words: io::Result<Vec<String>>) -> Result<Request, C
     request(alloc, words.as_slice())
 }
 
-/// What is said beside a refusal that ends with this status.
+/// The remark beside a refusal that ends with this status.
 fn refusal_remark(status: Status) -> Remark
     ensures { result ≡ refusal_remark status }
 {

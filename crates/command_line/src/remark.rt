@@ -1,6 +1,6 @@
 //! What standard error says beside an answer: why there is none, or what is odd about it.
 ghost use Rattle.std.specs.Prelude.{◌≡◌, None, Some};
-ghost use Rattle.command_line.specs.Remarks.{beside_told, explained_text, key_sentence, remark_text, sentence_key, sentence_of};
+ghost use Rattle.command_line.specs.Remarks.{remark_on_reported, explained_text, key_sentence, remark_text, sentence_key, sentence_of};
 ghost use Rattle.command_line.specs.Faults.{fault_words};
 ghost use Rattle.command_line.specs.Places.{first_word};
 ghost use Rattle.command_line.specs.Runs.{IsRemarkBeside, answer_of};
@@ -18,7 +18,7 @@ mod weights_lines;
 
 use crate::command_output::CommandOutput;
 use crate::fault::Fault;
-use crate::told_fault::ToldFault;
+use crate::reported_fault::ReportedFault;
 use applications::{WeightTable, WeightsFault};
 pub use clue::Clue;
 use inactive_path::InactivePath;
@@ -30,7 +30,7 @@ use plan_certificate::Path;
 use std::fmt;
 pub use warnings::Warnings;
 
-/// What is said beside an answer, once that is written.
+/// The remark beside an answer, once that is written.
 #[derive(Drop)]
 pub enum Remark {
     /// The answer says all.
@@ -55,13 +55,13 @@ pub struct Explained {
 }
 
 impl Remark {
-    /// What is said beside this answer to an input that gives this clue.
+    /// The remark beside this answer to an input that gives this clue.
     pub fn beside(answer: &Result<CommandOutput, Fault>, clue: Clue) -> Remark
         ensures { IsRemarkBeside (answer_of answer.now) clue result }
     {
         match answer {
             Ok(output) => match output.fault {
-                Some(told) => Remark::of_told(told, clue),
+                Some(reported) => Remark::of_reported(reported, clue),
                 None => Remark::Warned(output.warnings),
             },
             Err(fault) => Remark::Refused(Explained {
@@ -71,16 +71,16 @@ impl Remark {
         }
     }
 
-    // What is said of a fault that a text tells of.
-    fn of_told(told: ToldFault, clue: Clue) -> Remark
-        ensures { result ≡ beside_told told clue }
+    // The remark on a fault that a text reports.
+    fn of_reported(reported: ReportedFault, clue: Clue) -> Remark
+        ensures { result ≡ remark_on_reported reported clue }
     {
         let explained = Explained {
-            fault: told.fault(),
+            fault: reported.fault(),
             clue,
         };
-        match told {
-            ToldFault::Procedure(_, Some(path)) => Remark::Foreseen(path, explained),
+        match reported {
+            ReportedFault::Procedure(_, Some(path)) => Remark::Foreseen(path, explained),
             _ => Remark::Refused(explained),
         }
     }

@@ -3,7 +3,7 @@ ghost use Rattle.std.specs.Prelude.{◌≡◌, true};
 ghost use Rattle.std.specs.IoError.{error_kind};
 ghost use Rattle.command_line.specs.ChoiceFault.{fault_of_error, fault_of_label, fault_of_words, status_by_kind};
 ghost use Rattle.clap.specs.Words.{kind_of};
-ghost use Rattle.command_line.specs.Program.{IsRefusalSaid};
+ghost use Rattle.command_line.specs.Program.{IsRefusalWritten};
 ghost use Rattle.command_line.specs.StoppingWriter.{contents_of, writing_failed};
 ghost use Rattle.command_line.specs.declared.choice.fault.ChoiceFault.TheVariants.{Memory, Word};
 
@@ -87,7 +87,7 @@ impl From<AllocError> for ChoiceFault {
 /// Writes why there is no choice, as `clap` puts it, and answers how the program ends.
 #[tactic(auto, unfolding(crate::specs::ChoiceFault::unreadable_line))]
 pub fn choice_refused<W: Write>(fault: &ChoiceFault, writer: &mut StoppingWriter<W>) -> Status
-    ensures said { IsRefusalSaid fault.now (contents_of W.contents writer.old)
+    ensures said { IsRefusalWritten fault.now (contents_of W.contents writer.old)
         (contents_of W.contents writer.new) (writing_failed writer.new) result }
     ensures stopped { writing_failed writer.old ≡ true → writer.new ≡ writer.old }
 {

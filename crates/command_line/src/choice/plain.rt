@@ -2,7 +2,7 @@
 ghost use Rattle.std.specs.Prelude.{◌≡◌, ◌∷◌, map, string_bytes, IfSome};
 ghost use Rattle.std.specs.Str.{bytes_eq};
 ghost use Rattle.clap.specs.Words.{Text};
-ghost use Rattle.command_line.specs.Choice.{AsksFor};
+ghost use Rattle.command_line.specs.Choice.{IsRequestOf};
 ghost use Rattle.command_line.specs.GivenFlags.{flag_of};
 ghost use Rattle.command_line.specs.PlainFlags as spec;
 ghost use Rattle.command_line.specs.PlainFlags.{are_switches, flag_word, has_word, is_switch};
@@ -15,7 +15,7 @@ use std::alloc::Global;
 
 /// What a command's name asks for, with such flags after it.
 pub fn plain_request(alloc: Global, words: &[String]) -> Option<Request>
-    ensures { IfSome result (AsksFor (map string_bytes words.now)) }
+    ensures { IfSome result (IsRequestOf (map string_bytes words.now)) }
 {
     let (_program, words) = words.split_first()?;
     let (name, flags) = words.split_first()?;
@@ -23,7 +23,7 @@ pub fn plain_request(alloc: Global, words: &[String]) -> Option<Request>
 }
 
 fn named(alloc: Global, name: &str, flags: &[String]) -> Option<Request>
-    ensures { (program_name : Text) → IfSome result (AsksFor (program_name ∷ name.now ∷ map string_bytes flags.now)) }
+    ensures { (program_name : Text) → IfSome result (IsRequestOf (program_name ∷ name.now ∷ map string_bytes flags.now)) }
 {
     let entry = command_named(name)?;
     if !are_switches(entry.flags, flags) {

@@ -2,7 +2,7 @@ ghost use Rattle.std.specs.Prelude.{◌≡◌, ◌≢◌, ◌++◌, IfErr, IfOk,
 ghost use Rattle.applications.specs.WeightFaults.{IsAnswer};
 ghost use Rattle.text_lines.specs.Lines.{text_of};
 ghost use Rattle.plan_certificate.specs.Certificates.{IsGood};
-ghost use Rattle.command_line.specs.CheckCommand.{IsCheckAnswer, SaysFirst, TellsGood, first_lines, good_lines, kept_lines};
+ghost use Rattle.command_line.specs.CheckCommand.{IsCheckAnswer, IsFirstNoted, IsGoodReport, first_lines, good_lines, kept_lines};
 ghost use Rattle.command_line.specs.Inputs.{inputs_of};
 ghost use Rattle.command_line.specs.PlanningInputs.{IsAdvertText};
 ghost use Rattle.command_line.specs.Runs.{IsOwnAnswer, answer_of};
@@ -30,7 +30,7 @@ pub fn check(alloc: Global, options: &Options, inputs: &Inputs<'_>) -> Result<Co
     judged(alloc, options, &advert, &weights, inputs)
 }
 
-// What is told of the certificate. A function of its own, since a certificate has room for all states, which is blanked
+// What is reported of the certificate. A function of its own, since a certificate has room for all states, which is blanked
 // when the function begins.
 #[inline(never)]
 fn judged(
@@ -60,19 +60,19 @@ fn judged(
     }
 }
 
-// What is told of a good certificate.
+// What is reported of a good certificate.
 fn good_output(
     alloc: Global,
     is_json: bool,
-    tells_first: bool,
+    wants_first: bool,
     advert: &Advert,
     weights: &AppWeights,
     certificate: &Certificate<'_, STATES>,
 ) -> Result<Vec<u8>, AllocError>
     requires { IsGood advert.now weights.now certificate.now }
-    ensures { IfOk result (λ text. TellsGood is_json tells_first advert.now weights.now certificate.now text.items) }
+    ensures { IfOk result (λ text. IsGoodReport is_json wants_first advert.now weights.now certificate.now text.items) }
 {
-    let is_first = said_first(tells_first, advert, weights, certificate);
+    let is_first = first_if_wanted(wants_first, advert, weights, certificate);
     if is_json {
         let problem = Problem {
             advert,
@@ -86,16 +86,16 @@ fn good_output(
 }
 
 // Whether the plan is the first of the best, if that is asked for.
-fn said_first(
-    is_asked: bool,
+fn first_if_wanted(
+    wants_first: bool,
     advert: &Advert,
     weights: &AppWeights,
     certificate: &Certificate<'_, STATES>,
 ) -> Option<bool>
     requires { IsGood advert.now weights.now certificate.now }
-    ensures { SaysFirst is_asked advert.now weights.now certificate.now result }
+    ensures { IsFirstNoted wants_first advert.now weights.now certificate.now result }
 {
-    if is_asked {
+    if wants_first {
         Some(first_best(advert, weights, certificate))
     } else {
         None

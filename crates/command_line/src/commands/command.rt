@@ -5,7 +5,7 @@ ghost use Rattle.command_line.specs.CountedReader.{reading_failed, reads_of, rem
 ghost use Rattle.command_line.specs.Input.{TakesWithinLimit};
 ghost use Rattle.command_line.specs.Limits.{input_limit, read_limit};
 ghost use Rattle.command_line.specs.Inputs.{inputs_of};
-ghost use Rattle.command_line.specs.Runs.{IsCommandRun, IsOwnAnswer, SaysReading, answer_of, clue_beside, ending_after, output_of};
+ghost use Rattle.command_line.specs.Runs.{IsCommandRun, IsOwnAnswer, IsReadingFailure, answer_of, clue_beside, ending_after, output_of};
 ghost use Rattle.command_line.specs.StoppingWriter.{writing_failed};
 ghost use Rattle.command_line.specs.FaultForms.{output_in};
 
@@ -26,7 +26,7 @@ use crate::status::Status;
 use std::alloc::Global;
 use std::io::{Read, Write};
 
-/// Reads the whole input, writes what the command that was chosen answers to it, and notes what is to be said beside it.
+/// Reads the whole input, writes what the command that was chosen answers to it, and notes the remark beside it.
 pub fn run<R: Read, W: Write>(
     alloc: Global,
     request: Request,
@@ -60,7 +60,7 @@ fn read_and_answer<R: Read>(
     ensures reads { reads_of reader.new ≤ read_limit }
     ensures taken { TakesWithinLimit (remaining_of R.remaining reader.old)
         (remaining_of R.remaining reader.new) (result.answer ≡ Err Fault.TooLong) }
-    ensures reading { SaysReading (reading_failed reader.new) (answer_of result.answer) }
+    ensures reading { IsReadingFailure (reading_failed reader.new) (answer_of result.answer) }
     ensures answer { IfSome (remaining_of R.remaining reader.old)
         (λ input. IsAnswerOf request.now input (answer_of result.answer)) }
     ensures clue { IfSome (remaining_of R.remaining reader.old)

@@ -1,6 +1,6 @@
 ghost use Rattle.std.specs.Prelude.{◌≡◌, ◌≢◌, IfErr, Ok, Err, option_map};
-ghost use Rattle.command_line.specs.MetricsCommand.{IsMetricsAnswer, metrics_told};
-ghost use Rattle.command_line.specs.ReportCommands.{IsToldAs};
+ghost use Rattle.command_line.specs.MetricsCommand.{IsMetricsAnswer, metrics_reported};
+ghost use Rattle.command_line.specs.ReportCommands.{IsReportedAs};
 ghost use Rattle.command_line.specs.Runs.{IsOwnAnswer, answer_of};
 
 use super::over_bus::image_to_report;
@@ -8,14 +8,14 @@ use crate::choice::options::Options;
 use crate::command_output::CommandOutput;
 use crate::fault::Fault;
 use crate::remark::Warnings;
-use crate::told_fault::ToldFault;
+use crate::reported_fault::ReportedFault;
 use module_metrics::{Answer, fault_metrics, metrics};
 use paged_memory::Image;
 use reports::ReportFault;
 use std::alloc::Global;
 
 /// What the reports of the module of an image say and what it lists itself (VDM), or what the reports of what is read of it over a bus say, as
-/// metrics with these labels. Of its flags those that are raised are told, or all.
+/// metrics with these labels. Of its flags those that are raised are reported, or all.
 pub fn print_metrics(alloc: Global, options: &Options, image: &[u8]) -> Result<CommandOutput, Fault>
     ensures answer { IsOwnAnswer (IsMetricsAnswer options.now image.now) (answer_of result) }
     ensures read { IfErr result (λ fault. fault ≢ Fault.Io) }
@@ -29,7 +29,7 @@ pub fn print_metrics(alloc: Global, options: &Options, image: &[u8]) -> Result<C
 
 // Those of an image, of whose reports one may have a fault; over a bus without VDM.
 fn of_image(alloc: Global, options: &Options, image: &Image) -> Result<CommandOutput, Fault>
-    ensures told { IsToldAs (metrics_told options.now (Ok image.now)) (answer_of result) }
+    ensures output { IsReportedAs (metrics_reported options.now (Ok image.now)) (answer_of result) }
     ensures read { IfErr result (λ fault. fault ≢ Fault.Io) }
 {
     let all = options.all_flags;
@@ -37,25 +37,25 @@ fn of_image(alloc: Global, options: &Options, image: &Image) -> Result<CommandOu
     let Answer { text, fault } = metrics(alloc, image, &options.labels, all, with_vdm)?;
     Ok(CommandOutput {
         text,
-        fault: told(fault),
+        fault: reported(fault),
         warnings: Warnings::none(),
     })
 }
 
 // There is no image to report on, since reading it ended with this fault.
 fn of_fault(alloc: Global, options: &Options, fault: ReportFault) -> Result<CommandOutput, Fault>
-    ensures told { IsToldAs (metrics_told options.now (Err fault)) (answer_of result) }
+    ensures output { IsReportedAs (metrics_reported options.now (Err fault)) (answer_of result) }
     ensures read { IfErr result (λ fault. fault ≢ Fault.Io) }
 {
     Ok(CommandOutput {
         text: fault_metrics(alloc, fault, &options.labels)?,
-        fault: told(Some(fault)),
+        fault: reported(Some(fault)),
         warnings: Warnings::none(),
     })
 }
 
-fn told(fault: Option<ReportFault>) -> Option<ToldFault>
-    ensures { result ≡ option_map ToldFault.Metrics fault }
+fn reported(fault: Option<ReportFault>) -> Option<ReportedFault>
+    ensures { result ≡ option_map ReportedFault.Metrics fault }
 {
-    fault.map(ToldFault::Metrics)
+    fault.map(ReportedFault::Metrics)
 }

@@ -1,4 +1,4 @@
-// How procedures ended, and what is told of that.
+// How procedures ended, and what is reported of that.
 ghost use Rattle.std.specs.Prelude.{◌≡◌, ◌++◌, OnOk, length, ◌≤◌};
 ghost use Rattle.text_lines.specs.Lines.{text_of};
 ghost use Rattle.command_line.specs.ProvisionCommand.{active_line, active_unless, fault_of, line_if, outcome_fault, outcome_lines, outcome_of, steps_line, steps_of};

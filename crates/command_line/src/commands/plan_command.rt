@@ -1,7 +1,7 @@
 ghost use Rattle.std.specs.Prelude.{◌≢◌, IfErr, IfOk};
 ghost use Rattle.plan_certificate.specs.Plans.{IsAdmissible};
 ghost use Rattle.command_line.specs.Inputs.{inputs_of};
-ghost use Rattle.command_line.specs.PlanCommand.{IsPlanAnswer, Tells, TellsPlanFor};
+ghost use Rattle.command_line.specs.PlanCommand.{IsPlanAnswer, IsPlanOutput, IsPlanReportFor};
 ghost use Rattle.command_line.specs.Runs.{IsOwnAnswer, answer_of};
 
 use super::inputs::Inputs;
@@ -29,7 +29,7 @@ pub fn plan(
     ensures read { IfErr result (λ fault. fault ≢ Fault.Io) }
 {
     let planning = Planning::read(alloc, options.conventions, inputs)?;
-    let (text, has_paths) = told(alloc, draws, options, &planning)?;
+    let (text, has_paths) = output_of(alloc, draws, options, &planning)?;
     let warnings = Warnings::of(&planning.advert, &planning.weights, has_paths);
     Ok(CommandOutput {
         text,
@@ -38,15 +38,15 @@ pub fn plan(
     })
 }
 
-// What is told of the plan, and whether it has paths.
-fn told(
+// What is printed of the plan, and whether it has paths.
+fn output_of(
     alloc: Global,
     draws: bool,
     options: &Options,
     planning: &Planning,
 ) -> Result<(Vec<u8>, bool), AllocError>
     requires { IsAdmissible planning.now.advert planning.now.kept }
-    ensures { IfOk result (λ told. Tells draws options.now planning.now told.0.items) }
+    ensures { IfOk result (λ output. IsPlanOutput draws options.now planning.now output.0.items) }
 {
     let weighed = AppWeights::of(&planning.advert, &planning.weights);
     let problem = Problem {
@@ -66,7 +66,7 @@ fn told(
 // As its certificate, or as JSON.
 fn planned(alloc: Global, is_json: bool, problem: &Problem) -> Result<(Vec<u8>, bool), AllocError>
     requires { IsAdmissible problem.now.advert.now problem.now.kept.now }
-    ensures { IfOk result (λ told. TellsPlanFor is_json problem.now.advert.now problem.now.weights.now problem.now.kept.now told.0.items) }
+    ensures { IfOk result (λ output. IsPlanReportFor is_json problem.now.advert.now problem.now.weights.now problem.now.kept.now output.0.items) }
 {
     let mut solution = Solution::blank();
     solution.solve(problem);

@@ -1,7 +1,7 @@
 ghost use Rattle.std.specs.Prelude.{◌≡◌, ◌≢◌, IfErr, IfOk, option_map};
 ghost use Rattle.text_lines.specs.Lines.{text_of};
 ghost use Rattle.command_line.specs.Inputs.{inputs_of};
-ghost use Rattle.command_line.specs.ProvisionCommand.{IsProcedureAnswer, steps_lines, told_output, told_text, told_tree};
+ghost use Rattle.command_line.specs.ProvisionCommand.{IsProcedureAnswer, steps_lines, procedure_output, procedure_text, procedure_tree};
 ghost use Rattle.report_entries.specs.EntryJson.{json_text};
 ghost use Rattle.command_line.specs.Runs.{IsOwnAnswer, answer_of};
 
@@ -12,7 +12,7 @@ use crate::choice::options::Options;
 use crate::command_output::CommandOutput;
 use crate::fault::Fault;
 use crate::remark::Explained;
-use crate::told_fault::ToldFault;
+use crate::reported_fault::ReportedFault;
 use bus_model::Step;
 use control_sets::ProvisionFault;
 use plan_certificate::Path;
@@ -51,18 +51,18 @@ pub fn provision(
     let fault = outcome_fault(results);
     Ok(CommandOutput {
         text: output(alloc, options.json, is_traced, bus.steps(), outcome, fault)?,
-        fault: told(fault, inactive),
+        fault: reported(fault, inactive),
         warnings,
     })
 }
 
-fn told(fault: Option<ProvisionFault>, inactive: Option<Path>) -> Option<ToldFault>
-    ensures { result ≡ option_map (λ f. ToldFault.Procedure f inactive) fault }
+fn reported(fault: Option<ProvisionFault>, inactive: Option<Path>) -> Option<ReportedFault>
+    ensures { result ≡ option_map (λ f. ReportedFault.Procedure f inactive) fault }
 {
-    fault.map(|fault| ToldFault::Procedure(fault, inactive))
+    fault.map(|fault| ReportedFault::Procedure(fault, inactive))
 }
 
-// What is told of steps, of what came of them, and of a fault.
+// What is reported of steps, of what came of them, and of a fault.
 fn output(
     alloc: Global,
     is_json: bool,
@@ -71,7 +71,7 @@ fn output(
     outcome: Outcome,
     fault: Option<ProvisionFault>,
 ) -> Result<Vec<u8>, AllocError>
-    ensures { IfOk result (λ text. text.items ≡ told_output is_json is_traced steps.now outcome fault) }
+    ensures { IfOk result (λ text. text.items ≡ procedure_output is_json is_traced steps.now outcome fault) }
 {
     if is_json {
         json(alloc, is_traced, steps, outcome, fault)
@@ -86,7 +86,7 @@ fn text(
     steps: &[Step],
     outcome: Outcome,
 ) -> Result<Vec<u8>, AllocError>
-    ensures { IfOk result (λ text. text.items ≡ told_text is_traced steps.now outcome) }
+    ensures { IfOk result (λ text. text.items ≡ procedure_text is_traced steps.now outcome) }
 {
     let mut text = steps_text(alloc, is_traced, steps)?;
     push_outcome(&mut text, outcome)?;
@@ -101,7 +101,7 @@ fn json(
     outcome: Outcome,
     fault: Option<ProvisionFault>,
 ) -> Result<Vec<u8>, AllocError>
-    ensures { IfOk result (λ text. text.items ≡ json_text (told_tree is_traced steps.now outcome fault)) }
+    ensures { IfOk result (λ text. text.items ≡ json_text (procedure_tree is_traced steps.now outcome fault)) }
 {
     match fault {
         None => procedure_json(alloc, is_traced, steps, outcome, &[], ""),

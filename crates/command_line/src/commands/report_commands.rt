@@ -2,7 +2,7 @@ ghost use Rattle.std.specs.Prelude.{◌≢◌, IfErr, List, Option, ℕ};
 ghost use Rattle.reports.specs.Families.{detail_fault};
 ghost use Rattle.reports.specs.declared.fault.ReportFault.{ReportFault};
 ghost use Rattle.command_line.specs.Coloring.{shown_as};
-ghost use Rattle.command_line.specs.ReportCommands.{IsObservablesAnswer, IsReportAnswer, IsToldAs, Prints, observed_text, printed_of, refusal_of, text_unless};
+ghost use Rattle.command_line.specs.ReportCommands.{IsObservablesAnswer, IsReportAnswer, IsReportedAs, Prints, observed_text, printed_of, refusal_of, text_unless};
 ghost use Rattle.command_line.specs.Runs.{IsOwnAnswer, answer_of};
 
 use super::over_bus::image_to_report;
@@ -28,7 +28,7 @@ pub fn report(
 {
     let image = image_to_report(alloc, image, options.bus)?;
     let printed = printed(alloc, name, options.json, &image);
-    told(alloc, options, printed)
+    report_output(alloc, options, printed)
 }
 
 /// All that the module of the image measures, or as much of it as is read over a bus, as text or as JSON.
@@ -42,17 +42,17 @@ pub fn print_observables(
 {
     let image = image_to_report(alloc, image, options.bus)?;
     let printed = observed(alloc, options.json, &image);
-    told(alloc, options, printed)
+    report_output(alloc, options, printed)
 }
 
-// What is told where this was printed of an image: that as it is shown, or why there is none.
-fn told(
+// The output if this was printed of an image: that as it is shown, or why there is none.
+fn report_output(
     alloc: Global,
     options: &Options,
     printed: Result<Vec<u8>, ReportFault>,
 ) -> Result<CommandOutput, Fault>
-    ensures told { (refused : Option ReportFault) (text : List ℕ) → Prints refused text printed
-        → IsToldAs (text_unless refused (shown_as options.now.coloring options.now.json text)) (answer_of result) }
+    ensures output { (refused : Option ReportFault) (text : List ℕ) → Prints refused text printed
+        → IsReportedAs (text_unless refused (shown_as options.now.coloring options.now.json text)) (answer_of result) }
     ensures read { IfErr result (λ fault. fault ≢ Fault.Io) }
 {
     let text = options.coloring.shown(alloc, options.json, printed?)?;

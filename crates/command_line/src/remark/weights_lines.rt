@@ -5,7 +5,7 @@ ghost use Rattle.std.specs.List.{list_all};
 ghost use Rattle.text_lines.specs.Lines.{lines_of};
 ghost use Rattle.command_line.specs.declared.remark.weights_lines.Kind.{Kind};
 ghost use Rattle.command_line.specs.declared.remark.weights_lines.Kind.TheVariants.{Header};
-ghost use Rattle.command_line.specs.OddLines.{Keeps, has_header, is_number, is_odd, kind_after, kind_in, kind_of, odd_line, odd_line_of_weights, says_stay, weighed};
+ghost use Rattle.command_line.specs.OddLines.{Keeps, has_header, is_number, is_odd, kind_after, kind_in, kind_of, odd_line, odd_line_of_weights, is_stay, weighed};
 
 use super::line_pieces::{cut, is_text, trimmed};
 use crate::parts::part;
@@ -171,7 +171,7 @@ fn kind_in(table: Option<WeightTable>, content: &[u8]) -> Kind
     if content == b"[app]".as_slice() {
         return Kind::Header(WeightTable::App);
     }
-    if says_stay(table, content) {
+    if is_stay(table, content) {
         return Kind::Stay;
     }
     match weighed(table, content) {
@@ -182,8 +182,8 @@ fn kind_in(table: Option<WeightTable>, content: &[u8]) -> Kind
 
 // Whether a content before all tables says what staying weighs.
 #[tactic(auto, unfolding(applications::specs::WeightKeys::stay_name))]
-fn says_stay(table: Option<WeightTable>, content: &[u8]) -> bool
-    ensures { result ≡ says_stay table content.now }
+fn is_stay(table: Option<WeightTable>, content: &[u8]) -> bool
+    ensures { result ≡ is_stay table content.now }
 {
     let (key, value) = cut(content, b'=');
     table.is_none() && trimmed(key) == b"stay".as_slice() && is_number(trimmed(value))

@@ -1,9 +1,9 @@
-use Rattle.command_line.proofs.SameMetrics.{metrics_told_before}
-use Rattle.command_line.proofs.SameOverBus.{each_told_alike}
+use Rattle.command_line.proofs.SameMetrics.{metrics_reported_before}
+use Rattle.command_line.proofs.SameOverBus.{each_reported_alike}
 use Rattle.command_line.proofs.laws.a_bus_changes_no_report.Goals as goal
 
 pub returns-clause-reports : goal.returns-clause-reports
-returns-clause-reports c = each_told_alike
+returns-clause-reports c = each_reported_alike
 
 pub returns-clause-metrics : goal.returns-clause-metrics
-returns-clause-metrics c = metrics_told_before
+returns-clause-metrics c = metrics_reported_before

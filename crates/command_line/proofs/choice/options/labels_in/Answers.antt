@@ -25,7 +25,7 @@ returns-in_err-add c =
     {T = Unit {0}} (failed error) error same c.in_err-add.ensures in
     let asked = ap (λ (o : Option (List Text)). labels_with [] (unwrap_or o [])) (sym c.in-Some.ensures) in
     let p = err_from_is_err_and c.from_residual.result c.from_residual.ensures.1 in
-    rw (p.1, p.2) (subst (λ (told : Result (List Label) WordFault). Gives told (Err (fault_of_label error))) (sym (asked ∙ c.loop-word.invariant)) refused)
+    rw (p.1, p.2) (subst (λ (reported : Result (List Label) WordFault). Gives reported (Err (fault_of_label error))) (sym (asked ∙ c.loop-word.invariant)) refused)
 
 pub returns : goal.returns
 returns c =

@@ -4,7 +4,7 @@ use Rattle.plan_certificate.specs.Certificates.{Claim}
 use Rattle.plan_certificate.specs.declared.path.Path.{Path}
 use Rattle.plan_reports.specs.PlanText.{plan_lines}
 use Rattle.command_line.specs.CheckCommand.{first_lines, kept_lines}
-use Rattle.command_line.proofs.GoodTexts.{good_told}
+use Rattle.command_line.proofs.GoodTexts.{good_text_parts}
 use Rattle.command_line.proofs.commands.check_command.good_text.Goals as goal
 
 pub returns : goal.returns
@@ -22,4 +22,4 @@ returns c =
     ∙ ap (λ (paths : List Path). text_of (plan_lines advert weights paths)) (ap (λ inside. inside.plan) c.certificate-inside.view_is ∙ ap (λ (claim : Claim). claim.paths) c.certificate.view_is) in
     let first = first_lines c.args.is_first in
     c.in_ok-push_first.ensures ∙ ap (λ l. l ++ text_of first) (c.in_ok-extend_from_slice.ensures.items ∙ ap₂ (λ (a b : List ℕ). a ++ b) kept plan)
-    ∙ sym (good_told (kept_lines (length certificate.kept)) (plan_lines advert weights certificate.paths) first)
+    ∙ sym (good_text_parts (kept_lines (length certificate.kept)) (plan_lines advert weights certificate.paths) first)

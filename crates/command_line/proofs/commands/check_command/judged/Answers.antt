@@ -7,7 +7,7 @@ use Rattle.plan_certificate.specs.Verdicts.{verdict}
 use Rattle.plan_certificate.specs.CertificateFaults.{IsFirstFault}
 use Rattle.plan_certificate.specs.CertificateText.{IsTextOf}
 use Rattle.plan_certificate.specs.declared.verdict.Verdict.TheVariants.{Bad, Good}
-use Rattle.command_line.specs.CheckCommand.{IsCheckAnswer, IsGoodAnswer, IsJudged, TellsGood}
+use Rattle.command_line.specs.CheckCommand.{IsCheckAnswer, IsGoodAnswer, IsJudged, IsGoodReport}
 use Rattle.command_line.specs.Inputs.{inputs_of}
 use Rattle.command_line.specs.declared.fault.Fault.TheVariants.{Certificate}
 use Rattle.command_line.proofs.commands.check_command.judged.Goals as goal
@@ -35,8 +35,8 @@ returns-in_ok-good_output-in-Good-clause-answer c =
     let good : IsGoodAnswer options (inputs_of c.args.inputs.now) c.in_ok-good_output-in-Good.field-0.items = record {
       judged = judged;
       is_best = subst (λ (weights : PathWeights). IsBest c.args.advert.now weights c.take.new.self.kept c.take.new.self.paths) c.of-weighed.ensures (c.in-Good.ensures.best refl);
-      told =
-          subst (λ (weights : PathWeights). TellsGood options.json options.first c.args.advert.now weights c.take.new.self c.in_ok-good_output-in-Good.field-0.items)
+      reported =
+          subst (λ (weights : PathWeights). IsGoodReport options.json options.first c.args.advert.now weights c.take.new.self c.in_ok-good_output-in-Good.field-0.items)
           c.of-weighed.ensures c.in_ok-good_output-in-Good.ensures;
     } in
     good

@@ -1,10 +1,10 @@
 use Rattle.std.proofs.Common.{Ok}
-use Rattle.command_line.specs.MetricsCommand.{metrics_told}
+use Rattle.command_line.specs.MetricsCommand.{metrics_reported}
 use Rattle.command_line.specs.Runs.{answer_of}
-use Rattle.command_line.proofs.ReportAnswers.{reported}
+use Rattle.command_line.proofs.ReportAnswers.{report_answered}
 use Rattle.command_line.proofs.commands.metrics_command.print_metrics.Goals as goal
 
 pub returns-in-Ok-clause-answer : goal.returns-in-Ok-clause-answer
 returns-in-Ok-clause-answer c =
     let options = c.args.options.now in
-    reported options.bus (metrics_told options) c.args.image.now (Ok c.in-Ok.image) c.in-Ok.ensures (answer_of c.of_image.result) c.of_image.ensures.told
+    report_answered options.bus (metrics_reported options) c.args.image.now (Ok c.in-Ok.image) c.in-Ok.ensures (answer_of c.of_image.result) c.of_image.ensures.output

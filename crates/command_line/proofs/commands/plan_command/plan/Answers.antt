@@ -1,6 +1,6 @@
 use Rattle.std.proofs.lemmas.Result.{err_from_is_err_and}
 use Rattle.command_line.specs.Inputs.{inputs_of}
-use Rattle.command_line.specs.PlanCommand.{IsPlanAnswer, IsPlanned, Tells}
+use Rattle.command_line.specs.PlanCommand.{IsPlanAnswer, IsPlanned, IsPlanOutput}
 use Rattle.command_line.specs.PlanningInputs.{IsPlanningRefusal}
 use Rattle.command_line.proofs.OwnAnswers.{own_refusal}
 use Rattle.command_line.proofs.commands.plan_command.plan.Goals as goal
@@ -16,6 +16,6 @@ returns-in_err-planning-clause-answer c =
 pub returns-clause-answer : goal.returns-clause-answer
 returns-clause-answer c =
     let options = c.args.options.now in
-    let is : IsPlanned (Tells c.args.draws options) options.conventions (inputs_of c.args.inputs.now) c.in_ok-text.text.items =
-    record { planning = c.in_ok-planning.planning; is_planning = c.in_ok-planning.ensures.answer; told = c.in_ok-text.ensures } in
+    let is : IsPlanned (IsPlanOutput c.args.draws options) options.conventions (inputs_of c.args.inputs.now) c.in_ok-text.text.items =
+    record { planning = c.in_ok-planning.planning; is_planning = c.in_ok-planning.ensures.answer; reported = c.in_ok-text.ensures } in
     is

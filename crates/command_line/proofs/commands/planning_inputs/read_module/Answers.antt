@@ -16,5 +16,5 @@ returns-in_err-advert c =
 pub returns : goal.returns
 returns c =
     let memory = c.in_ok-image.image in
-    let told = answered (advertised_under c.args.conventions memory) c.in_ok-advert.advert (advert_fault_under c.args.conventions memory) c.in_ok-advert.ensures in
-    record { is_text = c.in_ok-image.ensures.ok; accepted = told.0; advertised = told.1 }
+    let reported = answered (advertised_under c.args.conventions memory) c.in_ok-advert.advert (advert_fault_under c.args.conventions memory) c.in_ok-advert.ensures in
+    record { is_text = c.in_ok-image.ensures.ok; accepted = reported.0; advertised = reported.1 }

@@ -5,7 +5,7 @@ use Rattle.sim_module.specs.Lanes.{active_bytes}
 use Rattle.command_line.specs.Inputs.{inputs_of}
 use Rattle.command_line.specs.ProvisionCommand.{IsProcedureAnswer, IsSetUpRefusal}
 use Rattle.command_line.proofs.OwnAnswers.{own_refusal}
-use Rattle.command_line.proofs.ProcedureAnswers.{carried, session_at_rest, session_sound, told_as}
+use Rattle.command_line.proofs.ProcedureAnswers.{carried, session_at_rest, session_sound, reported_as}
 use Rattle.command_line.proofs.commands.provision_command.provision.Goals as goal
 
 pub returns-in_err-advert-clause-answer : goal.returns-in_err-advert-clause-answer
@@ -28,7 +28,7 @@ returns-clause-answer c =
     let results = c.carry_out-results.result in
     let after = seen_at c.carry_out-results.new.bus in
     let text = c.in_ok-output.field-0.items in
-    let told = told_as options.json c.args.is_traced after results text c.active.result c.steps.result.now c.outcome_of-outcome.result c.outcome_fault-fault.result
+    let reported = reported_as options.json c.args.is_traced after results text c.active.result c.steps.result.now c.outcome_of-outcome.result c.outcome_fault-fault.result
     c.in_ok-output.ensures c.outcome_of-outcome.ensures c.steps.ensures (c.active.ensures ∙ ap active_bytes c.device.ensures) in
-    carried options (inputs_of c.args.inputs.now) c.in_ok-advert.field-0 c.in_ok-advert.ensures.answer c.args.is_traced text after results c.outcome_fault-fault.result c.told.result
-    c.carry_out-results.ensures told c.outcome_fault-fault.ensures c.told.ensures
+    carried options (inputs_of c.args.inputs.now) c.in_ok-advert.field-0 c.in_ok-advert.ensures.answer c.args.is_traced text after results c.outcome_fault-fault.result c.reported.result
+    c.carry_out-results.ensures reported c.outcome_fault-fault.ensures c.reported.ensures

@@ -1,9 +1,9 @@
 use Rattle.std.proofs.Common.{Ok}
 use Rattle.std.proofs.lemmas.Result.{err_from_is_err_and}
 use Rattle.reports.specs.Families.{detail_fault}
-use Rattle.command_line.specs.ReportCommands.{observed_text, report_told}
+use Rattle.command_line.specs.ReportCommands.{observed_text, report_of}
 use Rattle.command_line.specs.Runs.{answer_of}
-use Rattle.command_line.proofs.ReportAnswers.{input_refused, reported}
+use Rattle.command_line.proofs.ReportAnswers.{input_refused, report_answered}
 use Rattle.command_line.proofs.commands.report_commands.print_observables.Goals as goal
 
 pub returns-in_err-image-clause-answer : goal.returns-in_err-image-clause-answer
@@ -16,5 +16,5 @@ pub returns-clause-answer : goal.returns-clause-answer
 returns-clause-answer c =
     let options = c.args.options.now in
     let image = c.in_ok-image.image in
-    let told = c.told.ensures.told (detail_fault image) (observed_text options.json image) c.observed-printed.ensures in
-    reported options.bus (report_told options detail_fault observed_text) c.args.image.now (Ok image) c.in_ok-image.ensures (answer_of c.told.result) told
+    let reported = c.report_output.ensures.output (detail_fault image) (observed_text options.json image) c.observed-printed.ensures in
+    report_answered options.bus (report_of options detail_fault observed_text) c.args.image.now (Ok image) c.in_ok-image.ensures (answer_of c.report_output.result) reported

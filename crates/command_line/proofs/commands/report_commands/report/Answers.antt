@@ -1,8 +1,8 @@
 use Rattle.std.proofs.Common.{Ok}
 use Rattle.std.proofs.lemmas.Result.{err_from_is_err_and}
-use Rattle.command_line.specs.ReportCommands.{printed_of, refusal_of, report_told}
+use Rattle.command_line.specs.ReportCommands.{printed_of, refusal_of, report_of}
 use Rattle.command_line.specs.Runs.{answer_of}
-use Rattle.command_line.proofs.ReportAnswers.{input_refused, reported}
+use Rattle.command_line.proofs.ReportAnswers.{input_refused, report_answered}
 use Rattle.command_line.proofs.commands.report_commands.report.Goals as goal
 
 pub returns-in_err-image-clause-answer : goal.returns-in_err-image-clause-answer
@@ -15,5 +15,5 @@ pub returns-clause-answer : goal.returns-clause-answer
 returns-clause-answer c =
     let options = c.args.options.now in
     let image = c.in_ok-image.image in
-    let told = c.told.ensures.told (refusal_of c.args.name image) (printed_of c.args.name options.json image) c.printed-printed.ensures in
-    reported options.bus (report_told options (refusal_of c.args.name) (printed_of c.args.name)) c.args.image.now (Ok image) c.in_ok-image.ensures (answer_of c.told.result) told
+    let reported = c.report_output.ensures.output (refusal_of c.args.name image) (printed_of c.args.name options.json image) c.printed-printed.ensures in
+    report_answered options.bus (report_of options (refusal_of c.args.name) (printed_of c.args.name)) c.args.image.now (Ok image) c.in_ok-image.ensures (answer_of c.report_output.result) reported

@@ -14,8 +14,8 @@ pub returns-in_err-weights-clause-answer : goal.returns-in_err-weights-clause-an
 returns-in_err-weights-clause-answer c =
     let p = err_from_is_err_and c.from_residual-in_err-weights.result c.from_residual-in_err-weights.ensures.1 in
     let inputs = inputs_of c.args.inputs.now in
-    let told : Advertises c.args.conventions inputs.image = (c.in_ok-image.advert, record { memory = c.in_ok-image.image; is_module = c.in_ok-image.ensures }) in
-    rw (p.1, p.2) (weights_refused (IsPlanningRefusal c.args.conventions inputs) inputs.weights tt (λ f is. (told, is)) c.in_err-weights.field-0.0 c.in_err-weights.ensures.answer)
+    let reported : Advertises c.args.conventions inputs.image = (c.in_ok-image.advert, record { memory = c.in_ok-image.image; is_module = c.in_ok-image.ensures }) in
+    rw (p.1, p.2) (weights_refused (IsPlanningRefusal c.args.conventions inputs) inputs.weights tt (λ f is. (reported, is)) c.in_err-weights.field-0.0 c.in_err-weights.ensures.answer)
 
 pub returns-in_err-kept-clause-answer : goal.returns-in_err-kept-clause-answer
 returns-in_err-kept-clause-answer c =

@@ -2,7 +2,7 @@ use Rattle.std.proofs.Common.{ℕ, subst}
 use Rattle.applications.specs.AppWeights.{PathWeights, app_weights}
 use Rattle.plan_drawing.specs.Drawings.{IsDrawing}
 use Rattle.command_line.specs.PlanCommand.{DrawsPlan}
-use Rattle.command_line.proofs.commands.plan_command.told.Goals as goal
+use Rattle.command_line.proofs.commands.plan_command.output_of.Goals as goal
 
 pub returns-in_ok-drawing : goal.returns-in_ok-drawing
 returns-in_ok-drawing c =

@@ -1,6 +1,6 @@
-//! The fault that a text tells of.
+//! The fault that a text reports.
 ghost use Rattle.std.specs.Prelude.{◌≡◌};
-ghost use Rattle.command_line.specs.Faults.{fault_of_told};
+ghost use Rattle.command_line.specs.Faults.{fault_of_reported};
 
 use crate::fault::Fault;
 use control_sets::ProvisionFault;
@@ -9,21 +9,21 @@ use reports::ReportFault;
 
 /// A fault that comes beside a text.
 #[derive(Clone, Copy, Debug, PartialEq, Eq)]
-pub enum ToldFault {
-    /// The procedure that the text tells of ended with it; and the first kept path that was not active before it.
+pub enum ReportedFault {
+    /// The procedure that the text reports ended with it; and the first kept path that was not active before it.
     Procedure(ProvisionFault, Option<Path>),
     /// A report can't be made, which is among the metrics.
     Metrics(ReportFault),
 }
 
-impl ToldFault {
+impl ReportedFault {
     /// The same as an answer alone.
     pub fn fault(self) -> Fault
-        ensures { result ≡ fault_of_told self }
+        ensures { result ≡ fault_of_reported self }
     {
         match self {
-            ToldFault::Procedure(fault, _) => Fault::Provision(fault),
-            ToldFault::Metrics(fault) => Fault::from(fault),
+            ReportedFault::Procedure(fault, _) => Fault::Provision(fault),
+            ReportedFault::Metrics(fault) => Fault::from(fault),
         }
     }
 }
