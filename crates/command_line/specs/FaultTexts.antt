@@ -14,7 +14,7 @@ use Rattle.command_line.specs.declared.fault.Fault.TheVariants.{Memory, Io, TooL
 use Rattle.command_line.specs.declared.remark.opening.Opening.{Opening}
 use Rattle.command_line.specs.declared.remark.opening.Opening.TheVariants.{Other}
 
--- what a person is reported of it, by how the input begins
+-- what a person reads of it, by how the input begins
 abbrev pub fault_sentence : Fault → Opening → List ℕ
 fault_sentence fault opening = sentence_of (sentence_key fault opening)
 

@@ -10,8 +10,8 @@ use Rattle.command_line.specs.declared.reported_fault.ReportedFault.TheVariants.
 use Rattle.command_line.specs.ReportCommands.{IsReported, Reported}
 use Rattle.command_line.specs.Runs.{Answer}
 
--- what is reported of a memory, over a bus without VDM, whose pages a host doesn't read: its metrics and the first fault of its reports; or else
--- of why there is none: that alone
+-- what is reported of a memory: its metrics and the first fault of its reports; over a bus without VDM, whose pages a host doesn't read. If
+-- there is no memory, why there is none is all that is reported
 abbrev pub metrics_reported : Options → Result Memory ReportFault → Reported
 metrics_reported options (Ok memory) =
     Ok (exposition options.labels (metrics_of options.all_flags (not options.bus) memory), option_map Metrics (first_fault memory))

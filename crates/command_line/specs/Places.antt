@@ -35,7 +35,7 @@ place_of_advert (advert.BadSum page) = Page page
 place_of_advert (advert.NotEightLanes identifier) = Identifier identifier
 place_of_advert advert.FlatMemory = Nowhere
 
--- where a fault is: of weights the key that it names, or else that line of them, if one is reported
+-- where a fault is: of weights the key that it names, or else that line of them, if one is given
 abbrev pub place_of : Fault → Option ℕ → Place
 place_of (fault.Weights (weights.SameKeyTwice table number)) line = WeightsKey table number
 place_of (fault.Weights (weights.BadWeight table number)) line = WeightsKey table number

@@ -85,7 +85,7 @@ sentence_key (fault.Image image.BadHeader) opening = opening_key opening
 sentence_key (fault.Weights (weights.BadKey table)) opening = key_sentence table
 sentence_key f opening = first_word (fault_words f)
 
--- on a fault that a text reports it is that it was to be expected, if a kept path was not active
+-- of a fault that a text reports; that it was to be expected, if a kept path was not active
 abbrev pub remark_on : ReportedFault → Explained → Remark
 remark_on (Procedure fault (Some path)) explained = Foreseen path explained
 remark_on reported explained = Refused explained

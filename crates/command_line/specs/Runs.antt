@@ -112,7 +112,7 @@ pub record Ending : Type 0 where
   pub status : Status
   pub remark : Remark
 
--- with this status and this remark: after a failed write that it failed is the only remark
+-- with this status, and this remark unless a write failed: then the remark is that it did
 abbrev pub ending_after : Bool → Status → Remark → Ending
 ending_after true status remark = record { status = status; remark = Unwritten }
 ending_after false status remark = record { status = status; remark = remark }

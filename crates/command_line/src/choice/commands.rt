@@ -79,7 +79,7 @@ pub struct CommandEntry {
     pub about: &'static str,
 }
 
-// The flags: each takes no word, or this that follows it, and this is what help says of it.
+// The flags: the name of each, how help calls the word that follows it, if one does, and what help says of it.
 macro_rules! flag {
     (BUS) => { flag!("bus": "Read the module over a simulated bus, as a host does") };
     (JSON) => { flag!("json": "Print the answer, or the fault, as JSON") };

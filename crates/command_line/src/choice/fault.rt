@@ -84,7 +84,7 @@ impl From<AllocError> for ChoiceFault {
     }
 }
 
-/// Writes why there is no choice, as `clap` puts it, and answers how the program ends.
+/// Writes why there is no choice, and answers how the program ends.
 #[tactic(auto, unfolding(crate::specs::ChoiceFault::unreadable_line))]
 pub fn choice_refused<W: Write>(fault: &ChoiceFault, writer: &mut StoppingWriter<W>) -> Status
     ensures said { IsRefusalWritten fault.now (contents_of W.contents writer.old)

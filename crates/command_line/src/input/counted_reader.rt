@@ -1,7 +1,6 @@
-ghost use Rattle.std.specs.Prelude.{◌≡◌, ◌⊎◌, ◌≤◌, ◌+◌, min, false, true};
+ghost use Rattle.std.specs.Prelude.{◌≡◌, ◌≤◌, ◌+◌, min, false, true};
 ghost use Rattle.std.specs.Io.{ReadsAtMost};
 ghost use Rattle.std.specs.Io.KnownBytes.{ReadConsumes};
-ghost use Rattle.std.specs.Result.{IsErrAnd};
 ghost use Rattle.command_line.specs.Limits.{read_limit};
 
 use super::one_read::OneRead;
@@ -47,7 +46,7 @@ impl<R> CountedReader<R> {
 
 impl<R: OneRead> Read for CountedReader<R> {
     ghost use Rattle.command_line.specs.CountedReader.{inner_of, reads_of, reading_failed, remaining_of, IsSpent};
-    ghost use Rattle.command_line.specs.Failures.{IsFailure, RemembersFailure};
+    ghost use Rattle.command_line.specs.Failures.{RemembersFailure};
 
     ghost remaining = { remaining_of R.remaining };
 
@@ -55,7 +54,6 @@ impl<R: OneRead> Read for CountedReader<R> {
         ensures bound { ReadsAtMost result buf.new }
         ensures bytes { ReadConsumes (remaining_of R.remaining self.old) (remaining_of R.remaining self.new) result buf.new }
         ensures failed { RemembersFailure (reading_failed self.old) (reading_failed self.new) result }
-        ensures cause { reading_failed self.new ≡ true → IsSpent self.old ⊎ IsErrAnd result IsFailure }
         ensures once { ¬ (IsSpent self.old) → R.made (inner_of self.old) result buf.new (inner_of self.new) }
         ensures counted { reading_failed self.old ≡ false → reads_of self.new ≡ min (reads_of self.old + 1) read_limit }
         ensures stopped { IsSpent self.old → (inner_of self.new ≡ inner_of self.old) × (reads_of self.new ≡ reads_of self.old) × (reading_failed self.new ≡ true) }
