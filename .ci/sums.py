@@ -17,7 +17,7 @@ from functions import ROOT
 SCRIPTS = ("wrong_bodies", "checks.py", "functions.py", "kept.py", "rounds.py", "sums.py")
 # of what a library is made of for a function, what its body and the proof over that are: a crate above is shown none of these modules, and
 # none of those that say what the function promises reads them. Of a closure, whose folder is below one `fn`, they do
-BODY = re.compile(r"/(Code/Mir|Lts|Lts/Given|Lts/View|Goals|Tie|Proof|(Answers|Invariants|Proof)\.antt)$")
+BODY = re.compile(r"/(Code/Mir|Lts|Lts/Given|Lts/View|Given|Goals|Tie|Proof|(Answers|Invariants|Proof)\.antt)$")
 # of what a library says of itself, what only tells how it was built, or over which others
 BUILT = re.compile(r"^(sum|checked|incremental|over|needs|carries|free|free-alone)\b.*\n", re.M)
 
