@@ -9,12 +9,12 @@ use Rattle.report_entries.specs.Shown.{printable}
 use Rattle.plan_reports.specs.FaultJson.{code_members, fault_members, reason_json, reason_members, sentence_members, values_json, values_members}
 use Rattle.command_line.specs.FaultForms.{fault_in, form_of_reading, output_in}
 use Rattle.command_line.specs.FaultTexts.{after_code, after_sentence, before_code, fault_text, fault_tree, is_of_reading, reading_fault_text}
-use Rattle.command_line.specs.Runs.{Answer, answer_of, output_of}
+use Rattle.command_line.specs.Runs.{answer_of, output_of}
 use Rattle.command_line.specs.declared.command_output.CommandOutput.{CommandOutput}
 use Rattle.command_line.specs.declared.fault.Fault.{Fault}
 use Rattle.command_line.specs.declared.fault.Fault.TheVariants.{Memory, Io, TooLong}
 use Rattle.command_line.specs.declared.output.fault_form.FaultForm.{FaultForm}
-use Rattle.command_line.specs.declared.output.fault_form.FaultForm.TheVariants.{Line, Ready}
+use Rattle.command_line.specs.declared.output.fault_form.FaultForm.TheVariants.{Ready}
 use Rattle.command_line.specs.declared.reported_fault.ReportedFault.{ReportedFault}
 use Rattle.command_line.specs.declared.reported_fault.ReportedFault.TheVariants.{Procedure, Metrics}
 use Rattle.command_line.specs.declared.remark.opening.Opening.{Opening}

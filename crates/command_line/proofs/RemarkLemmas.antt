@@ -1,6 +1,6 @@
 -- What is said beside an answer is what its input gives cause for.
 use Rattle.std.proofs.Common.{◌≡◌, ◌∙◌, ℕ, Bool, true, false, List, Option, Some, None, IfSome, Ok, Err, ap, sym, refl, subst}
-use Rattle.command_line.specs.Runs.{Answer, Ending, EndsByFailure, IsRemarkBeside, IsRemarkAfter, IsWritten, IsReadingFailure, clue_beside, ended, ending_after, opening_beside, output_of, status_after}
+use Rattle.command_line.specs.Runs.{Answer, EndsByFailure, IsRemarkBeside, IsRemarkAfter, IsWritten, IsReadingFailure, clue_beside, ended, ending_after, opening_beside, output_of, status_after}
 use Rattle.reports.specs.declared.fault.ReportFault.TheVariants as report
 use Rattle.command_line.specs.declared.reported_fault.ReportedFault.TheVariants.{Procedure, Metrics}
 use Rattle.command_line.specs.declared.fault.Fault.TheVariants as fault

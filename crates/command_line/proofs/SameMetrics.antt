@@ -6,15 +6,16 @@ use Rattle.std.specs.Option.{option_or}
 use Rattle.text_lines.specs.Lines.{lines_of, text_of}
 use Rattle.paged_memory.specs.Images.{Memory}
 use Rattle.paged_memory.specs.ImageText.{IsTextOf}
-use Rattle.module_metrics.specs.Answers.{code_of, first_fault, metrics_of, told_flags}
+use Rattle.module_metrics.specs.Answers.{code_of, first_fault, metrics_of, requested_flags}
 use Rattle.module_metrics.specs.Exposition.{Label, Metric, exposition, metric_lines, metrics_lines}
 use Rattle.module_metrics.specs.ModuleMetrics.{module_metrics}
 use Rattle.module_metrics.specs.Unless.{unless}
 use Rattle.module_metrics.specs.VdmMetrics.{vdm_metrics, vdm_seen}
-use Rattle.reports.specs.Reports.{flags_entries, flags_fault, flags_told, inventory_entries, inventory_fault, monitors_entries, monitors_fault}
+use Rattle.reports.specs.Reports.{flag_states, flags_entries, flags_fault, inventory_entries, inventory_fault, monitors_entries, monitors_fault}
 use Rattle.reports.specs.SameReports.{IsSame, ReportsSame}
 use Rattle.reports.specs.declared.fault.ReportFault.{ReportFault}
 use Rattle.command_line.specs.MetricsCommand.{metrics_reported}
+use Rattle.command_line.specs.OverBus.{IsFetchedFrom}
 use Rattle.command_line.specs.ReportCommands.{IsReported, Reported}
 use Rattle.command_line.specs.Runs.{Answer}
 use Rattle.command_line.specs.SameOverBus.{AreReportedBefore, IsGivenUp, IsPlainAnswer, image_of, over_bus}
@@ -28,26 +29,26 @@ use Rattle.command_line.proofs.SameOverBus.{IsAnswerOver, alone, err_to, same_re
 
 -- ---- memories with the same reports have the same metrics
 
-said_same : {A : Type 0} (fault_in : Memory → Option ReportFault) (said_in : Memory → List A) (a b : Memory) → IsSame fault_in said_in a b
-    → unless (fault_in a) (said_in a) ≡ unless (fault_in b) (said_in b)
-said_same fault_in said_in a b same = same_reported unless (λ f x y. refl) fault_in said_in a b same
+content_same : {A : Type 0} (fault_in : Memory → Option ReportFault) (content_in : Memory → List A) (a b : Memory) → IsSame fault_in content_in a b
+    → unless (fault_in a) (content_in a) ≡ unless (fault_in b) (content_in b)
+content_same fault_in content_in a b same = same_reported unless (λ f x y. refl) fault_in content_in a b same
 
 module _ (a b : Memory) (same : ReportsSame a b) where
   first_same : first_fault a ≡ first_fault b
   unfolding first_fault
   first_same i = option_or (option_or (same.inventory.fault i) (same.monitors.fault i)) (same.flags.fault i)
 
-  flags_same : (all : Bool) → told_flags all a ≡ told_flags all b
-  unfolding told_flags
-  flags_same true = said_same flags_fault flags_told a b same.told
+  flags_same : (all : Bool) → requested_flags all a ≡ requested_flags all b
+  unfolding requested_flags
+  flags_same true = content_same flags_fault flag_states a b same.each_flag
   flags_same false = refl
 
   metrics_same : (all : Bool) → metrics_of all false a ≡ metrics_of all false b
   unfolding metrics_of
   metrics_same all =
-      let identity = said_same inventory_fault inventory_entries a b same.inventory in
-      let measured = said_same monitors_fault monitors_entries a b same.monitors in
-      let warned = said_same flags_fault flags_entries a b same.flags in
+      let identity = content_same inventory_fault inventory_entries a b same.inventory in
+      let measured = content_same monitors_fault monitors_entries a b same.monitors in
+      let warned = content_same flags_fault flags_entries a b same.flags in
       λ i. module_metrics all (flags_same all i) (identity i) (measured i) (warned i) (option_map code_of (first_same i)) ++ []
 
 -- ---- the metrics of VDM follow
@@ -63,7 +64,7 @@ followed_in labels xs ys =
 
 abbrev report_metrics : Bool → Memory → List Metric
 report_metrics all memory =
-    module_metrics all (told_flags all memory)
+    module_metrics all (requested_flags all memory)
     (unless (inventory_fault memory) (inventory_entries memory))
     (unless (monitors_fault memory) (monitors_entries memory))
     (unless (flags_fault memory) (flags_entries memory))
@@ -85,8 +86,8 @@ module _ (options : Options) where
   abbrev reported_of : Bool → Result Memory ReportFault → Reported
   reported_of over = metrics_reported (record options { bus = over })
 
-  plain : (text t : List ℕ) (f : Option ReportedFault) → IsReported true (reported_of true) text (Ok (t, f)) → ¬ (IsGivenUp (Ok (t, f)))
-      → (memory : Memory) × IsTextOf (lines_of text) memory × IsReported false (reported_of false) text (Ok (t ++ vdm_text options.labels memory, f))
+  plain : (text t : List ℕ) (f : Option ReportedFault) → IsReported IsFetchedFrom true (reported_of true) text (Ok (t, f)) → ¬ (IsGivenUp (Ok (t, f)))
+      → (memory : Memory) × IsTextOf (lines_of text) memory × IsReported IsFetchedFrom false (reported_of false) text (Ok (t ++ vdm_text options.labels memory, f))
   plain text t f (read, is, same) ended =
       let copy = reported_of_copy reported_of text (Ok (t, f)) read is same refl ended in
       let text_is : t ≡ exposition options.labels (metrics_of options.all_flags false copy.fetched) = ap text_in copy.is_reported in
@@ -99,7 +100,7 @@ module _ (options : Options) where
       (copy.memory, copy.is_text, (Ok copy.memory, copy.is_text, λ i. Ok (text_too i, fault_too i)))
 
   -- metrics are reported in place of any fault but that of an image that is none
-  refused : (text : List ℕ) (f : Fault) → IsReported true (reported_of true) text (Err f) → IsReported false (reported_of false) text (Err f)
+  refused : (text : List ℕ) (f : Fault) → IsReported IsFetchedFrom true (reported_of true) text (Err f) → IsReported IsFetchedFrom false (reported_of false) text (Err f)
   refused text (fault.Image f) first = first
   refused text f (Ok memory, is, same) = absurd cc
   refused text f (Err g, is, same) = absurd cc

@@ -50,7 +50,7 @@ same_reports memory fetched image (after, (history, ran, is)) = fetched_reports 
 
 module _ (reported : Bool → Result Memory ReportFault → Reported) where
   abbrev IsMine : Bool → List ℕ → Answer → Type 0
-  IsMine over = IsReported over (reported over)
+  IsMine over = IsReported IsFetchedFrom over (reported over)
 
   abbrev pub IsAnswerOver : Bool → List ℕ → Answer → Type 0
   IsAnswerOver over = IsAnswerTo (Image ∷ []) (λ inputs. IsMine over inputs.image)
@@ -102,27 +102,27 @@ module _ (reported : Bool → Result Memory ReportFault → Reported) where
     pub alike : ReportsSame fetched memory
     pub is_reported : answer ≡ answer_of_reported (reported true (Ok fetched))
 
-  pub reported_of_copy : (text : List ℕ) (a : Answer) (read : Result Memory ReportFault) → IsReading true text read → a ≡ answer_of_reported (reported true read)
+  pub reported_of_copy : (text : List ℕ) (a : Answer) (read : Result Memory ReportFault) → IsReading IsFetchedFrom true text read → a ≡ answer_of_reported (reported true read)
       → IsGivenUp (answer_of_reported (reported true (Err report.GaveUp))) → ¬ (IsGivenUp a) → IsReportedOfCopy text a
   reported_of_copy text a (Ok fetched) is same gives_up ended = record {
     memory = is.memory;
     fetched = fetched;
     is_text = is.is_text;
-    alike = same_reports is.memory fetched is.is_text.image is.fetched;
+    alike = same_reports is.memory fetched is.is_text.image is.read;
     is_reported = same;
   }
   reported_of_copy text a (Err f) is same gives_up ended =
-      let gave_up : f ≡ report.GaveUp = reading_fault is.memory f is.fetched in
+      let gave_up : f ≡ report.GaveUp = reading_fault is.memory f is.read in
       absurd (ended (rw (same, gave_up) gives_up))
 
 -- what is reported by a fault, or else by what is said, is reported alike of memories with the same report
 pub same_reported : {A T : Type 0} (tell : Option ReportFault → A → T) → ((f : ReportFault) (x y : A) → tell (Some f) x ≡ tell (Some f) y)
-    → (fault_in : Memory → Option ReportFault) (said_in : Memory → A) (a b : Memory) → IsSame fault_in said_in a b → tell (fault_in a) (said_in a) ≡ tell (fault_in b) (said_in b)
-same_reported tell alone fault_in said_in a b same = by (fault_in a) (fault_in b) same.fault same.said
+    → (fault_in : Memory → Option ReportFault) (content_in : Memory → A) (a b : Memory) → IsSame fault_in content_in a b → tell (fault_in a) (content_in a) ≡ tell (fault_in b) (content_in b)
+same_reported tell alone fault_in content_in a b same = by (fault_in a) (fault_in b) same.fault same.content
   where
-    by : (o p : Option ReportFault) → o ≡ p → (o ≡ None → said_in a ≡ said_in b) → tell o (said_in a) ≡ tell p (said_in b)
-    by None p fault said = ap (tell None) (said refl) ∙ ap (λ (q : Option ReportFault). tell q (said_in b)) fault
-    by (Some f) p fault said = alone f (said_in a) (said_in b) ∙ ap (λ (q : Option ReportFault). tell q (said_in b)) fault
+    by : (o p : Option ReportFault) → o ≡ p → (o ≡ None → content_in a ≡ content_in b) → tell o (content_in a) ≡ tell p (content_in b)
+    by None p fault content = ap (tell None) (content refl) ∙ ap (λ (q : Option ReportFault). tell q (content_in b)) fault
+    by (Some f) p fault content = alone f (content_in a) (content_in b) ∙ ap (λ (q : Option ReportFault). tell q (content_in b)) fault
 
 -- ---- reports
 
@@ -130,7 +130,7 @@ module _ (name : ReportName) (options : Options) (pick : (fetched memory : Memor
   abbrev reported_of : Bool → Result Memory ReportFault → Reported
   reported_of over = report_of (record options { bus = over }) (refusal_of name) (printed_of name)
 
-  plain : (text : List ℕ) (a : Answer) → IsReported true (reported_of true) text a → ¬ (IsGivenUp a) → IsReported false (reported_of false) text a
+  plain : (text : List ℕ) (a : Answer) → IsReported IsFetchedFrom true (reported_of true) text a → ¬ (IsGivenUp a) → IsReported IsFetchedFrom false (reported_of false) text a
   plain text (Err (fault.Image f)) first ended = first
   plain text a (read, is, same) ended =
       let copy = reported_of_copy reported_of text a read is same refl ended in

@@ -1,5 +1,5 @@
 -- What is written of an answer by the form that its fault is given. (docs/formats.md, "Faults" and "JSON"; this project's own)
-use Rattle.std.specs.Prelude.{ℕ, Bool, true, false, List, ◌++◌, Option, Some, None, Result, Ok, Err}
+use Rattle.std.specs.Prelude.{ℕ, Bool, true, false, List, ◌++◌, Some, None, Ok, Err}
 use Rattle.command_line.specs.Faults.{fault_line}
 use Rattle.command_line.specs.FaultTexts.{reading_fault_text}
 use Rattle.command_line.specs.Runs.{Answer}

@@ -1,6 +1,6 @@
 -- What is written of a fault: its line, or, if JSON is asked for, its code, its values and its sentence as JSON. (docs/formats.md,
 -- "Faults" and "JSON"; this project's own)
-use Rattle.std.specs.Prelude.{ℕ, Bool, true, false, is_some, List, [], ◌∷◌, ◌++◌, codes}
+use Rattle.std.specs.Prelude.{ℕ, Bool, true, false, is_some, List, ◌++◌, codes}
 use Rattle.notices.specs.Sentences.{row_by_code}
 use Rattle.json.specs.Json.{Json}
 use Rattle.report_entries.specs.EntryJson.{json_text}

@@ -1,6 +1,6 @@
 -- The flags of the program: how each is given, and what `clap`'s matches say of it. (docs/formats.md, "Command line"; this project's
 -- own)
-use Rattle.std.specs.Prelude.{Bool, true, false, List, Some, codes}
+use Rattle.std.specs.Prelude.{Bool, false, List, Some, codes}
 use Rattle.std.specs.Option.{option_map_or}
 use Rattle.std.specs.Str.{bytes_eq}
 use Rattle.clap.specs.Words.{Row, Rule, Text, first_of, new_rule}

@@ -1,6 +1,6 @@
 -- Kept paths that a module has not in its Active Control Set. Provisioning leaves their lanes alone, so it can't end in success.
 -- (docs/bus.md, "Kept lanes"; docs/formats.md, "Standard error"; this project's own)
-use Rattle.std.specs.Prelude.{ℕ, Bool, ◌-◌, ◌==◌, not, find, slice_index, List, ◌∷◌, ◌++◌, codes, Option}
+use Rattle.std.specs.Prelude.{ℕ, Bool, ◌-◌, ◌==◌, not, find, slice_index, List, ◌++◌, codes, Option}
 use Rattle.std.specs.Fmt.{decimal}
 use Rattle.std.specs.List.{list_all, range_with_len}
 use Rattle.applications.specs.Advertised.{Advertised}

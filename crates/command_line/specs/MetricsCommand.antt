@@ -7,6 +7,7 @@ use Rattle.module_metrics.specs.Exposition.{exposition}
 use Rattle.reports.specs.declared.fault.ReportFault.{ReportFault}
 use Rattle.command_line.specs.declared.choice.options.Options.{Options}
 use Rattle.command_line.specs.declared.reported_fault.ReportedFault.TheVariants.{Metrics}
+use Rattle.command_line.specs.OverBus.{IsFetchedFrom}
 use Rattle.command_line.specs.ReportCommands.{IsReported, Reported}
 use Rattle.command_line.specs.Runs.{Answer}
 
@@ -19,4 +20,4 @@ metrics_reported options (Err f) = Ok (fault_text options.labels f, Some (Metric
 
 -- the answer; an image that is none has a line, as for other commands
 abbrev pub IsMetricsAnswer : Options → List ℕ → Answer → Type 0
-IsMetricsAnswer options = IsReported options.bus (metrics_reported options)
+IsMetricsAnswer options = IsReported IsFetchedFrom options.bus (metrics_reported options)

@@ -1,6 +1,6 @@
 -- What a report speaks of: the memory of the image that is given, or what is read of its module over a bus that refuses
--- nothing by itself. (docs/formats.md, "Reports over a bus"; docs/bus.md, "Windows" and "Reading an image"; this project's
--- own)
+-- nothing by itself; for observables the statistics (VDM) too. (docs/formats.md, "Reports over a bus"; docs/bus.md, "Windows" and "Reading
+-- an image"; this project's own)
 use Rattle.std.specs.Prelude.{◌≡◌, ℕ, Bool, true, false, List, [], Result, Ok, Err}
 use Rattle.text_lines.specs.Lines.{lines_of}
 use Rattle.bus_model.specs.Runs.{IsFull, Seen}
@@ -12,6 +12,7 @@ use Rattle.paged_memory.specs.ImageFaults.{IsFirstFault}
 use Rattle.paged_memory.specs.Windows.{Windowed, started, window_conduct}
 use Rattle.control_sets.specs.OutcomeAnswers.{most_steps}
 use Rattle.control_sets.specs.Procedures.{MakesHistory}
+use Rattle.observable_reports.specs.FetchedObservables.{IsObserving}
 use Rattle.reports.specs.FetchedImages.{IsFetching}
 use Rattle.reports.specs.declared.fault.ReportFault.{ReportFault}
 use Rattle.command_line.specs.declared.fault.Fault.{Fault}
@@ -30,27 +31,34 @@ abbrev pub IsFetchedFrom : Memory → Result Memory ReportFault → Type 0
 IsFetchedFrom memory answer =
     (after : WindowBus) × MakesHistory (script_rules window_conduct) (window_at_start memory) after (λ history. IsFetching (IsFull after) history answer)
 
--- why nothing is: there is no room for the steps, or the reading has a fault
-abbrev pub IsFetchRefusal : Memory → Fault → Type 0
-IsFetchRefusal memory fault.Memory = Unit {0}
-IsFetchRefusal memory (fault.Report f) = IsFetchedFrom memory (Err f)
-IsFetchRefusal memory f = ⊥
+-- the same for its observables
+abbrev pub IsObservedFrom : Memory → Result Memory ReportFault → Type 0
+IsObservedFrom memory answer = (after : WindowBus) × IsObserving (script_rules window_conduct) (window_at_start memory) after answer
 
--- the text is that of an image, and to read its module over a bus is answered so
-pub record IsReadOverBus (text : List ℕ) (answer : Result Memory ReportFault) : Type 0 where
-  pub memory : Memory
-  pub is_text : IsTextOf (lines_of text) memory
-  pub fetched : IsFetchedFrom memory answer
+-- ---- by what is read of a module that has this memory
 
--- what there is to report of by the text of an image: over a bus what is read, or why nothing is; else the image itself
-abbrev pub IsReading : Bool → List ℕ → Result Memory ReportFault → Type 0
-IsReading true text read = IsReadOverBus text read
-IsReading false text (Ok memory) = IsTextOf (lines_of text) memory
-IsReading false text (Err f) = ⊥
+module _ (IsRead : Memory → Result Memory ReportFault → Type 0) where
+  -- why nothing is: there is no room for the steps, or the reading has a fault
+  abbrev pub IsBusRefusal : Memory → Fault → Type 0
+  IsBusRefusal memory fault.Memory = Unit {0}
+  IsBusRefusal memory (fault.Report f) = IsRead memory (Err f)
+  IsBusRefusal memory f = ⊥
 
--- why there is nothing to report of: only the steps of a bus need memory
-abbrev pub IsInputRefusal : Bool → List ℕ → Fault → Type 0
-IsInputRefusal bus text fault.Memory = bus ≡ true
-IsInputRefusal bus text (fault.Image f) = IsFirstFault (lines_of text) f
-IsInputRefusal bus text (fault.Report f) = IsReading bus text (Err f)
-IsInputRefusal bus text f = ⊥
+  -- the text is that of an image, and to read its module over a bus is answered so
+  pub record IsReadOverBus (text : List ℕ) (answer : Result Memory ReportFault) : Type 0 where
+    pub memory : Memory
+    pub is_text : IsTextOf (lines_of text) memory
+    pub read : IsRead memory answer
+
+  -- what there is to report of by the text of an image: over a bus what is read, or why nothing is; else the image itself
+  abbrev pub IsReading : Bool → List ℕ → Result Memory ReportFault → Type 0
+  IsReading true text answer = IsReadOverBus text answer
+  IsReading false text (Ok memory) = IsTextOf (lines_of text) memory
+  IsReading false text (Err f) = ⊥
+
+  -- why there is nothing to report of: only the steps of a bus need memory
+  abbrev pub IsInputRefusal : Bool → List ℕ → Fault → Type 0
+  IsInputRefusal bus text fault.Memory = bus ≡ true
+  IsInputRefusal bus text (fault.Image f) = IsFirstFault (lines_of text) f
+  IsInputRefusal bus text (fault.Report f) = IsReading bus text (Err f)
+  IsInputRefusal bus text f = ⊥

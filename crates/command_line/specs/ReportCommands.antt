@@ -24,7 +24,7 @@ use Rattle.command_line.specs.declared.fault.Fault.TheVariants as fault
 use Rattle.command_line.specs.Coloring.{shown_as}
 use Rattle.command_line.specs.declared.choice.options.Options.{Options}
 use Rattle.command_line.specs.declared.reported_fault.ReportedFault.{ReportedFault}
-use Rattle.command_line.specs.OverBus.{IsReading}
+use Rattle.command_line.specs.OverBus.{IsFetchedFrom, IsObservedFrom, IsReading}
 use Rattle.command_line.specs.Runs.{Answer}
 
 -- this fault if there is one, and else this text, if there is memory for it
@@ -45,10 +45,11 @@ answer_of_reported reported = result_map_both (λ text. text) fault.Report repor
 abbrev pub IsReportedAs : Reported → Answer → Type 0
 IsReportedAs reported answer = (answer ≡ Err fault.Memory) ⊎ (answer ≡ answer_of_reported reported)
 
--- the answer to the text of an image by what is reported of what there is to report of, over a bus or not
-abbrev pub IsReported : Bool → (Result Memory ReportFault → Reported) → List ℕ → Answer → Type 0
-IsReported bus reported image (Err (fault.Image f)) = IsFirstFault (lines_of image) f
-IsReported bus reported image answer = (read : Result Memory ReportFault) × IsReading bus image read × (answer ≡ answer_of_reported (reported read))
+-- the answer to the text of an image: a report on its memory, or over a bus on what is read of it so
+abbrev pub IsReported : (Memory → Result Memory ReportFault → Type 0) → Bool → (Result Memory ReportFault → Reported) → List ℕ → Answer → Type 0
+IsReported IsRead bus reported image (Err (fault.Image f)) = IsFirstFault (lines_of image) f
+IsReported IsRead bus reported image answer =
+    (read : Result Memory ReportFault) × IsReading IsRead bus image read × (answer ≡ answer_of_reported (reported read))
 
 -- ---- reports
 
@@ -89,7 +90,7 @@ printed_of report json memory = printed json (entries_of report memory)
 
 -- the answer of a report to the text of an image
 abbrev pub IsReportAnswer : ReportName → Options → List ℕ → Answer → Type 0
-IsReportAnswer report options = IsReported options.bus (report_of options (refusal_of report) (printed_of report))
+IsReportAnswer report options = IsReported IsFetchedFrom options.bus (report_of options (refusal_of report) (printed_of report))
 
 -- ---- observables, of the modules of which details are reported
 
@@ -98,4 +99,4 @@ observed_text true memory = json_text (json_of memory)
 observed_text false memory = text_of (observables_lines memory)
 
 abbrev pub IsObservablesAnswer : Options → List ℕ → Answer → Type 0
-IsObservablesAnswer options = IsReported options.bus (report_of options detail_fault observed_text)
+IsObservablesAnswer options = IsReported IsObservedFrom options.bus (report_of options detail_fault observed_text)

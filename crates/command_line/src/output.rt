@@ -86,15 +86,15 @@ pub fn write_fault<W: Write>(
     match form {
         FaultForm::Line => {
             let line = fault.to_words().line_after(fault.word());
-            status_after(writer.put(line.as_slice()), status)
+            ended(writer.put(line.as_slice()), status)
         }
-        FaultForm::Json(text) => status_after(writer.put(text), status),
-        FaultForm::Ready => status_after(writer.put_text(ReadingFault(fault)), status),
+        FaultForm::Json(text) => ended(writer.put(text), status),
+        FaultForm::Ready => ended(writer.put_text(ReadingFault(fault)), status),
     }
 }
 
 /// How the program ends once this was written.
-pub fn status_after(written: Result<(), OutputFault>, status: Status) -> Status
+pub fn ended(written: Result<(), OutputFault>, status: Status) -> Status
     ensures { result ≡ ended (is_err written) status }
 {
     match written {

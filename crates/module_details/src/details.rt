@@ -1,10 +1,10 @@
 // The details of modules of each family, once the halves that are needed are known to be there.
 ghost use Rattle.std.specs.Prelude.{◌≡◌, IfOk};
-ghost use Rattle.report_entries.specs.Entries.{said_in};
+ghost use Rattle.report_entries.specs.Entries.{as_entries};
 ghost use Rattle.module_details.specs.Families.{cmis_entries, lacks_diagnostics, qsfp_entries, sfp_entries};
 
-use crate::apps::say_apps;
-use crate::said_rows::say_rows;
+use crate::apps::add_apps;
+use crate::read_rows::add_rows;
 use crate::tables::{cmis_table, qsfp_table, sfp_table};
 use field_tables::{Field, bit};
 use module_decoding::is_flat;
@@ -13,46 +13,46 @@ use report_entries::Entry;
 use std::alloc::{AllocError, Global};
 
 /// All that a CMIS module says of itself.
-#[tactic(auto, unfolding(crate::specs::Families::cmis_entries, report_entries::specs::Entries::said_in))]
+#[tactic(auto, unfolding(crate::specs::Families::cmis_entries, report_entries::specs::Entries::as_entries))]
 pub fn cmis_details(alloc: Global, image: &Image) -> Result<Vec<Entry>, AllocError>
-    ensures { IfOk result (λ entries. said_in entries ≡ cmis_entries image.now) }
+    ensures { IfOk result (λ entries. as_entries entries ≡ cmis_entries image.now) }
 {
     let flat = is_flat(image);
     let mut entries = Vec::new(alloc);
-    say_rows(&mut entries, image, flat, cmis_table::identity())?;
-    say_rows(&mut entries, image, flat, cmis_table::characteristics())?;
-    say_rows(&mut entries, image, flat, cmis_table::controls())?;
-    say_rows(&mut entries, image, flat, cmis_table::status())?;
-    say_rows(&mut entries, image, flat, cmis_table::lanes())?;
-    say_apps(&mut entries, image)?;
+    add_rows(&mut entries, image, flat, cmis_table::identity())?;
+    add_rows(&mut entries, image, flat, cmis_table::characteristics())?;
+    add_rows(&mut entries, image, flat, cmis_table::controls())?;
+    add_rows(&mut entries, image, flat, cmis_table::status())?;
+    add_rows(&mut entries, image, flat, cmis_table::lanes())?;
+    add_apps(&mut entries, image)?;
     Ok(entries)
 }
 
 /// All that a module of SFF-8636 says of itself.
-#[tactic(auto, unfolding(crate::specs::Families::qsfp_entries, report_entries::specs::Entries::said_in))]
+#[tactic(auto, unfolding(crate::specs::Families::qsfp_entries, report_entries::specs::Entries::as_entries))]
 pub fn qsfp_details(alloc: Global, image: &Image) -> Result<Vec<Entry>, AllocError>
-    ensures { IfOk result (λ entries. said_in entries ≡ qsfp_entries image.now) }
+    ensures { IfOk result (λ entries. as_entries entries ≡ qsfp_entries image.now) }
 {
     let mut entries = Vec::new(alloc);
-    say_rows(&mut entries, image, false, qsfp_table::identity())?;
-    say_rows(&mut entries, image, false, qsfp_table::compliance())?;
-    say_rows(&mut entries, image, false, qsfp_table::options())?;
-    say_rows(&mut entries, image, false, qsfp_table::status())?;
+    add_rows(&mut entries, image, false, qsfp_table::identity())?;
+    add_rows(&mut entries, image, false, qsfp_table::compliance())?;
+    add_rows(&mut entries, image, false, qsfp_table::options())?;
+    add_rows(&mut entries, image, false, qsfp_table::status())?;
     Ok(entries)
 }
 
 /// All that a module of SFF-8472 says of itself.
-#[tactic(auto, unfolding(crate::specs::Families::sfp_entries, report_entries::specs::Entries::said_in))]
+#[tactic(auto, unfolding(crate::specs::Families::sfp_entries, report_entries::specs::Entries::as_entries))]
 pub fn sfp_details(alloc: Global, image: &Image) -> Result<Vec<Entry>, AllocError>
-    ensures { IfOk result (λ entries. said_in entries ≡ sfp_entries image.now) }
+    ensures { IfOk result (λ entries. as_entries entries ≡ sfp_entries image.now) }
 {
     let undiagnosed = lacks_diagnostics(image);
     let mut entries = Vec::new(alloc);
-    say_rows(&mut entries, image, undiagnosed, sfp_table::identity())?;
-    say_rows(&mut entries, image, undiagnosed, sfp_table::compliance())?;
-    say_rows(&mut entries, image, undiagnosed, sfp_table::options())?;
-    say_rows(&mut entries, image, undiagnosed, sfp_table::status())?;
-    say_rows(&mut entries, image, undiagnosed, sfp_table::calibrated())?;
+    add_rows(&mut entries, image, undiagnosed, sfp_table::identity())?;
+    add_rows(&mut entries, image, undiagnosed, sfp_table::compliance())?;
+    add_rows(&mut entries, image, undiagnosed, sfp_table::options())?;
+    add_rows(&mut entries, image, undiagnosed, sfp_table::status())?;
+    add_rows(&mut entries, image, undiagnosed, sfp_table::calibrated())?;
     Ok(entries)
 }
 

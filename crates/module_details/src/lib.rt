@@ -7,7 +7,7 @@ mod facts;
 mod item;
 mod measured;
 mod power_class;
-mod said_rows;
+mod read_rows;
 mod tables;
 
 pub use details::{cmis_details, lacks_diagnostics, qsfp_details, sfp_details};

@@ -24,9 +24,9 @@ use Rattle.reports.specs.declared.fault.ReportFault.{ReportFault}
 use Rattle.reports.specs.FlagRows as warnings
 use Rattle.reports.specs.InventoryRows as identity
 use Rattle.reports.specs.MonitorRows as measures
-use Rattle.reports.specs.Reports.{entries_in, entries_of, flags_fault, flags_told, inventory_fault, monitors_fault, told_in}
+use Rattle.reports.specs.Reports.{entries_in, entries_of, family_flags, flag_states, flags_fault, inventory_fault, monitors_fault}
 use Rattle.module_metrics.specs.AddedLabels.{AreAdded}
-use Rattle.module_metrics.specs.Answers.{code_of, first_fault, metrics_of, told_flags}
+use Rattle.module_metrics.specs.Answers.{code_of, first_fault, metrics_of, requested_flags}
 use Rattle.module_metrics.specs.Unless.{unless}
 use Rattle.module_metrics.specs.BaseUnits.{base_name}
 use Rattle.module_metrics.specs.CommonLabels.{is_taken, row_keys}
@@ -34,13 +34,13 @@ use Rattle.module_metrics.specs.Exposition.{Label, Metric, label, metric, sample
 use Rattle.module_metrics.specs.FlagMetrics.{count_metric, count_name, each_raised, flag_sample, flags_metric, flags_name}
 use Rattle.module_metrics.specs.Laws.{EveryModulesMetricsAreRight}
 use Rattle.module_metrics.specs.MetricNames.{amount_name, scope_name}
-use Rattle.module_metrics.specs.ModuleMetrics.{fault_name, info_labels, info_name, module_metrics, said_metrics, sums_name}
+use Rattle.module_metrics.specs.ModuleMetrics.{content_metrics, fault_name, info_labels, info_name, module_metrics, sums_name}
 use Rattle.module_metrics.specs.StateMetrics.{paths_name, state_name, statuses_name}
 use Rattle.module_metrics.specs.VdmMetrics.{listed_metrics, vdm_seen}
 use Rattle.module_metrics.specs.WellFormed.{AreApart, AreMetrics, IsMetric}
-use Rattle.module_metrics.proofs.ModuleRight.{AreRight, IsSaid, IsSum, module_right}
+use Rattle.module_metrics.proofs.ModuleRight.{AreRight, AreReported, IsSum, module_right}
 use Rattle.module_metrics.proofs.RowMetrics.{EntryIsPlain, both, entry_names, is_sure, keys_sub, names_of, names_sub, plain_rows, row_names, row_sums, sum_labels, sums_sub}
-use Rattle.module_metrics.proofs.SaidMetrics.{flag_labels}
+use Rattle.module_metrics.proofs.ContentMetrics.{flag_labels}
 use Rattle.module_metrics.proofs.SeenInstances.{seen_numbered}
 use Rattle.module_metrics.proofs.Sublists.{Sub, apart_by, apart_sub, sub_all, sub_append, sub_none}
 use Rattle.module_metrics.proofs.Tested.{are_new, tested}
@@ -75,46 +75,46 @@ same_value_in f (Some lane) e small =
     let digit : decimal lane ≡ (48 + lane) ∷ [] = decimal_digit lane below in
     rw e (ap (λ t. (flag_name f.0.name ++ 0 ∷ []) ++ ((t ++ 0 ∷ []) ++ [])) digit ∙ append_assoc (flag_name f.0.name) (0 ∷ []) ((48 + lane) ∷ 0 ∷ []))
 
-same_values : (told : List (Flag × Bool)) → list_all has_small_lane told ≡ true → map values (map flag_labels told) ≡ map flag_value told
+same_values : (each_flag : List (Flag × Bool)) → list_all has_small_lane each_flag ≡ true → map values (map flag_labels each_flag) ≡ map flag_value each_flag
 same_values [] small = refl
-same_values (f ∷ told) small =
-    let parts = and_parts (has_small_lane f) (list_all has_small_lane told) small in
-    ap (λ v. v ∷ map values (map flag_labels told)) (same_value_in f f.0.lane refl parts.0) ∙ ap (λ vs. flag_value f ∷ vs) (same_values told parts.1)
+same_values (f ∷ each_flag) small =
+    let parts = and_parts (has_small_lane f) (list_all has_small_lane each_flag) small in
+    ap (λ v. v ∷ map values (map flag_labels each_flag)) (same_value_in f f.0.lane refl parts.0) ∙ ap (λ vs. flag_value f ∷ vs) (same_values each_flag parts.1)
 
 -- flags differ if their names and lanes do
-flags_apart : (told : List (Flag × Bool)) → list_all has_small_lane told ≡ true → are_new (map flag_value told) ≡ true → AreApart (map flag_labels told)
-flags_apart told small new =
-    apart_by values (map flag_labels told) (subst (λ vs. AreApart vs) (sym (same_values told small)) (tested (map flag_value told) new))
+flags_apart : (each_flag : List (Flag × Bool)) → list_all has_small_lane each_flag ≡ true → are_new (map flag_value each_flag) ≡ true → AreApart (map flag_labels each_flag)
+flags_apart each_flag small new =
+    apart_by values (map flag_labels each_flag) (subst (λ vs. AreApart vs) (sym (same_values each_flag small)) (tested (map flag_value each_flag) new))
 
 pub cmis_flags_apart : (memory : Memory) (flat : Bool) → AreApart (map flag_labels (rows_flags memory flat warnings.cmis_rows))
 unfolding row_flags warnings.cmis_rows flag_name limit_name condition_name name_of
 cmis_flags_apart memory true = flags_apart (rows_flags memory true warnings.cmis_rows) refl refl
 cmis_flags_apart memory false = flags_apart (rows_flags memory false warnings.cmis_rows) refl refl
 
-pub qsfp_flags_apart : (memory : Memory) → AreApart (map flag_labels (told_in Sff8636 memory))
+pub qsfp_flags_apart : (memory : Memory) → AreApart (map flag_labels (family_flags Sff8636 memory))
 unfolding row_flags warnings.qsfp_rows flag_name limit_name condition_name name_of
-qsfp_flags_apart memory = flags_apart (told_in Sff8636 memory) refl refl
+qsfp_flags_apart memory = flags_apart (family_flags Sff8636 memory) refl refl
 
-pub sfp_flags_apart : (memory : Memory) → AreApart (map flag_labels (told_in Sff8472 memory))
+pub sfp_flags_apart : (memory : Memory) → AreApart (map flag_labels (family_flags Sff8472 memory))
 unfolding row_flags warnings.sfp_rows flag_name limit_name condition_name name_of
-sfp_flags_apart memory = flags_apart (told_in Sff8472 memory) refl refl
+sfp_flags_apart memory = flags_apart (family_flags Sff8472 memory) refl refl
 
-raised_sub : (told : List (Flag × Bool)) → Sub (map flag_labels (each_raised (raised told))) (map flag_labels told)
+raised_sub : (each_flag : List (Flag × Bool)) → Sub (map flag_labels (each_raised (raised each_flag))) (map flag_labels each_flag)
 unfolding flag_sample sample
 raised_sub [] = refl
-raised_sub ((f, true) ∷ told) = inr (map flag_labels (each_raised (raised told)), refl, raised_sub told)
-raised_sub ((f, false) ∷ told) = inl (raised_sub told)
+raised_sub ((f, true) ∷ each_flag) = inr (map flag_labels (each_raised (raised each_flag)), refl, raised_sub each_flag)
+raised_sub ((f, false) ∷ each_flag) = inl (raised_sub each_flag)
 
 abbrev flag_names : List (List ℕ)
 flag_names = count_name false ∷ flags_name false ∷ count_name true ∷ flags_name true ∷ []
 
-flags_named : (all : Bool) (told : List (Flag × Bool)) (raised : List Flag) → entry_names all told (flags_entry raised) ≡ flag_names
-unfolding entry said_metrics count_metric flags_metric metric
-flags_named all told raised = refl
+flags_named : (all : Bool) (each_flag : List (Flag × Bool)) (raised : List Flag) → entry_names all each_flag (flags_entry raised) ≡ flag_names
+unfolding entry content_metrics count_metric flags_metric metric
+flags_named all each_flag raised = refl
 
-flags_plain : (told : List (Flag × Bool)) → AreApart (map flag_labels told) → EntryIsPlain (flags_entry (raised told))
+flags_plain : (each_flag : List (Flag × Bool)) → AreApart (map flag_labels each_flag) → EntryIsPlain (flags_entry (raised each_flag))
 unfolding entry
-flags_plain told apart = apart_sub (map flag_labels (each_raised (raised told))) (map flag_labels told) (raised_sub told) apart
+flags_plain each_flag apart = apart_sub (map flag_labels (each_raised (raised each_flag))) (map flag_labels each_flag) (raised_sub each_flag) apart
 
 -- ---- what reports say if they have no fault
 
@@ -131,15 +131,15 @@ keys_unless : (memory : Memory) (flat : Bool) (rows : List Row) → list_all is_
 keys_unless memory flat rows sure None = keys_sub memory flat rows sure
 keys_unless memory flat rows sure (Some fault) = sub_none (flat_map row_keys rows)
 
-said_of : (all : Bool) (told : List (Flag × Bool)) (memory : Memory) (flat other : Bool) (identity_rows measured_rows : List Row) (warned : List Entry) (warned_names : List (List ℕ))
+content_of : (all : Bool) (each_flag : List (Flag × Bool)) (memory : Memory) (flat other : Bool) (identity_rows measured_rows : List Row) (warned : List Entry) (warned_names : List (List ℕ))
     → list_all is_sure identity_rows ≡ true → list_all row_fits identity_rows ≡ true → list_all row_fits measured_rows ≡ true
-    → Sub (flat_map (entry_names all told) warned) warned_names → AllByRecursion EntryIsPlain warned → (first second third : Option ReportFault)
-    → IsSaid (unless first (rows_entries memory flat identity_rows)) (unless second (rows_entries memory other measured_rows)) (unless third warned) identity_rows measured_rows warned_names all told
-said_of all told memory flat other identity_rows measured_rows warned warned_names sure fits more named plain first second third = record {
+    → Sub (flat_map (entry_names all each_flag) warned) warned_names → AllByRecursion EntryIsPlain warned → (first second third : Option ReportFault)
+    → AreReported (unless first (rows_entries memory flat identity_rows)) (unless second (rows_entries memory other measured_rows)) (unless third warned) identity_rows measured_rows warned_names all each_flag
+content_of all each_flag memory flat other identity_rows measured_rows warned warned_names sure fits more named plain first second third = record {
   identity_keys = keys_unless memory flat identity_rows sure first;
-  identity_named = unless_sub (entry_names all told) first (rows_entries memory flat identity_rows) (flat_map row_names identity_rows) (names_sub all told memory flat identity_rows);
-  measured_named = unless_sub (entry_names all told) second (rows_entries memory other measured_rows) (flat_map row_names measured_rows) (names_sub all told memory other measured_rows);
-  warned_named = unless_sub (entry_names all told) third warned warned_names named;
+  identity_named = unless_sub (entry_names all each_flag) first (rows_entries memory flat identity_rows) (flat_map row_names identity_rows) (names_sub all each_flag memory flat identity_rows);
+  measured_named = unless_sub (entry_names all each_flag) second (rows_entries memory other measured_rows) (flat_map row_names measured_rows) (names_sub all each_flag memory other measured_rows);
+  warned_named = unless_sub (entry_names all each_flag) third warned warned_names named;
   identity_sums = unless_sub sum_labels first (rows_entries memory flat identity_rows) (flat_map row_sums identity_rows) (sums_sub memory flat identity_rows);
   measured_sums = unless_sub sum_labels second (rows_entries memory other measured_rows) (flat_map row_sums measured_rows) (sums_sub memory other measured_rows);
   identity_plain = unless_all EntryIsPlain first (rows_entries memory flat identity_rows) (plain_rows memory flat identity_rows fits);
@@ -149,12 +149,12 @@ said_of all told memory flat other identity_rows measured_rows warned warned_nam
 
 -- the flags that are told if that is asked for
 abbrev asked : Bool → Option ReportFault → List (Flag × Bool) → List (Flag × Bool)
-asked all fault told = if all then unless fault told else []
+asked all fault each_flag = if all then unless fault each_flag else []
 
-asked_apart : (all : Bool) (fault : Option ReportFault) (told : List (Flag × Bool)) → AreApart (map flag_labels told) → AreApart (map flag_labels (asked all fault told))
-asked_apart false fault told apart = tt
-asked_apart true None told apart = apart
-asked_apart true (Some fault) told apart = tt
+asked_apart : (all : Bool) (fault : Option ReportFault) (each_flag : List (Flag × Bool)) → AreApart (map flag_labels each_flag) → AreApart (map flag_labels (asked all fault each_flag))
+asked_apart false fault each_flag apart = tt
+asked_apart true None each_flag apart = apart
+asked_apart true (Some fault) each_flag apart = tt
 
 -- ---- CMIS
 
@@ -172,35 +172,35 @@ unfolding identity.cmis_rows measures.cmis_rows warnings.state_rows
 cmis_fit = (refl, refl, refl, refl)
 
 -- of its states and flags
-cmis_named : (all : Bool) (told : List (Flag × Bool)) (memory : Memory) → Sub (flat_map (entry_names all told) (entries_in Flags Cmis memory)) (flat_map row_names warnings.state_rows ++ flag_names)
-cmis_named all told memory =
-    let f = entry_names all told in
+cmis_named : (all : Bool) (each_flag : List (Flag × Bool)) (memory : Memory) → Sub (flat_map (entry_names all each_flag) (entries_in Flags Cmis memory)) (flat_map row_names warnings.state_rows ++ flag_names)
+cmis_named all each_flag memory =
+    let f = entry_names all each_flag in
     let states = rows_entries memory (is_flat memory) warnings.state_rows in
-    let last = flags_entry (raised (told_in Cmis memory)) in
+    let last = flags_entry (raised (family_flags Cmis memory)) in
     subst (λ zs. Sub zs (flat_map row_names warnings.state_rows ++ flag_names)) (sym (flat_map-append f states (last ∷ [])))
-    (sub_append (flat_map f states) (flat_map row_names warnings.state_rows) (f last ++ []) flag_names (names_sub all told memory (is_flat memory) warnings.state_rows)
-    (subst (λ zs. Sub (zs ++ []) flag_names) (sym (flags_named all told (raised (told_in Cmis memory)))) (sub_all flag_names)))
+    (sub_append (flat_map f states) (flat_map row_names warnings.state_rows) (f last ++ []) flag_names (names_sub all each_flag memory (is_flat memory) warnings.state_rows)
+    (subst (λ zs. Sub (zs ++ []) flag_names) (sym (flags_named all each_flag (raised (family_flags Cmis memory)))) (sub_all flag_names)))
 
-cmis_apart : (memory : Memory) → AreApart (map flag_labels (told_in Cmis memory))
+cmis_apart : (memory : Memory) → AreApart (map flag_labels (family_flags Cmis memory))
 cmis_apart memory = cmis_flags_apart memory (is_flat memory)
 
 cmis_plain : (memory : Memory) → AllByRecursion EntryIsPlain (entries_in Flags Cmis memory)
 cmis_plain memory =
-    both EntryIsPlain (rows_entries memory (is_flat memory) warnings.state_rows) (flags_entry (raised (told_in Cmis memory)) ∷ [])
-    (plain_rows memory (is_flat memory) warnings.state_rows cmis_fit.3) (flags_plain (told_in Cmis memory) (cmis_apart memory), tt)
+    both EntryIsPlain (rows_entries memory (is_flat memory) warnings.state_rows) (flags_entry (raised (family_flags Cmis memory)) ∷ [])
+    (plain_rows memory (is_flat memory) warnings.state_rows cmis_fit.3) (flags_plain (family_flags Cmis memory) (cmis_apart memory), tt)
 
 cmis_right : (common : List Label) → AreAdded common → (all : Bool) (memory : Memory) (first second third : Option ReportFault) (fault : Option (List ℕ))
     → (more : List Metric) → AllByRecursion (IsMetric common) more → Sub (names_of more) vdm_names
-    → AreMetrics common (module_metrics all (asked all third (told_in Cmis memory)) (unless first (entries_in Inventory Cmis memory)) (unless second (entries_in Monitors Cmis memory))
+    → AreMetrics common (module_metrics all (asked all third (family_flags Cmis memory)) (unless first (entries_in Inventory Cmis memory)) (unless second (entries_in Monitors Cmis memory))
     (unless third (entries_in Flags Cmis memory)) fault ++ more)
 cmis_right common added all memory first second third fault more right named =
-    let told = asked all third (told_in Cmis memory) in
+    let each_flag = asked all third (family_flags Cmis memory) in
     let names = flat_map row_names warnings.state_rows ++ flag_names in
     module_right common added (unless first (rows_entries memory (is_flat memory) identity.cmis_rows)) (unless second (rows_entries memory (is_flat memory) measures.cmis_rows))
-    (unless third (entries_in Flags Cmis memory)) identity.cmis_rows measures.cmis_rows names all told
-    (said_of all told memory (is_flat memory) (is_flat memory) identity.cmis_rows measures.cmis_rows (entries_in Flags Cmis memory) names cmis_fit.0 cmis_fit.1 cmis_fit.2
-    (cmis_named all told memory) (cmis_plain memory) first second third)
-    cmis_rows (asked_apart all third (told_in Cmis memory) (cmis_apart memory)) cmis_sums fault more right named
+    (unless third (entries_in Flags Cmis memory)) identity.cmis_rows measures.cmis_rows names all each_flag
+    (content_of all each_flag memory (is_flat memory) (is_flat memory) identity.cmis_rows measures.cmis_rows (entries_in Flags Cmis memory) names cmis_fit.0 cmis_fit.1 cmis_fit.2
+    (cmis_named all each_flag memory) (cmis_plain memory) first second third)
+    cmis_rows (asked_apart all third (family_flags Cmis memory) (cmis_apart memory)) cmis_sums fault more right named
 
 -- ---- SFF-8636
 
@@ -216,21 +216,21 @@ qsfp_fit : (list_all is_sure identity.qsfp_rows ≡ true) × (list_all row_fits 
 unfolding identity.qsfp_rows measures.qsfp_rows
 qsfp_fit = (refl, refl, refl)
 
-sff_named : (all : Bool) (told : List (Flag × Bool)) (raised : List Flag) → Sub (flat_map (entry_names all told) (flags_entry raised ∷ [])) flag_names
-sff_named all told raised = subst (λ zs. Sub (zs ++ []) flag_names) (sym (flags_named all told raised)) (sub_all flag_names)
+sff_named : (all : Bool) (each_flag : List (Flag × Bool)) (raised : List Flag) → Sub (flat_map (entry_names all each_flag) (flags_entry raised ∷ [])) flag_names
+sff_named all each_flag raised = subst (λ zs. Sub (zs ++ []) flag_names) (sym (flags_named all each_flag raised)) (sub_all flag_names)
 
 qsfp_right : (common : List Label) → AreAdded common → (all : Bool) (memory : Memory) (first second third : Option ReportFault) (fault : Option (List ℕ))
     → (more : List Metric) → AllByRecursion (IsMetric common) more → Sub (names_of more) vdm_names
-    → AreMetrics common (module_metrics all (asked all third (told_in Sff8636 memory)) (unless first (entries_in Inventory Sff8636 memory)) (unless second (entries_in Monitors Sff8636 memory))
+    → AreMetrics common (module_metrics all (asked all third (family_flags Sff8636 memory)) (unless first (entries_in Inventory Sff8636 memory)) (unless second (entries_in Monitors Sff8636 memory))
     (unless third (entries_in Flags Sff8636 memory)) fault ++ more)
 qsfp_right common added all memory first second third fault more right named =
-    let flags = told_in Sff8636 memory in
-    let told = asked all third flags in
+    let flags = family_flags Sff8636 memory in
+    let each_flag = asked all third flags in
     let warned = flags_entry (raised flags) ∷ [] in
     module_right common added (unless first (rows_entries memory (bit memory QFlatMemory) identity.qsfp_rows)) (unless second (rows_entries memory (bit memory QFlatMemory) measures.qsfp_rows)) (unless third warned)
-    identity.qsfp_rows measures.qsfp_rows flag_names all told
-    (said_of all told memory (bit memory QFlatMemory) (bit memory QFlatMemory) identity.qsfp_rows measures.qsfp_rows warned flag_names qsfp_fit.0 qsfp_fit.1 qsfp_fit.2
-    (sff_named all told (raised flags)) (flags_plain flags (qsfp_flags_apart memory), tt) first second third)
+    identity.qsfp_rows measures.qsfp_rows flag_names all each_flag
+    (content_of all each_flag memory (bit memory QFlatMemory) (bit memory QFlatMemory) identity.qsfp_rows measures.qsfp_rows warned flag_names qsfp_fit.0 qsfp_fit.1 qsfp_fit.2
+    (sff_named all each_flag (raised flags)) (flags_plain flags (qsfp_flags_apart memory), tt) first second third)
     qsfp_rows (asked_apart all third flags (qsfp_flags_apart memory)) qsfp_sums fault more right named
 
 -- ---- SFF-8472
@@ -249,23 +249,23 @@ sfp_fit = (refl, refl, refl)
 
 sfp_right : (common : List Label) → AreAdded common → (all : Bool) (memory : Memory) (first second third : Option ReportFault) (fault : Option (List ℕ))
     → (more : List Metric) → AllByRecursion (IsMetric common) more → Sub (names_of more) vdm_names
-    → AreMetrics common (module_metrics all (asked all third (told_in Sff8472 memory)) (unless first (entries_in Inventory Sff8472 memory)) (unless second (entries_in Monitors Sff8472 memory))
+    → AreMetrics common (module_metrics all (asked all third (family_flags Sff8472 memory)) (unless first (entries_in Inventory Sff8472 memory)) (unless second (entries_in Monitors Sff8472 memory))
     (unless third (entries_in Flags Sff8472 memory)) fault ++ more)
 sfp_right common added all memory first second third fault more right named =
-    let flags = told_in Sff8472 memory in
-    let told = asked all third flags in
+    let flags = family_flags Sff8472 memory in
+    let each_flag = asked all third flags in
     let warned = flags_entry (raised flags) ∷ [] in
     module_right common added (unless first (rows_entries memory false identity.sfp_rows)) (unless second (rows_entries memory false measures.sfp_rows)) (unless third warned)
-    identity.sfp_rows measures.sfp_rows flag_names all told
-    (said_of all told memory false false identity.sfp_rows measures.sfp_rows warned flag_names sfp_fit.0 sfp_fit.1 sfp_fit.2
-    (sff_named all told (raised flags)) (flags_plain flags (sfp_flags_apart memory), tt) first second third)
+    identity.sfp_rows measures.sfp_rows flag_names all each_flag
+    (content_of all each_flag memory false false identity.sfp_rows measures.sfp_rows warned flag_names sfp_fit.0 sfp_fit.1 sfp_fit.2
+    (sff_named all each_flag (raised flags)) (flags_plain flags (sfp_flags_apart memory), tt) first second third)
     sfp_rows (asked_apart all third flags (sfp_flags_apart memory)) sfp_sums fault more right named
 
 -- ---- all
 
 of_family : (common : List Label) → AreAdded common → (all : Bool) (memory : Memory) (first second third : Option ReportFault) (fault : Option (List ℕ))
     → (more : List Metric) → AllByRecursion (IsMetric common) more → Sub (names_of more) vdm_names → (family : Family)
-    → AreMetrics common (module_metrics all (asked all third (told_in family memory)) (unless first (entries_in Inventory family memory)) (unless second (entries_in Monitors family memory))
+    → AreMetrics common (module_metrics all (asked all third (family_flags family memory)) (unless first (entries_in Inventory family memory)) (unless second (entries_in Monitors family memory))
     (unless third (entries_in Flags family memory)) fault ++ more)
 of_family common added all memory first second third fault more right named Cmis = cmis_right common added all memory first second third fault more right named
 of_family common added all memory first second third fault more right named Sff8636 = qsfp_right common added all memory first second third fault more right named
@@ -280,7 +280,7 @@ listed_named true memory = vdm_named_once (vdm_seen memory)
 listed_named false memory = sub_none vdm_names
 
 pub every_module_right : EveryModulesMetricsAreRight
-unfolding metrics_of told_flags entries_of flags_told
+unfolding metrics_of requested_flags entries_of flag_states
 every_module_right common all with_vdm memory added =
     of_family common added all memory (inventory_fault memory) (monitors_fault memory) (flags_fault memory) (option_map code_of (first_fault memory))
     (listed_metrics with_vdm memory) (listed_right common added with_vdm memory) (listed_named with_vdm memory) (family_of memory)

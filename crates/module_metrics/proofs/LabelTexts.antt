@@ -2,7 +2,7 @@
 use Rattle.std.proofs.Common.{◌≡◌, ℕ, suc, ◌==◌, ◌&&◌, true, false, List, [], ◌∷◌, ◌++◌, length, map, refl, sym, ap, ◌∙◌, append_assoc, arith}
 use Rattle.std.proofs.lemmas.Bool.{ne_eqb}
 use Rattle.module_metrics.specs.Exposition.{Label, bracketed, closing, label_text, mark, marked}
-use Rattle.module_metrics.specs.Told.{label_of}
+use Rattle.module_metrics.specs.MetricData.{label_of}
 use Rattle.module_metrics.specs.declared.metric.Label as rust
 
 later_append : (xs ys : List Label) → marked false (xs ++ ys) ≡ marked false xs ++ marked false ys

@@ -5,7 +5,7 @@ pub mod Tested
 pub mod Words
 pub mod RightMetrics
 pub mod MoreLabels
-pub mod SaidMetrics
+pub mod ContentMetrics
 pub mod RowMetrics
 pub mod SeenInstances
 pub mod VdmWords

@@ -9,7 +9,7 @@ use Rattle.module_metrics.specs.Laws.{EachLineIsOne}
 use Rattle.module_metrics.specs.WellFormed.{AreLabels, IsMetric}
 use Rattle.module_metrics.proofs.FamiliesRight.{every_module_right}
 use Rattle.module_metrics.proofs.RowMetrics.{both}
-use Rattle.module_metrics.proofs.SaidMetrics.{labels_of}
+use Rattle.module_metrics.proofs.ContentMetrics.{labels_of}
 
 samples_are : (common : List Label) (name : List ℕ) → is_name name ≡ true → (samples : List Sample)
     → AllByRecursion (λ (labels : List Label). AreLabels (common ++ labels)) (map labels_of samples) → AllByRecursion IsLine (map (sample_line name common) samples)

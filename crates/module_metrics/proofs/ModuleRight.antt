@@ -14,7 +14,7 @@ use Rattle.module_metrics.specs.ModuleMetrics.{entry_metrics, entry_sums, fault_
 use Rattle.module_metrics.specs.WellFormed.{AreApart, AreLabels, AreMetrics, IsMetric, keys}
 use Rattle.module_metrics.proofs.RightMetrics.{all_then, is_own, labels_right}
 use Rattle.module_metrics.proofs.RowMetrics.{EntryIsPlain, both, entry_names, made_flat, names_of, row_names, row_sums, sum_labels}
-use Rattle.module_metrics.proofs.SaidMetrics.{flag_labels, labels_of, said_right}
+use Rattle.module_metrics.proofs.ContentMetrics.{content_right, flag_labels, labels_of}
 use Rattle.module_metrics.proofs.Sublists.{Sub, all_sub, apart_by, apart_sub, sub_all, sub_append, sub_none}
 use Rattle.module_metrics.proofs.Tested.{are_new, tested}
 use Rattle.module_metrics.proofs.SeenInstances.{apart_append}
@@ -23,11 +23,11 @@ use Rattle.module_metrics.proofs.VdmRight.{vdm_names}
 
 -- ---- what is known of what three reports say, by the rows that they say it of
 
-pub record IsSaid (identity measured warned : List Entry) (identity_rows measured_rows : List Row) (warned_names : List (List ℕ)) (all : Bool) (told : List (Flag × Bool)) : Type 0 where
+pub record AreReported (identity measured warned : List Entry) (identity_rows measured_rows : List Row) (warned_names : List (List ℕ)) (all : Bool) (each_flag : List (Flag × Bool)) : Type 0 where
   pub identity_keys : Sub (keys (info_labels identity)) (flat_map row_keys identity_rows)
-  pub identity_named : Sub (flat_map (entry_names all told) identity) (flat_map row_names identity_rows)
-  pub measured_named : Sub (flat_map (entry_names all told) measured) (flat_map row_names measured_rows)
-  pub warned_named : Sub (flat_map (entry_names all told) warned) warned_names
+  pub identity_named : Sub (flat_map (entry_names all each_flag) identity) (flat_map row_names identity_rows)
+  pub measured_named : Sub (flat_map (entry_names all each_flag) measured) (flat_map row_names measured_rows)
+  pub warned_named : Sub (flat_map (entry_names all each_flag) warned) warned_names
   pub identity_sums : Sub (flat_map sum_labels identity) (flat_map row_sums identity_rows)
   pub measured_sums : Sub (flat_map sum_labels measured) (flat_map row_sums measured_rows)
   pub identity_plain : AllByRecursion EntryIsPlain identity
@@ -91,13 +91,13 @@ sum_right common added labels is =
     labels_right common labels added (ap (list_all is_own) is ∙ sum_own) (subst (λ ks. AreApart ks) (sym is) (tt, tt))
 
 module _ (common : List Label) (added : AreAdded common) (identity measured warned : List Entry) (identity_rows measured_rows : List Row) (warned_names : List (List ℕ)) (all : Bool)
-    (told : List (Flag × Bool)) (said : IsSaid identity measured warned identity_rows measured_rows warned_names all told) (right : AreRight identity_rows measured_rows warned_names)
-    (told_apart : AreApart (map flag_labels told)) (sums_are : AllByRecursion IsSum (flat_map row_sums identity_rows ++ flat_map row_sums measured_rows)) where
+    (each_flag : List (Flag × Bool)) (content : AreReported identity measured warned identity_rows measured_rows warned_names all each_flag) (right : AreRight identity_rows measured_rows warned_names)
+    (listed_apart : AreApart (map flag_labels each_flag)) (sums_are : AllByRecursion IsSum (flat_map row_sums identity_rows ++ flat_map row_sums measured_rows)) where
   sums_of_rows : Sub (map labels_of (flat_map entry_sums (identity ++ measured))) (flat_map row_sums identity_rows ++ flat_map row_sums measured_rows)
   sums_of_rows =
       subst (λ zs. Sub zs (flat_map row_sums identity_rows ++ flat_map row_sums measured_rows))
       (sym (made_flat labels_of entry_sums (identity ++ measured) ∙ flat_map-append sum_labels identity measured))
-      (sub_append (flat_map sum_labels identity) (flat_map row_sums identity_rows) (flat_map sum_labels measured) (flat_map row_sums measured_rows) said.identity_sums said.measured_sums)
+      (sub_append (flat_map sum_labels identity) (flat_map row_sums identity_rows) (flat_map sum_labels measured) (flat_map row_sums measured_rows) content.identity_sums content.measured_sums)
 
   sums_right : IsMetric common (sums_metric (identity ++ measured))
   unfolding sums_metric metric sums_name sums_help
@@ -110,10 +110,10 @@ module _ (common : List Label) (added : AreAdded common) (identity measured warn
         (apart_by first_value (flat_map row_sums identity_rows ++ flat_map row_sums measured_rows) (tested (map first_value (flat_map row_sums identity_rows ++ flat_map row_sums measured_rows)) right.sums_new));
   }
 
-  entries_right : (entries : List Entry) → AllByRecursion EntryIsPlain entries → AllByRecursion (IsMetric common) (flat_map (entry_metrics all told) entries)
+  entries_right : (entries : List Entry) → AllByRecursion EntryIsPlain entries → AllByRecursion (IsMetric common) (flat_map (entry_metrics all each_flag) entries)
   entries_right [] plain = tt
   entries_right (e ∷ es) plain =
-      both (IsMetric common) (entry_metrics all told e) (flat_map (entry_metrics all told) es) (said_right common added all told told_apart e.name e.said plain.0) (entries_right es plain.1)
+      both (IsMetric common) (entry_metrics all each_flag e) (flat_map (entry_metrics all each_flag) es) (content_right common added all each_flag listed_apart e.name e.content plain.0) (entries_right es plain.1)
 
   code_own : list_all is_own (codes "code" ∷ []) ≡ true
   unfolding is_taken
@@ -129,50 +129,50 @@ module _ (common : List Label) (added : AreAdded common) (identity measured warn
   fault_names None = sub_none (fault_name ∷ [])
   fault_names (Some fault_code) = sub_all (fault_name ∷ [])
 
-  entries_names : Sub (names_of (flat_map (entry_metrics all told) (identity ++ (measured ++ warned)))) (flat_map row_names identity_rows ++ (flat_map row_names measured_rows ++ warned_names))
+  entries_names : Sub (names_of (flat_map (entry_metrics all each_flag) (identity ++ (measured ++ warned)))) (flat_map row_names identity_rows ++ (flat_map row_names measured_rows ++ warned_names))
   entries_names =
-      let f = entry_names all told in
+      let f = entry_names all each_flag in
       subst (λ zs. Sub zs (flat_map row_names identity_rows ++ (flat_map row_names measured_rows ++ warned_names)))
-      (sym (made_flat (λ (m : Metric). m.name) (entry_metrics all told) (identity ++ (measured ++ warned)) ∙ flat_map-append f identity (measured ++ warned)
+      (sym (made_flat (λ (m : Metric). m.name) (entry_metrics all each_flag) (identity ++ (measured ++ warned)) ∙ flat_map-append f identity (measured ++ warned)
       ∙ ap (λ zs. flat_map f identity ++ zs) (flat_map-append f measured warned)))
-      (sub_append (flat_map f identity) (flat_map row_names identity_rows) (flat_map f measured ++ flat_map f warned) (flat_map row_names measured_rows ++ warned_names) said.identity_named
-      (sub_append (flat_map f measured) (flat_map row_names measured_rows) (flat_map f warned) warned_names said.measured_named said.warned_named))
+      (sub_append (flat_map f identity) (flat_map row_names identity_rows) (flat_map f measured ++ flat_map f warned) (flat_map row_names measured_rows ++ warned_names) content.identity_named
+      (sub_append (flat_map f measured) (flat_map row_names measured_rows) (flat_map f warned) warned_names content.measured_named content.warned_named))
 
-  last_names : (fault : Option (List ℕ)) → Sub (names_of (flat_map (entry_metrics all told) (identity ++ (measured ++ warned)) ++ fault_metrics fault))
+  last_names : (fault : Option (List ℕ)) → Sub (names_of (flat_map (entry_metrics all each_flag) (identity ++ (measured ++ warned)) ++ fault_metrics fault))
       ((flat_map row_names identity_rows ++ (flat_map row_names measured_rows ++ warned_names)) ++ fault_name ∷ [])
   last_names fault =
-      let entries = flat_map (entry_metrics all told) (identity ++ (measured ++ warned)) in
+      let entries = flat_map (entry_metrics all each_flag) (identity ++ (measured ++ warned)) in
       let rows = flat_map row_names identity_rows ++ (flat_map row_names measured_rows ++ warned_names) in
       subst (λ zs. Sub zs (rows ++ fault_name ∷ [])) (sym (map-append (λ (m : Metric). m.name) entries (fault_metrics fault)))
       (sub_append (names_of entries) rows (names_of (fault_metrics fault)) (fault_name ∷ []) entries_names (fault_names fault))
 
   -- with metrics of VDM after them
   more_names : (fault : Option (List ℕ)) (more : List Metric) → Sub (names_of more) vdm_names
-      → Sub (names_of ((flat_map (entry_metrics all told) (identity ++ (measured ++ warned)) ++ fault_metrics fault) ++ more))
+      → Sub (names_of ((flat_map (entry_metrics all each_flag) (identity ++ (measured ++ warned)) ++ fault_metrics fault) ++ more))
       (((flat_map row_names identity_rows ++ (flat_map row_names measured_rows ++ warned_names)) ++ fault_name ∷ []) ++ vdm_names)
   more_names fault more named =
-      let first = flat_map (entry_metrics all told) (identity ++ (measured ++ warned)) ++ fault_metrics fault in
+      let first = flat_map (entry_metrics all each_flag) (identity ++ (measured ++ warned)) ++ fault_metrics fault in
       let rows = (flat_map row_names identity_rows ++ (flat_map row_names measured_rows ++ warned_names)) ++ fault_name ∷ [] in
       subst (λ zs. Sub zs (rows ++ vdm_names)) (sym (map-append (λ (m : Metric). m.name) first more))
       (sub_append (names_of first) rows (names_of more) vdm_names (last_names fault) named)
 
   pub module_right : (fault : Option (List ℕ)) (more : List Metric) → AllByRecursion (IsMetric common) more → Sub (names_of more) vdm_names
-      → AreMetrics common (module_metrics all told identity measured warned fault ++ more)
+      → AreMetrics common (module_metrics all each_flag identity measured warned fault ++ more)
   unfolding module_metrics info_metric sums_metric metric
   module_right fault more more_right named =
-      let entries = flat_map (entry_metrics all told) (identity ++ (measured ++ warned)) in
+      let entries = flat_map (entry_metrics all each_flag) (identity ++ (measured ++ warned)) in
       let last = names_of ((entries ++ fault_metrics fault) ++ more) in
       let rows = ((flat_map row_names identity_rows ++ (flat_map row_names measured_rows ++ warned_names)) ++ fault_name ∷ []) ++ vdm_names in
       let names = all_names identity_rows measured_rows warned_names in
       let sub : Sub (info_name ∷ sums_name ∷ last) (info_name ∷ sums_name ∷ rows) = inr (sums_name ∷ last, refl, inr (last, refl, more_names fault more named)) in
       record {
         each = (
-          info_right common added identity identity_rows said.identity_keys right.keys_own right.keys_new,
+          info_right common added identity identity_rows content.identity_keys right.keys_own right.keys_new,
           (
             sums_right,
             both (IsMetric common) (entries ++ fault_metrics fault) more
                 (both (IsMetric common) entries (fault_metrics fault)
-                (entries_right (identity ++ (measured ++ warned)) (both EntryIsPlain identity (measured ++ warned) said.identity_plain (both EntryIsPlain measured warned said.measured_plain said.warned_plain)))
+                (entries_right (identity ++ (measured ++ warned)) (both EntryIsPlain identity (measured ++ warned) content.identity_plain (both EntryIsPlain measured warned content.measured_plain content.warned_plain)))
                 (fault_right fault))
                 more_right,
           ),

@@ -2,7 +2,7 @@
 use Rattle.std.proofs.Common.{◌≡◌, ◌≢◌, List, [], Option, None, Some, Result, Ok, Err, sym, ap}
 use Rattle.report_entries.specs.declared.entry.Entry as rust
 use Rattle.report_entries.specs.Entries.{Entry}
-use Rattle.reports.specs.Answered.{Says}
+use Rattle.reports.specs.Answered.{AreEntries}
 use Rattle.reports.specs.declared.fault.ReportFault.{ReportFault}
 use Rattle.reports.specs.declared.fault.ReportFault.TheVariants.{Memory}
 use Rattle.module_metrics.specs.Unless.{unless}
@@ -12,9 +12,9 @@ fault_of (Ok x) = None
 fault_of (Err fault) = Some fault
 
 -- another fault than out of memory is the report's own
-pub refused_is : (refused : Option ReportFault) (entries : List Entry) (fault : ReportFault) → fault ≢ Memory → Says refused entries (Err fault) → refused ≡ Some fault
+pub refused_is : (refused : Option ReportFault) (entries : List Entry) (fault : ReportFault) → fault ≢ Memory → AreEntries refused entries (Err fault) → refused ≡ Some fault
 refused_is None entries fault other says = absurd (other says)
 refused_is (Some own) entries fault other says = sym (ap fault_of says)
 
-pub nothing_said : (refused : Option ReportFault) (entries : List Entry) (fault : ReportFault) → fault ≢ Memory → Says refused entries (Err fault) → unless refused entries ≡ []
-nothing_said refused entries fault other says = ap (λ (r : Option ReportFault). unless r entries) (refused_is refused entries fault other says)
+pub no_entries : (refused : Option ReportFault) (entries : List Entry) (fault : ReportFault) → fault ≢ Memory → AreEntries refused entries (Err fault) → unless refused entries ≡ []
+no_entries refused entries fault other says = ap (λ (r : Option ReportFault). unless r entries) (refused_is refused entries fault other says)

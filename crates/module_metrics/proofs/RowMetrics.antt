@@ -13,16 +13,16 @@ use Rattle.paged_memory.specs.Images.{Memory}
 use Rattle.report_entries.specs.declared.flag.Flag.{Flag}
 use Rattle.report_entries.specs.declared.printed_unit.PrintedUnit.TheVariants.{Metre}
 use Rattle.report_entries.specs.Entries.{Entry, entry}
-use Rattle.report_entries.specs.Rows.{Row, Source, Instead, Word, Either, Code, Revision, Next, Text, Oui, Right, Amount, Length, Lanes, Limits, State, LaneStates, Nothing, Says, decided_entries, deciding, instead_fits, printed_unit, row_entries, row_fits, rows_entries, source_fits, source_said}
+use Rattle.report_entries.specs.Rows.{Row, Source, Instead, Word, Either, Code, Revision, Next, Text, Oui, Right, Amount, Length, Lanes, Limits, State, LaneStates, Nothing, Wording, decided_entries, deciding, instead_fits, printed_unit, row_entries, row_fits, rows_entries, source_fits, source_content}
 use Rattle.module_metrics.specs.Amounts.{lanes_metric, limits_metric, module_metric}
 use Rattle.module_metrics.specs.CommonLabels.{is_label, row_keys}
 use Rattle.module_metrics.specs.declared.name.Scope.TheVariants.{Module, Lane, Limit}
 use Rattle.module_metrics.specs.Exposition.{Label, Metric, label, metric, sample}
 use Rattle.module_metrics.specs.MetricNames.{amount_name, snake}
-use Rattle.module_metrics.specs.ModuleMetrics.{entry_labels, entry_metrics, entry_sums, info_labels, said_labels, said_metrics, said_sums}
+use Rattle.module_metrics.specs.ModuleMetrics.{content_labels, content_metrics, content_sums, entry_labels, entry_metrics, entry_sums, info_labels}
 use Rattle.module_metrics.specs.StateMetrics.{paths_metric, paths_name, state_metric, state_name, statuses_metric, statuses_name}
 use Rattle.module_metrics.specs.WellFormed.{keys}
-use Rattle.module_metrics.proofs.SaidMetrics.{IsPlain, labels_of}
+use Rattle.module_metrics.proofs.ContentMetrics.{IsPlain, labels_of}
 use Rattle.module_metrics.proofs.Sublists.{Sub, sub_all, sub_append, sub_none}
 
 -- ---- of each entry some of what its row has
@@ -63,7 +63,7 @@ abbrev pub names_of : List Metric → List (List ℕ)
 names_of metrics = map (λ (m : Metric). m.name) metrics
 
 abbrev pub entry_names : Bool → List (Flag × Bool) → Entry → List (List ℕ)
-entry_names all told e = names_of (entry_metrics all told e)
+entry_names all each_flag e = names_of (entry_metrics all each_flag e)
 
 abbrev source_names : List ℕ → Source → List (List ℕ)
 source_names name (Word w) = []
@@ -84,33 +84,33 @@ source_names name (LaneStates paths statuses) = paths_name ∷ statuses_name ∷
 abbrev pub row_names : Row → List (List ℕ)
 row_names row = source_names row.name row.source
 
-same_names : (all : Bool) (told : List (Flag × Bool)) (memory : Memory) (name : List ℕ) (s : Source) → names_of (said_metrics all told name (source_said memory s)) ≡ source_names name s
-unfolding said_metrics source_said module_metric lanes_metric limits_metric state_metric paths_metric statuses_metric metric
-same_names all told memory name (Word w) = refl
-same_names all told memory name (Either field one other) = refl
-same_names all told memory name (Code field) = refl
-same_names all told memory name (Revision field) = refl
-same_names all told memory name (Next field) = refl
-same_names all told memory name (Text field) = refl
-same_names all told memory name (Oui field) = refl
-same_names all told memory name (Right sum) = refl
-same_names all told memory name (Amount field) = refl
-same_names all told memory name (Length base power) = refl
-same_names all told memory name (Lanes field power) = refl
-same_names all told memory name (Limits field power) = refl
-same_names all told memory name (State field) = refl
-same_names all told memory name (LaneStates paths statuses) = refl
+same_names : (all : Bool) (each_flag : List (Flag × Bool)) (memory : Memory) (name : List ℕ) (s : Source) → names_of (content_metrics all each_flag name (source_content memory s)) ≡ source_names name s
+unfolding content_metrics source_content module_metric lanes_metric limits_metric state_metric paths_metric statuses_metric metric
+same_names all each_flag memory name (Word w) = refl
+same_names all each_flag memory name (Either field one other) = refl
+same_names all each_flag memory name (Code field) = refl
+same_names all each_flag memory name (Revision field) = refl
+same_names all each_flag memory name (Next field) = refl
+same_names all each_flag memory name (Text field) = refl
+same_names all each_flag memory name (Oui field) = refl
+same_names all each_flag memory name (Right sum) = refl
+same_names all each_flag memory name (Amount field) = refl
+same_names all each_flag memory name (Length base power) = refl
+same_names all each_flag memory name (Lanes field power) = refl
+same_names all each_flag memory name (Limits field power) = refl
+same_names all each_flag memory name (State field) = refl
+same_names all each_flag memory name (LaneStates paths statuses) = refl
 
-names_decided : (all : Bool) (told : List (Flag × Bool)) (memory : Memory) (row : Row) (o : Option Instead) → Sub (flat_map (entry_names all told) (decided_entries memory row o)) (row_names row)
-unfolding entry said_metrics
-names_decided all told memory row None =
-    subst (λ zs. Sub zs (row_names row)) (sym (append-nil (names_of (said_metrics all told row.name (source_said memory row.source))) ∙ same_names all told memory row.name row.source)) (sub_all (row_names row))
-names_decided all told memory row (Some (Nothing field n)) = sub_none (row_names row)
-names_decided all told memory row (Some (Says field n w)) = sub_none (row_names row)
+names_decided : (all : Bool) (each_flag : List (Flag × Bool)) (memory : Memory) (row : Row) (o : Option Instead) → Sub (flat_map (entry_names all each_flag) (decided_entries memory row o)) (row_names row)
+unfolding entry content_metrics
+names_decided all each_flag memory row None =
+    subst (λ zs. Sub zs (row_names row)) (sym (append-nil (names_of (content_metrics all each_flag row.name (source_content memory row.source))) ∙ same_names all each_flag memory row.name row.source)) (sub_all (row_names row))
+names_decided all each_flag memory row (Some (Nothing field n)) = sub_none (row_names row)
+names_decided all each_flag memory row (Some (Wording field n w)) = sub_none (row_names row)
 
-pub names_sub : (all : Bool) (told : List (Flag × Bool)) (memory : Memory) (flat : Bool) (rows : List Row) → Sub (flat_map (entry_names all told) (rows_entries memory flat rows)) (flat_map row_names rows)
-names_sub all told memory flat rows =
-    rows_sub (entry_names all told) row_names memory flat any_row (λ row fit. names_decided all told memory row (deciding memory row.instead)) rows (all_any rows)
+pub names_sub : (all : Bool) (each_flag : List (Flag × Bool)) (memory : Memory) (flat : Bool) (rows : List Row) → Sub (flat_map (entry_names all each_flag) (rows_entries memory flat rows)) (flat_map row_names rows)
+names_sub all each_flag memory flat rows =
+    rows_sub (entry_names all each_flag) row_names memory flat any_row (λ row fit. names_decided all each_flag memory row (deciding memory row.instead)) rows (all_any rows)
 
 -- ---- sums
 
@@ -136,8 +136,8 @@ source_sums name (LaneStates paths statuses) = []
 abbrev pub row_sums : Row → List (List Label)
 row_sums row = source_sums row.name row.source
 
-same_sums : (memory : Memory) (name : List ℕ) (s : Source) → map labels_of (said_sums name (source_said memory s)) ≡ source_sums name s
-unfolding said_sums source_said sample
+same_sums : (memory : Memory) (name : List ℕ) (s : Source) → map labels_of (content_sums name (source_content memory s)) ≡ source_sums name s
+unfolding content_sums source_content sample
 same_sums memory name (Word w) = refl
 same_sums memory name (Either field one other) = refl
 same_sums memory name (Code field) = refl
@@ -154,11 +154,11 @@ same_sums memory name (State field) = refl
 same_sums memory name (LaneStates paths statuses) = refl
 
 sums_decided : (memory : Memory) (row : Row) (o : Option Instead) → Sub (flat_map sum_labels (decided_entries memory row o)) (row_sums row)
-unfolding entry said_sums
+unfolding entry content_sums
 sums_decided memory row None =
-    subst (λ zs. Sub zs (row_sums row)) (sym (append-nil (map labels_of (said_sums row.name (source_said memory row.source))) ∙ same_sums memory row.name row.source)) (sub_all (row_sums row))
+    subst (λ zs. Sub zs (row_sums row)) (sym (append-nil (map labels_of (content_sums row.name (source_content memory row.source))) ∙ same_sums memory row.name row.source)) (sub_all (row_sums row))
 sums_decided memory row (Some (Nothing field n)) = sub_none (row_sums row)
-sums_decided memory row (Some (Says field n w)) = sub_none (row_sums row)
+sums_decided memory row (Some (Wording field n w)) = sub_none (row_sums row)
 
 pub sums_sub : (memory : Memory) (flat : Bool) (rows : List Row) → Sub (flat_map sum_labels (rows_entries memory flat rows)) (flat_map row_sums rows)
 sums_sub memory flat rows =
@@ -169,8 +169,8 @@ sums_sub memory flat rows =
 abbrev pub entry_keys : Entry → List (List ℕ)
 entry_keys e = keys (entry_labels e)
 
-same_keys : (memory : Memory) (name : List ℕ) (s : Source) → keys (said_labels name (source_said memory s)) ≡ (if is_label s then snake name ∷ [] else [])
-unfolding said_labels source_said label
+same_keys : (memory : Memory) (name : List ℕ) (s : Source) → keys (content_labels name (source_content memory s)) ≡ (if is_label s then snake name ∷ [] else [])
+unfolding content_labels source_content label
 same_keys memory name (Word w) = refl
 same_keys memory name (Either field one other) = refl
 same_keys memory name (Code field) = refl
@@ -202,7 +202,7 @@ keys_decided : (memory : Memory) (row : Row) → is_sure row ≡ true → Sub (f
 unfolding entry
 keys_decided memory row sure =
     subst (λ o. Sub (flat_map entry_keys (decided_entries memory row o)) (row_keys row)) (sym (none_decides memory row.instead sure))
-    (subst (λ zs. Sub zs (row_keys row)) (sym (append-nil (keys (said_labels row.name (source_said memory row.source))) ∙ same_keys memory row.name row.source)) (sub_all (row_keys row)))
+    (subst (λ zs. Sub zs (row_keys row)) (sym (append-nil (keys (content_labels row.name (source_content memory row.source))) ∙ same_keys memory row.name row.source)) (sub_all (row_keys row)))
 
 pub keys_sub : (memory : Memory) (flat : Bool) (rows : List Row) → list_all is_sure rows ≡ true → Sub (keys (info_labels (rows_entries memory flat rows))) (flat_map row_keys rows)
 keys_sub memory flat rows sure =
@@ -211,8 +211,8 @@ keys_sub memory flat rows sure =
 
 -- ---- as many lanes as a module has
 
-source_plain : (memory : Memory) (s : Source) → source_fits s ≡ true → IsPlain (source_said memory s)
-unfolding source_said
+source_plain : (memory : Memory) (s : Source) → source_fits s ≡ true → IsPlain (source_content memory s)
+unfolding source_content
 source_plain memory (Word w) fits = tt
 source_plain memory (Either field one other) fits = tt
 source_plain memory (Code field) fits = tt
@@ -233,13 +233,13 @@ source_plain memory (State field) fits = tt
 source_plain memory (LaneStates paths statuses) fits = omega arith
 
 abbrev pub EntryIsPlain : Entry → Type 0
-EntryIsPlain e = IsPlain e.said
+EntryIsPlain e = IsPlain e.content
 
 plain_decided : (memory : Memory) (row : Row) → row_fits row ≡ true → (o : Option Instead) → AllByRecursion EntryIsPlain (decided_entries memory row o)
 unfolding entry
 plain_decided memory row fits None = (source_plain memory row.source ((and_parts (list_all instead_fits row.instead) (source_fits row.source) fits).1), tt)
 plain_decided memory row fits (Some (Nothing field n)) = tt
-plain_decided memory row fits (Some (Says field n w)) = (tt, tt)
+plain_decided memory row fits (Some (Wording field n w)) = (tt, tt)
 
 plain_kept : (memory : Memory) (row : Row) → row_fits row ≡ true → (hidden : Bool) → AllByRecursion EntryIsPlain (if hidden then [] else decided_entries memory row (deciding memory row.instead))
 plain_kept memory row fits true = tt

@@ -19,7 +19,7 @@ use Rattle.module_metrics.specs.declared.vdm_metrics.Seen.{Seen}
 use Rattle.module_metrics.specs.declared.vdm_name.Measure.{Measure}
 use Rattle.module_metrics.proofs.RightMetrics.{all_append, all_then, is_own, labels_right}
 use Rattle.module_metrics.proofs.RowMetrics.{made_flat, names_of}
-use Rattle.module_metrics.proofs.SaidMetrics.{labels_of}
+use Rattle.module_metrics.proofs.ContentMetrics.{labels_of}
 use Rattle.module_metrics.proofs.SeenInstances.{AreNumbered, apart_append, numbers}
 use Rattle.module_metrics.proofs.Sublists.{Sub, apart_by, apart_sub, sub_all, sub_append, sub_flat, sub_none}
 use Rattle.module_metrics.proofs.Tested.{tested}

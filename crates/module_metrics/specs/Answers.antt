@@ -7,7 +7,7 @@ use Rattle.report_entries.specs.declared.flag.Flag.{Flag}
 use Rattle.report_entries.specs.Shown.{printable}
 use Rattle.reports.specs.declared.fault.ReportFault.{ReportFault}
 use Rattle.reports.specs.FaultWords.{report_fault_words}
-use Rattle.reports.specs.Reports.{flags_entries, flags_fault, flags_told, inventory_entries, inventory_fault, monitors_entries, monitors_fault}
+use Rattle.reports.specs.Reports.{flag_states, flags_entries, flags_fault, inventory_entries, inventory_fault, monitors_entries, monitors_fault}
 use Rattle.module_metrics.specs.Exposition.{Label, Metric, exposition}
 use Rattle.module_metrics.specs.ModuleMetrics.{fault_metrics, module_metrics}
 use Rattle.module_metrics.specs.Unless.{unless}
@@ -21,14 +21,14 @@ code_of fault = printable (get_or (report_fault_words fault) 0 [])
 unfoldable pub first_fault : Memory → Option ReportFault
 first_fault memory = option_or (option_or (inventory_fault memory) (monitors_fault memory)) (flags_fault memory)
 
--- whether a flag is raised is told of each only if that is asked for
-unfoldable pub told_flags : Bool → Memory → List (Flag × Bool)
-told_flags all memory = if all then unless (flags_fault memory) (flags_told memory) else []
+-- each flag with its state, only if that is requested
+unfoldable pub requested_flags : Bool → Memory → List (Flag × Bool)
+requested_flags all memory = if all then unless (flags_fault memory) (flag_states memory) else []
 
 -- with those of VDM, or without
 unfoldable pub metrics_of : Bool → Bool → Memory → List Metric
 metrics_of all with_vdm memory =
-    module_metrics all (told_flags all memory)
+    module_metrics all (requested_flags all memory)
     (unless (inventory_fault memory) (inventory_entries memory))
     (unless (monitors_fault memory) (monitors_entries memory))
     (unless (flags_fault memory) (flags_entries memory))

@@ -21,7 +21,7 @@ pub record Sample : Type 0 where
 unfoldable pub sample : List Label → ℤ → ℕ → Sample
 sample labels z places = record { labels = labels; number = parts z places }
 
--- what is told under a name
+-- what stands under a name
 pub record Metric : Type 0 where
   pub name : List ℕ
   pub help : List ℕ

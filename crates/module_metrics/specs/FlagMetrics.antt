@@ -20,7 +20,7 @@ lane_labels (Some lane) = label (codes "lane") (decimal lane) ∷ []
 unfoldable pub flag_sample : Flag × Bool → Sample
 flag_sample f = sample (label (codes "flag") (flag_name f.0.name) ∷ lane_labels f.0.lane) (truth f.1) 0
 
--- of those told, the flags of lanes or those of the module
+-- of these flags, those of lanes or those of the module
 abbrev pub is_in : Bool → Flag × Bool → Bool
 is_in lanes f = if lanes then is_some f.0.lane else not (is_some f.0.lane)
 

@@ -3,7 +3,7 @@ pub mod Scaled
 pub mod Numbers
 pub mod Exposition
 pub mod LabelCode
-pub mod Told
+pub mod MetricData
 pub mod BaseUnits
 pub mod MetricNames
 pub mod Amounts

@@ -4,7 +4,7 @@ use Rattle.std.specs.Fmt.{decimal}
 use Rattle.std.specs.List.{flat_map}
 use Rattle.hex.specs.Hex.{encode_lower}
 use Rattle.report_entries.specs.declared.flag.Flag.{Flag}
-use Rattle.report_entries.specs.Entries.{Entry, Said, word, right, number, code, revision, text, oui, amount, lanes, limits, state, lane_states, flags, apps, lane_set, fact}
+use Rattle.report_entries.specs.Entries.{Entry, Content, word, right, number, code, revision, text, oui, amount, lanes, limits, state, lane_states, flags, apps, lane_set, fact}
 use Rattle.report_entries.specs.Shown as shown
 use Rattle.report_entries.specs.Shown.{byte_code, printable}
 use Rattle.module_metrics.specs.Amounts.{lanes_metric, limits_metric, module_metric}
@@ -15,26 +15,26 @@ use Rattle.module_metrics.specs.StateMetrics.{paths_metric, state_metric, status
 
 -- ---- what the module is: one sample, whose labels have all that is a text or a number
 
-unfoldable pub said_labels : List ℕ → Said → List Label
-said_labels name (word w) = label (snake name) w ∷ []
-said_labels name (number n) = label (snake name) (decimal n) ∷ []
-said_labels name (code byte) = label (snake name) (byte_code byte) ∷ []
-said_labels name (revision byte) = label (snake name) (shown.revision byte) ∷ []
-said_labels name (text bytes) = label (snake name) (printable bytes) ∷ []
-said_labels name (oui bytes) = label (snake name) (encode_lower bytes) ∷ []
-said_labels name (right is_right) = []
-said_labels name (amount millis unit) = []
-said_labels name (lanes values unit) = []
-said_labels name (limits levels unit) = []
-said_labels name (state n) = []
-said_labels name (lane_states states) = []
-said_labels name (flags raised) = []
-said_labels name (apps listed) = []
-said_labels name (lane_set set) = []
-said_labels name (fact place f) = []
+unfoldable pub content_labels : List ℕ → Content → List Label
+content_labels name (word w) = label (snake name) w ∷ []
+content_labels name (number n) = label (snake name) (decimal n) ∷ []
+content_labels name (code byte) = label (snake name) (byte_code byte) ∷ []
+content_labels name (revision byte) = label (snake name) (shown.revision byte) ∷ []
+content_labels name (text bytes) = label (snake name) (printable bytes) ∷ []
+content_labels name (oui bytes) = label (snake name) (encode_lower bytes) ∷ []
+content_labels name (right is_right) = []
+content_labels name (amount millis unit) = []
+content_labels name (lanes values unit) = []
+content_labels name (limits levels unit) = []
+content_labels name (state n) = []
+content_labels name (lane_states states) = []
+content_labels name (flags raised) = []
+content_labels name (apps listed) = []
+content_labels name (lane_set set) = []
+content_labels name (fact place f) = []
 
 abbrev pub entry_labels : Entry → List Label
-entry_labels e = said_labels e.name e.said
+entry_labels e = content_labels e.name e.content
 
 abbrev pub info_labels : List Entry → List Label
 info_labels entries = flat_map entry_labels entries
@@ -55,26 +55,26 @@ info_metric entries = metric info_name info_help (info_samples entries)
 
 -- ---- sums
 
-unfoldable pub said_sums : List ℕ → Said → List Sample
-said_sums name (right is_right) = sample (label (codes "sum") name ∷ []) (truth is_right) 0 ∷ []
-said_sums name (word w) = []
-said_sums name (number n) = []
-said_sums name (code byte) = []
-said_sums name (revision byte) = []
-said_sums name (text bytes) = []
-said_sums name (oui bytes) = []
-said_sums name (amount millis unit) = []
-said_sums name (lanes values unit) = []
-said_sums name (limits levels unit) = []
-said_sums name (state n) = []
-said_sums name (lane_states states) = []
-said_sums name (flags raised) = []
-said_sums name (apps listed) = []
-said_sums name (lane_set set) = []
-said_sums name (fact place f) = []
+unfoldable pub content_sums : List ℕ → Content → List Sample
+content_sums name (right is_right) = sample (label (codes "sum") name ∷ []) (truth is_right) 0 ∷ []
+content_sums name (word w) = []
+content_sums name (number n) = []
+content_sums name (code byte) = []
+content_sums name (revision byte) = []
+content_sums name (text bytes) = []
+content_sums name (oui bytes) = []
+content_sums name (amount millis unit) = []
+content_sums name (lanes values unit) = []
+content_sums name (limits levels unit) = []
+content_sums name (state n) = []
+content_sums name (lane_states states) = []
+content_sums name (flags raised) = []
+content_sums name (apps listed) = []
+content_sums name (lane_set set) = []
+content_sums name (fact place f) = []
 
 abbrev pub entry_sums : Entry → List Sample
-entry_sums e = said_sums e.name e.said
+entry_sums e = content_sums e.name e.content
 
 unfoldable pub sums_name : List ℕ
 sums_name = codes "dovecounter_module_checksum_right"
@@ -85,34 +85,34 @@ sums_help = codes "whether a sum of the module's memory is right"
 unfoldable pub sums_metric : List Entry → Metric
 sums_metric entries = metric sums_name sums_help (flat_map entry_sums entries)
 
--- ---- what an entry says by itself
+-- ---- the metrics of an entry by itself
 
--- all flags as they are told, if that is asked for, else those that are raised
+-- each flag, if that is asked for, else those that are raised
 abbrev pub shown_flags : Bool → List (Flag × Bool) → List Flag → List (Flag × Bool)
-shown_flags all told raised = if all then told else each_raised raised
+shown_flags all each_flag raised = if all then each_flag else each_raised raised
 
-unfoldable pub said_metrics : Bool → List (Flag × Bool) → List ℕ → Said → List Metric
-said_metrics all told name (amount millis unit) = module_metric name unit millis ∷ []
-said_metrics all told name (lanes values unit) = lanes_metric name unit values ∷ []
-said_metrics all told name (limits levels unit) = limits_metric name unit levels ∷ []
-said_metrics all told name (state n) = state_metric name n ∷ []
-said_metrics all told name (lane_states states) = paths_metric states ∷ statuses_metric states ∷ []
-said_metrics all told name (flags raised) = flag_metrics (shown_flags all told raised)
-said_metrics all told name (word w) = []
-said_metrics all told name (right is_right) = []
-said_metrics all told name (number n) = []
-said_metrics all told name (code byte) = []
-said_metrics all told name (revision byte) = []
-said_metrics all told name (text bytes) = []
-said_metrics all told name (oui bytes) = []
-said_metrics all told name (apps listed) = []
-said_metrics all told name (lane_set set) = []
-said_metrics all told name (fact place f) = []
+unfoldable pub content_metrics : Bool → List (Flag × Bool) → List ℕ → Content → List Metric
+content_metrics all each_flag name (amount millis unit) = module_metric name unit millis ∷ []
+content_metrics all each_flag name (lanes values unit) = lanes_metric name unit values ∷ []
+content_metrics all each_flag name (limits levels unit) = limits_metric name unit levels ∷ []
+content_metrics all each_flag name (state n) = state_metric name n ∷ []
+content_metrics all each_flag name (lane_states states) = paths_metric states ∷ statuses_metric states ∷ []
+content_metrics all each_flag name (flags raised) = flag_metrics (shown_flags all each_flag raised)
+content_metrics all each_flag name (word w) = []
+content_metrics all each_flag name (right is_right) = []
+content_metrics all each_flag name (number n) = []
+content_metrics all each_flag name (code byte) = []
+content_metrics all each_flag name (revision byte) = []
+content_metrics all each_flag name (text bytes) = []
+content_metrics all each_flag name (oui bytes) = []
+content_metrics all each_flag name (apps listed) = []
+content_metrics all each_flag name (lane_set set) = []
+content_metrics all each_flag name (fact place f) = []
 
 abbrev pub entry_metrics : Bool → List (Flag × Bool) → Entry → List Metric
-entry_metrics all told e = said_metrics all told e.name e.said
+entry_metrics all each_flag e = content_metrics all each_flag e.name e.content
 
--- ---- why a report says nothing
+-- ---- why a report has no entries
 
 unfoldable pub fault_name : List ℕ
 fault_name = codes "dovecounter_fault"
@@ -132,7 +132,7 @@ fault_metrics (Some fault_code) = fault_metric fault_code ∷ []
 
 -- of what the module is, what it measures, its states and flags, and the first fault by its code
 unfoldable pub module_metrics : Bool → List (Flag × Bool) → List Entry → List Entry → List Entry → Option (List ℕ) → List Metric
-module_metrics all told identity measured warned fault =
+module_metrics all each_flag identity measured warned fault =
     info_metric identity
     ∷ sums_metric (identity ++ measured)
-    ∷ (flat_map (entry_metrics all told) (identity ++ (measured ++ warned)) ++ fault_metrics fault)
+    ∷ (flat_map (entry_metrics all each_flag) (identity ++ (measured ++ warned)) ++ fault_metrics fault)

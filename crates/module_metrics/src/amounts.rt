@@ -1,7 +1,7 @@
 // The metrics of a report's amounts.
 ghost use Rattle.std.specs.Prelude.{◌≡◌, ◌++◌, ◌∷◌, [], ◌≤◌, IfOk, OnOk, length};
 ghost use Rattle.module_metrics.specs.Amounts.{amount_metric, lane_sample, lane_samples, lanes_metric, limit_sample, limit_samples, limits_metric, module_metric};
-ghost use Rattle.module_metrics.specs.Told.{metrics_in, samples_in};
+ghost use Rattle.module_metrics.specs.MetricData.{metrics_in, samples_in};
 
 use crate::base_unit::scale_of;
 use crate::metric::{

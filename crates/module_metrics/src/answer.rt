@@ -1,17 +1,17 @@
 // What is answered to an image.
 ghost use Rattle.std.specs.Prelude.{◌≡◌, ◌++◌, [], List, Option, IfErr, IfOk, OnOk, None, Some, get_or, option_map, map};
 ghost use Rattle.std.specs.Option.{option_or};
-ghost use Rattle.report_entries.specs.Entries.{Entry as SpecEntry, entry_of, said_in};
+ghost use Rattle.report_entries.specs.Entries.{Entry as SpecEntry, as_entries, entry_of};
 ghost use Rattle.reports.specs.declared.fault.ReportFault.{ReportFault as SpecFault};
 ghost use Rattle.reports.specs.declared.fault.ReportFault.TheVariants.{Memory};
-ghost use Rattle.reports.specs.Answered.{Says};
+ghost use Rattle.reports.specs.Answered.{AreEntries};
 ghost use Rattle.reports.specs.Reports.{flags_entries, flags_fault, inventory_entries, inventory_fault, monitors_entries, monitors_fault};
 ghost use Rattle.module_metrics.specs.AddedLabels.{AreAdded};
-ghost use Rattle.module_metrics.specs.Answers.{code_of, fault_text, first_fault, metrics_of, told_flags};
+ghost use Rattle.module_metrics.specs.Answers.{code_of, fault_text, first_fault, metrics_of, requested_flags};
 ghost use Rattle.module_metrics.specs.Unless.{unless};
 ghost use Rattle.module_metrics.specs.Exposition.{exposition};
 ghost use Rattle.module_metrics.specs.ModuleMetrics.{fault_metrics, module_metrics};
-ghost use Rattle.module_metrics.specs.Told.{metrics_in};
+ghost use Rattle.module_metrics.specs.MetricData.{metrics_in};
 
 use crate::exposition;
 use crate::labels::Labels;
@@ -21,7 +21,7 @@ use crate::scale::Scale;
 use crate::vdm_metrics::add_listed;
 use paged_memory::Image;
 use report_entries::{Entry, Flag, TextIn};
-use reports::{ReportFault, flags_entries, flags_told, inventory_entries, monitors_entries};
+use reports::{ReportFault, flag_states, flags_entries, inventory_entries, monitors_entries};
 use std::alloc::{AllocError, Global};
 use text_lines::{PrintedWords, ToWords};
 
@@ -33,8 +33,8 @@ pub struct Answer {
 }
 
 /// What the reports of the module of an image say, and then, if asked for, what it lists itself (VDM), as metrics whose samples all have these labels.
-/// Of its flags those that are raised are told, or all. The only refusal is out of memory: a report that has a fault says nothing, and the first fault is a metric.
-#[tactic(auto, unfolding(crate::specs::Answers::metrics_of, crate::specs::Answers::first_fault, crate::specs::Told::metrics_in, report_entries::specs::Entries::said_in))]
+/// Of its flags those that are raised are told, or all. The only refusal is out of memory: a report that has a fault has no entries, and the first fault is a metric.
+#[tactic(auto, unfolding(crate::specs::Answers::metrics_of, crate::specs::Answers::first_fault, crate::specs::MetricData::metrics_in, report_entries::specs::Entries::as_entries))]
 pub fn metrics(
     alloc: Global,
     image: &Image,
@@ -51,8 +51,8 @@ pub fn metrics(
     let identity = identity(alloc, image, &mut fault)?;
     let measured = measured(alloc, image, &mut fault)?;
     let warned = warned(alloc, image, &mut fault)?;
-    let told = told(alloc, image, all)?;
-    let mut metrics = module_metrics(alloc, all, &told, &identity, &measured, &warned, fault)?;
+    let flags = requested_flags(alloc, image, all)?;
+    let mut metrics = module_metrics(alloc, all, &flags, &identity, &measured, &warned, fault)?;
     add_listed(alloc, &mut metrics, image, with_vdm)?;
     Ok(Answer {
         text: exposition::text(alloc, labels.as_slice(), &metrics)?,
@@ -61,7 +61,7 @@ pub fn metrics(
 }
 
 /// The metrics if there is no image to report on, since reading it ended with this fault.
-#[tactic(auto, unfolding(crate::specs::Answers::fault_text, crate::specs::Told::metrics_in))]
+#[tactic(auto, unfolding(crate::specs::Answers::fault_text, crate::specs::MetricData::metrics_in))]
 pub fn fault_metrics(
     alloc: Global,
     fault: ReportFault,
@@ -80,11 +80,11 @@ fn identity(
     image: &Image,
     first: &mut Option<ReportFault>,
 ) -> Result<Vec<Entry>, ReportFault>
-    ensures entries { IfOk result (λ told. said_in told ≡ unless (inventory_fault image.now) (inventory_entries image.now)) }
+    ensures entries { IfOk result (λ found. as_entries found ≡ unless (inventory_fault image.now) (inventory_entries image.now)) }
     ensures first { OnOk result (first.new ≡ option_or first.old (inventory_fault image.now)) }
     ensures memory { IfErr result (λ refusal. refusal ≡ Memory) }
 {
-    said(alloc, first, inventory_entries(alloc, image))
+    entries_or_none(alloc, first, inventory_entries(alloc, image))
 }
 
 // What it measures.
@@ -93,11 +93,11 @@ fn measured(
     image: &Image,
     first: &mut Option<ReportFault>,
 ) -> Result<Vec<Entry>, ReportFault>
-    ensures entries { IfOk result (λ told. said_in told ≡ unless (monitors_fault image.now) (monitors_entries image.now)) }
+    ensures entries { IfOk result (λ found. as_entries found ≡ unless (monitors_fault image.now) (monitors_entries image.now)) }
     ensures first { OnOk result (first.new ≡ option_or first.old (monitors_fault image.now)) }
     ensures memory { IfErr result (λ refusal. refusal ≡ Memory) }
 {
-    said(alloc, first, monitors_entries(alloc, image))
+    entries_or_none(alloc, first, monitors_entries(alloc, image))
 }
 
 // Its states, and the flags that are raised.
@@ -106,22 +106,22 @@ fn warned(
     image: &Image,
     first: &mut Option<ReportFault>,
 ) -> Result<Vec<Entry>, ReportFault>
-    ensures entries { IfOk result (λ told. said_in told ≡ unless (flags_fault image.now) (flags_entries image.now)) }
+    ensures entries { IfOk result (λ found. as_entries found ≡ unless (flags_fault image.now) (flags_entries image.now)) }
     ensures first { OnOk result (first.new ≡ option_or first.old (flags_fault image.now)) }
     ensures memory { IfErr result (λ refusal. refusal ≡ Memory) }
 {
-    said(alloc, first, flags_entries(alloc, image))
+    entries_or_none(alloc, first, flags_entries(alloc, image))
 }
 
-// What a report says, nothing if it has a fault, which is kept if it is the first.
-fn said(
+// The entries of a report, none if it has a fault, which is kept if it is the first.
+fn entries_or_none(
     alloc: Global,
     first: &mut Option<ReportFault>,
     report: Result<Vec<Entry>, ReportFault>,
 ) -> Result<Vec<Entry>, ReportFault>
-    ensures entries { (refused : Option SpecFault) (entries : List SpecEntry) → Says refused entries report
-        → IfOk result (λ told. said_in told ≡ unless refused entries) }
-    ensures first { (refused : Option SpecFault) (entries : List SpecEntry) → Says refused entries report
+    ensures entries { (refused : Option SpecFault) (entries : List SpecEntry) → AreEntries refused entries report
+        → IfOk result (λ found. as_entries found ≡ unless refused entries) }
+    ensures first { (refused : Option SpecFault) (entries : List SpecEntry) → AreEntries refused entries report
         → OnOk result (first.new ≡ option_or first.old refused) }
     ensures memory { IfErr result (λ refusal. refusal ≡ Memory) }
 {
@@ -145,24 +145,28 @@ fn keep_first(first: &mut Option<ReportFault>, fault: ReportFault)
     }
 }
 
-#[tactic(auto, unfolding(report_entries::specs::Entries::said_in))]
+#[tactic(auto, unfolding(report_entries::specs::Entries::as_entries))]
 fn no_entries(alloc: Global) -> Vec<Entry>
-    ensures { said_in result ≡ [] }
+    ensures { as_entries result ≡ [] }
 {
     Vec::new(alloc)
 }
 
-// All flags, each with whether it is raised, if they are asked for and told.
-#[tactic(auto, unfolding(crate::specs::Answers::told_flags))]
-fn told(alloc: Global, image: &Image, all: bool) -> Result<Vec<(Flag, bool)>, ReportFault>
-    ensures told { IfOk result (λ told. told.items ≡ told_flags all image.now) }
+// All flags, each with whether it is raised, if they are asked for and their report has no fault.
+#[tactic(auto, unfolding(crate::specs::Answers::requested_flags))]
+fn requested_flags(
+    alloc: Global,
+    image: &Image,
+    all: bool,
+) -> Result<Vec<(Flag, bool)>, ReportFault>
+    ensures flags { IfOk result (λ flags. flags.items ≡ requested_flags all image.now) }
     ensures memory { IfErr result (λ refusal. refusal ≡ Memory) }
 {
     if !all {
         return Ok(Vec::new(alloc));
     }
-    match flags_told(alloc, image) {
-        Ok(told) => Ok(told),
+    match flag_states(alloc, image) {
+        Ok(flags) => Ok(flags),
         Err(fault) => match fault {
             ReportFault::Memory => Err(fault),
             _ => Ok(Vec::new(alloc)),
@@ -170,25 +174,25 @@ fn told(alloc: Global, image: &Image, all: bool) -> Result<Vec<(Flag, bool)>, Re
     }
 }
 
-#[tactic(auto, unfolding(crate::specs::ModuleMetrics::module_metrics, report_entries::specs::Entries::said_in))]
+#[tactic(auto, unfolding(crate::specs::ModuleMetrics::module_metrics, report_entries::specs::Entries::as_entries))]
 fn module_metrics(
     alloc: Global,
     all: bool,
-    told: &[(Flag, bool)],
+    each_flag: &[(Flag, bool)],
     identity: &[Entry],
     measured: &[Entry],
     warned: &[Entry],
     fault: Option<ReportFault>,
 ) -> Result<Vec<Metric>, AllocError>
-    ensures { IfOk result (λ metrics. metrics_in metrics ≡ module_metrics all told.now (map entry_of identity.now)
+    ensures { IfOk result (λ metrics. metrics_in metrics ≡ module_metrics all each_flag.now (map entry_of identity.now)
         (map entry_of measured.now) (map entry_of warned.now) (option_map code_of fault)) }
 {
     let mut metrics = no_metrics(alloc);
     add_info(alloc, &mut metrics, identity)?;
     add_sums(alloc, &mut metrics, identity, measured)?;
-    add_entries(alloc, &mut metrics, all, told, identity)?;
-    add_entries(alloc, &mut metrics, all, told, measured)?;
-    add_entries(alloc, &mut metrics, all, told, warned)?;
+    add_entries(alloc, &mut metrics, all, each_flag, identity)?;
+    add_entries(alloc, &mut metrics, all, each_flag, measured)?;
+    add_entries(alloc, &mut metrics, all, each_flag, warned)?;
     add_fault(alloc, &mut metrics, fault)?;
     Ok(metrics)
 }

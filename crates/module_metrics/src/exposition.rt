@@ -2,7 +2,7 @@
 ghost use Rattle.std.specs.Prelude.{◌≡◌, ◌++◌, ◌∷◌, [], IfOk, OnOk, false, map, true};
 ghost use Rattle.text_lines.specs.Lines.{text_of};
 ghost use Rattle.module_metrics.specs.Exposition.{bracketed, closing, escape, escaped, exposition, help_line, label_text, mark, marked, metric_lines, sample_line, type_line};
-ghost use Rattle.module_metrics.specs.Told.{label_of, metric_of, sample_of};
+ghost use Rattle.module_metrics.specs.MetricData.{label_of, metric_of, sample_of};
 
 use crate::metric::{Label, Metric, Sample};
 use crate::number::push_number;
@@ -19,7 +19,7 @@ pub fn text(alloc: Global, common: &[Label], metrics: &[Metric]) -> Result<Vec<u
     Ok(text)
 }
 
-#[tactic(auto, unfolding(crate::specs::Told::samples_in))]
+#[tactic(auto, unfolding(crate::specs::MetricData::samples_in))]
 fn push_metric(
     alloc: Global,
     text: &mut Vec<u8>,
@@ -72,7 +72,7 @@ fn push_samples(
     Ok(())
 }
 
-#[tactic(auto, unfolding(crate::specs::Exposition::sample_line, crate::specs::Told::labels_in))]
+#[tactic(auto, unfolding(crate::specs::Exposition::sample_line, crate::specs::MetricData::labels_in))]
 fn push_sample(
     alloc: Global,
     text: &mut Vec<u8>,

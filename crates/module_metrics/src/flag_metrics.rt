@@ -2,7 +2,7 @@
 ghost use Rattle.std.specs.Prelude.{◌≡◌, ◌++◌, ◌∷◌, [], ◌≤◌, IfOk, OnOk, Some, length, map};
 ghost use Rattle.report_entries.specs.Flags.{raised};
 ghost use Rattle.module_metrics.specs.FlagMetrics.{count_help, count_metric, count_name, flag_metrics, flag_sample, flags_help, flags_in, flags_metric, flags_name, is_in, lane_labels, truth};
-ghost use Rattle.module_metrics.specs.Told.{labels_in, metrics_in, samples_in};
+ghost use Rattle.module_metrics.specs.MetricData.{labels_in, metrics_in, samples_in};
 
 use crate::metric::{
     Label, Metric, Sample, add_label, add_metric, add_sample, no_labels, no_samples, one_label,

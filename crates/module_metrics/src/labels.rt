@@ -6,7 +6,7 @@ ghost use Rattle.module_metrics.specs.CommonLabels as spec;
 ghost use Rattle.module_metrics.specs.CommonLabels.{has_key, is_row_key, key_fault, sample_keys};
 ghost use Rattle.module_metrics.specs.Grammar.{is_in_name, is_letter, is_name, is_reserved};
 ghost use Rattle.module_metrics.specs.MetricNames.{snake};
-ghost use Rattle.module_metrics.specs.Told.{label_of};
+ghost use Rattle.module_metrics.specs.MetricData.{label_of};
 
 use crate::label_fault::LabelFault;
 use crate::metric::{Label, add_label, no_labels};
@@ -27,7 +27,7 @@ impl Model for Labels {
     ghost use Rattle.module_metrics.specs.AddedLabels.{AreAdded};
     ghost use Rattle.module_metrics.specs.Exposition.{Label as SpecLabel};
     ghost use Rattle.module_metrics.specs.LabelCode.{coded_label};
-    ghost use Rattle.module_metrics.specs.Told.{labels_in};
+    ghost use Rattle.module_metrics.specs.MetricData.{labels_in};
     ghost use Rattle.std.specs.Coded.{coded_list};
 
     ghost Value = { List SpecLabel };
@@ -43,7 +43,7 @@ impl Labels {
     ghost use Rattle.std.specs.Prelude.{◌≡◌, [], None, Some, map};
     ghost use Rattle.module_metrics.specs.AddedLabels.{AreAdded};
     ghost use Rattle.module_metrics.specs.CommonLabels.{Adds};
-    ghost use Rattle.module_metrics.specs.Told.{label_of};
+    ghost use Rattle.module_metrics.specs.MetricData.{label_of};
 
     /// No label.
     #[tactic(auto, using(crate::proofs::MoreLabels::none_added))]
@@ -70,7 +70,7 @@ impl Labels {
     }
 
     /// The labels.
-    #[tactic(auto, unfolding(crate::specs::Told::labels_in))]
+    #[tactic(auto, unfolding(crate::specs::MetricData::labels_in))]
     pub(crate) fn as_slice(&self) -> &[Label]
         ensures labels { map label_of result.now ≡ self.now }
         ensures added { AreAdded self.now }

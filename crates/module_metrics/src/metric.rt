@@ -2,7 +2,7 @@
 ghost use Rattle.std.specs.Prelude.{◌≡◌, ◌++◌, ◌∷◌, [], IfOk, IfSome, OnErr, OnOk};
 ghost use Rattle.module_metrics.specs.Exposition.{label, metric, sample};
 ghost use Rattle.module_metrics.specs.Scales.{places_of};
-ghost use Rattle.module_metrics.specs.Told.{labels_in, metrics_in, number_in, samples_in};
+ghost use Rattle.module_metrics.specs.MetricData.{labels_in, metrics_in, number_in, samples_in};
 
 use crate::number::Number;
 use crate::scale::Scale;
@@ -23,7 +23,7 @@ pub struct Sample {
     pub number: Number,
 }
 
-/// What is told under a name.
+/// What stands under a name.
 #[derive(Drop)]
 pub struct Metric {
     pub name: String,
@@ -32,7 +32,7 @@ pub struct Metric {
 }
 
 /// No label.
-#[tactic(auto, unfolding(crate::specs::Told::labels_in))]
+#[tactic(auto, unfolding(crate::specs::MetricData::labels_in))]
 pub fn no_labels(alloc: Global) -> Vec<Label>
     ensures { labels_in result ≡ [] }
 {
@@ -53,7 +53,7 @@ pub fn one_label<V: Display + Drop>(
 }
 
 /// Adds a label.
-#[tactic(auto, unfolding(crate::specs::Told::labels_in, crate::specs::Exposition::label))]
+#[tactic(auto, unfolding(crate::specs::MetricData::labels_in, crate::specs::Exposition::label))]
 pub fn add_label<K: Display + Drop, V: Display + Drop>(
     alloc: Global,
     labels: &mut Vec<Label>,
@@ -71,7 +71,7 @@ pub fn add_label<K: Display + Drop, V: Display + Drop>(
 }
 
 /// No sample.
-#[tactic(auto, unfolding(crate::specs::Told::samples_in))]
+#[tactic(auto, unfolding(crate::specs::MetricData::samples_in))]
 pub fn no_samples(alloc: Global) -> Vec<Sample>
     ensures { samples_in result ≡ [] }
 {
@@ -107,7 +107,7 @@ pub fn add_sample(
 }
 
 /// Adds a sample.
-#[tactic(auto, unfolding(crate::specs::Told::samples_in, crate::specs::Told::labels_in))]
+#[tactic(auto, unfolding(crate::specs::MetricData::samples_in, crate::specs::MetricData::labels_in))]
 pub fn add_number(
     samples: &mut Vec<Sample>,
     labels: Vec<Label>,
@@ -121,7 +121,7 @@ pub fn add_number(
 }
 
 /// No metric.
-#[tactic(auto, unfolding(crate::specs::Told::metrics_in))]
+#[tactic(auto, unfolding(crate::specs::MetricData::metrics_in))]
 pub fn no_metrics(alloc: Global) -> Vec<Metric>
     ensures { metrics_in result ≡ [] }
 {
@@ -129,7 +129,7 @@ pub fn no_metrics(alloc: Global) -> Vec<Metric>
 }
 
 /// Adds a metric.
-#[tactic(auto, unfolding(crate::specs::Told::metrics_in, crate::specs::Told::samples_in, crate::specs::Exposition::metric))]
+#[tactic(auto, unfolding(crate::specs::MetricData::metrics_in, crate::specs::MetricData::samples_in, crate::specs::Exposition::metric))]
 pub fn add_metric<N: Display + Drop, H: Display + Drop>(
     alloc: Global,
     metrics: &mut Vec<Metric>,

@@ -1,10 +1,10 @@
 // What the reports of a module say, as metrics.
 ghost use Rattle.std.specs.Prelude.{◌≡◌, ◌++◌, ◌∷◌, [], IfOk, OnOk, map};
 ghost use Rattle.std.specs.List.{flat_map};
-ghost use Rattle.report_entries.specs.Entries.{entry_of, said_of};
+ghost use Rattle.report_entries.specs.Entries.{content_of, entry_of};
 ghost use Rattle.module_metrics.specs.FlagMetrics.{each_raised, flag_metrics};
-ghost use Rattle.module_metrics.specs.ModuleMetrics.{entry_metrics, entry_sums, info_labels, info_metric, info_samples, said_labels, said_metrics, said_sums, shown_flags, sums_metric};
-ghost use Rattle.module_metrics.specs.Told.{labels_in, metrics_in, samples_in};
+ghost use Rattle.module_metrics.specs.ModuleMetrics.{content_labels, content_metrics, content_sums, entry_metrics, entry_sums, info_labels, info_metric, info_samples, shown_flags, sums_metric};
+ghost use Rattle.module_metrics.specs.MetricData.{labels_in, metrics_in, samples_in};
 
 use crate::amounts::{add_amount, add_lanes, add_limits};
 use crate::flag_metrics::{add_flags, truth};
@@ -15,7 +15,7 @@ use crate::metric::{
 use crate::name::Snake;
 use crate::scale::Scale;
 use crate::state_metrics::{add_lane_states, add_state};
-use report_entries::{Code, Entry, Flag, Revision, Said, TextIn};
+use report_entries::{Code, Content, Entry, Flag, Revision, TextIn};
 use std::alloc::{AllocError, Global};
 use text_lines::Hexadecimal;
 
@@ -51,29 +51,29 @@ fn info_labels(alloc: Global, entries: &[Entry]) -> Result<Vec<Label>, AllocErro
 {
     let mut labels = no_labels(alloc);
     for entry in entries {
-        add_said_label(alloc, &mut labels, entry.name, &entry.said)?;
+        add_content_label(alloc, &mut labels, entry.name, &entry.content)?;
     }
     Ok(labels)
 }
 
-#[tactic(auto, unfolding(crate::specs::ModuleMetrics::said_labels))]
-fn add_said_label(
+#[tactic(auto, unfolding(crate::specs::ModuleMetrics::content_labels))]
+fn add_content_label(
     alloc: Global,
     labels: &mut Vec<Label>,
     name: &'static str,
-    said: &Said,
+    content: &Content,
 ) -> Result<(), AllocError>
     ensures { OnOk result (labels_in labels.new
-        ≡ labels_in labels.old ++ said_labels name.now (said_of said.now)) }
+        ≡ labels_in labels.old ++ content_labels name.now (content_of content.now)) }
 {
     let key = Snake(name);
-    match said {
-        Said::Word(word) => add_label(alloc, labels, key, *word),
-        Said::Number(number) => add_label(alloc, labels, key, *number),
-        Said::Code(byte) => add_label(alloc, labels, key, Code(*byte)),
-        Said::Revision(byte) => add_label(alloc, labels, key, Revision(*byte)),
-        Said::Text(bytes) => add_label(alloc, labels, key, TextIn(bytes.as_slice())),
-        Said::Oui(bytes) => add_label(alloc, labels, key, Hexadecimal(bytes)),
+    match content {
+        Content::Word(word) => add_label(alloc, labels, key, *word),
+        Content::Number(number) => add_label(alloc, labels, key, *number),
+        Content::Code(byte) => add_label(alloc, labels, key, Code(*byte)),
+        Content::Revision(byte) => add_label(alloc, labels, key, Revision(*byte)),
+        Content::Text(bytes) => add_label(alloc, labels, key, TextIn(bytes.as_slice())),
+        Content::Oui(bytes) => add_label(alloc, labels, key, Hexadecimal(bytes)),
         _ => Ok(()),
     }
 }
@@ -121,23 +121,23 @@ fn add_sums_of(
         ≡ samples_in samples.old ++ flat_map entry_sums (map entry_of entries.now)) }
 {
     for entry in entries {
-        add_sum(alloc, samples, entry.name, &entry.said)?;
+        add_sum(alloc, samples, entry.name, &entry.content)?;
     }
     Ok(())
 }
 
-#[tactic(auto, unfolding(crate::specs::ModuleMetrics::said_sums))]
+#[tactic(auto, unfolding(crate::specs::ModuleMetrics::content_sums))]
 fn add_sum(
     alloc: Global,
     samples: &mut Vec<Sample>,
     name: &'static str,
-    said: &Said,
+    content: &Content,
 ) -> Result<(), AllocError>
     ensures { OnOk result (samples_in samples.new
-        ≡ samples_in samples.old ++ said_sums name.now (said_of said.now)) }
+        ≡ samples_in samples.old ++ content_sums name.now (content_of content.now)) }
 {
-    match said {
-        Said::Right(is_right) => {
+    match content {
+        Content::Right(is_right) => {
             let labels = one_label(alloc, "sum", name)?;
             add_sample(samples, labels, truth(*is_right), Scale::Ones)
         }
@@ -152,37 +152,37 @@ pub fn add_entries(
     alloc: Global,
     metrics: &mut Vec<Metric>,
     all: bool,
-    told: &[(Flag, bool)],
+    each_flag: &[(Flag, bool)],
     entries: &[Entry],
 ) -> Result<(), AllocError>
     ensures { OnOk result (metrics_in metrics.new
-        ≡ metrics_in metrics.old ++ flat_map (entry_metrics all told.now) (map entry_of entries.now)) }
+        ≡ metrics_in metrics.old ++ flat_map (entry_metrics all each_flag.now) (map entry_of entries.now)) }
 {
     for entry in entries {
-        add_said(alloc, metrics, all, told, entry.name, &entry.said)?;
+        add_content(alloc, metrics, all, each_flag, entry.name, &entry.content)?;
     }
     Ok(())
 }
 
-#[tactic(auto, unfolding(crate::specs::ModuleMetrics::said_metrics))]
-fn add_said(
+#[tactic(auto, unfolding(crate::specs::ModuleMetrics::content_metrics))]
+fn add_content(
     alloc: Global,
     metrics: &mut Vec<Metric>,
     all: bool,
-    told: &[(Flag, bool)],
+    each_flag: &[(Flag, bool)],
     name: &'static str,
-    said: &Said,
+    content: &Content,
 ) -> Result<(), AllocError>
     ensures { OnOk result (metrics_in metrics.new
-        ≡ metrics_in metrics.old ++ said_metrics all told.now name.now (said_of said.now)) }
+        ≡ metrics_in metrics.old ++ content_metrics all each_flag.now name.now (content_of content.now)) }
 {
-    match said {
-        Said::Amount(millis, unit) => add_amount(alloc, metrics, name, *unit, *millis),
-        Said::Lanes(values, unit) => add_lanes(alloc, metrics, name, *unit, values.as_slice()),
-        Said::Limits(levels, unit) => add_limits(alloc, metrics, name, *unit, *levels),
-        Said::State(code) => add_state(alloc, metrics, name, *code),
-        Said::LaneStates(states) => add_lane_states(alloc, metrics, states.as_slice()),
-        Said::Flags(raised) => add_shown_flags(alloc, metrics, all, told, raised),
+    match content {
+        Content::Amount(millis, unit) => add_amount(alloc, metrics, name, *unit, *millis),
+        Content::Lanes(values, unit) => add_lanes(alloc, metrics, name, *unit, values.as_slice()),
+        Content::Limits(levels, unit) => add_limits(alloc, metrics, name, *unit, *levels),
+        Content::State(code) => add_state(alloc, metrics, name, *code),
+        Content::LaneStates(states) => add_lane_states(alloc, metrics, states.as_slice()),
+        Content::Flags(raised) => add_shown_flags(alloc, metrics, all, each_flag, raised),
         _ => Ok(()),
     }
 }
@@ -191,14 +191,14 @@ fn add_shown_flags(
     alloc: Global,
     metrics: &mut Vec<Metric>,
     all: bool,
-    told: &[(Flag, bool)],
+    each_flag: &[(Flag, bool)],
     raised: &[Flag],
 ) -> Result<(), AllocError>
     ensures { OnOk result (metrics_in metrics.new
-        ≡ metrics_in metrics.old ++ flag_metrics (shown_flags all told.now raised.now)) }
+        ≡ metrics_in metrics.old ++ flag_metrics (shown_flags all each_flag.now raised.now)) }
 {
     if all {
-        add_flags(alloc, metrics, told)
+        add_flags(alloc, metrics, each_flag)
     } else {
         add_flags(alloc, metrics, &each_raised(alloc, raised)?)
     }

@@ -1,7 +1,7 @@
 // The numbers of samples.
 ghost use Rattle.std.specs.Prelude.{◌≡◌, ◌++◌, IfSome, OnOk, option_map};
 ghost use Rattle.module_metrics.specs.Numbers.{number_of, number_text, power_text};
-ghost use Rattle.module_metrics.specs.Told.{number_in};
+ghost use Rattle.module_metrics.specs.MetricData.{number_in};
 
 use crate::scale::Scale;
 use crate::scaled::push_scaled;

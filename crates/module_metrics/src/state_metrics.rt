@@ -2,7 +2,7 @@
 ghost use Rattle.std.specs.Prelude.{◌≡◌, ◌++◌, ◌∷◌, [], ◌≤◌, IfOk, OnOk, Some, length, map};
 ghost use Rattle.std.specs.List.{enumerate_from};
 ghost use Rattle.module_metrics.specs.StateMetrics.{path_sample, paths_metric, state_help, state_metric, state_name, status_sample, statuses_metric};
-ghost use Rattle.module_metrics.specs.Told.{metrics_in, samples_in};
+ghost use Rattle.module_metrics.specs.MetricData.{metrics_in, samples_in};
 
 use crate::metric::{
     Metric, Sample, add_label, add_metric, add_sample, no_samples, one_label, one_sample,

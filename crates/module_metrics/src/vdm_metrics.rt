@@ -4,7 +4,7 @@ ghost use Rattle.std.specs.List.{flat_map};
 ghost use Rattle.observables.specs.Observations.{instance_places};
 ghost use Rattle.module_metrics.specs.Unless.{unless};
 ghost use Rattle.module_metrics.specs.Exposition.{label};
-ghost use Rattle.module_metrics.specs.Told.{labels_in, metrics_in, number_in, samples_in};
+ghost use Rattle.module_metrics.specs.MetricData.{labels_in, metrics_in, number_in, samples_in};
 ghost use Rattle.module_metrics.specs.VdmMetrics as spec;
 ghost use Rattle.module_metrics.specs.VdmMetrics.{is_of, limit_sample, limit_samples, limits_metrics, listed, listed_metrics, measure_metrics, number_labels, number_samples, place_labels, seen_before, some_metrics, value_sample, values_metrics, vdm_metrics, vdm_seen};
 ghost use Rattle.reports.specs.Families.{detail_fault};
@@ -154,7 +154,7 @@ fn add_limits(
 }
 
 // A metric, unless it has no samples.
-#[tactic(auto, unfolding(crate::specs::Told::samples_in))]
+#[tactic(auto, unfolding(crate::specs::MetricData::samples_in))]
 fn add_some(
     alloc: Global,
     metrics: &mut Vec<Metric>,

@@ -16,7 +16,7 @@ use Rattle.report_entries.proofs.JsonTokens.{all_deep, count_depth, deep, form_d
 use Rattle.observable_reports.specs.declared.amount_text.ShownAmount.{ShownAmount}
 use Rattle.observable_reports.specs.AmountTexts.{text_of}
 use Rattle.observables.specs.Names.{lane_of, unit_name}
-use Rattle.observable_reports.specs.ObservationJson.{absent_members, advert_members, alarm_members, amount_members, array_members, bound_members, bounded_members, flag_alarms, flag_members, flag_warnings, flags_json, flags_members, known_members, level_members, limits_json, list_members, measured_members, numbered_members, observation_json, observations_json, place_members, said_members, warning_members, what_members}
+use Rattle.observable_reports.specs.ObservationJson.{absent_members, advert_members, alarm_members, amount_members, array_members, bound_members, bounded_members, flag_alarms, flag_members, flag_warnings, flags_json, flags_members, known_members, level_members, limits_json, list_members, measured_members, numbered_members, observation_json, observations_json, place_members, report_members, warning_members, what_members}
 use Rattle.observable_reports.specs.ObservationText.{format_of}
 
 -- after the version of the form
@@ -106,5 +106,5 @@ absent_depth : (absent : Option Key) → members_depth (members_of (absent_membe
 absent_depth None = omega arith
 absent_depth (Some key) = omega (arith, count_depth (codes "absent_page") key.page)
 
-pub said_depth : (seen : List Observation) (absent : Option Key) → members_depth (members_of (said_members seen absent)) ≤ 8
-said_depth seen absent = omega (arith, deep (list_members seen) (absent_members absent) 4 (list_depth seen) (absent_depth absent))
+pub report_depth : (seen : List Observation) (absent : Option Key) → members_depth (members_of (report_members seen absent)) ≤ 8
+report_depth seen absent = omega (arith, deep (list_members seen) (absent_members absent) 4 (list_depth seen) (absent_depth absent))

@@ -1,3 +1,4 @@
+mod StatisticsRead
 pub mod ExactTexts
 pub mod JsonDepths
 pub mod WordNumbers

@@ -3,3 +3,4 @@ pub mod ObservationText
 pub mod ObservationJson
 pub mod Answered
 pub mod WrittenAmounts
+pub mod FetchedObservables

@@ -109,8 +109,8 @@ abbrev pub absent_members : Option Key → List Member
 absent_members None = []
 absent_members (Some key) = count_members (codes "absent_page") key.page
 
-abbrev pub said_members : List Observation → Option Key → List Member
-said_members seen absent = list_members seen ++ absent_members absent
+abbrev pub report_members : List Observation → Option Key → List Member
+report_members seen absent = list_members seen ++ absent_members absent
 
 abbrev pub observables_json : List Observation → Option Key → Json
-observables_json seen absent = object_of (form_members ++ said_members seen absent)
+observables_json seen absent = object_of (form_members ++ report_members seen absent)

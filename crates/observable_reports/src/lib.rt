@@ -1,11 +1,13 @@
-//! What a module measures, as text and as JSON.
+//! What a module measures, as text and as JSON, and how its memory is read for that.
 #![tactic(auto)]
 
 mod amount_text;
+mod fetching;
 pub mod laws;
 mod observation_json;
 mod observation_text;
 mod report;
 
 pub use amount_text::{ShownAmount, shown_as};
+pub use fetching::fetch_observables;
 pub use report::{observables, observables_json};

@@ -3,7 +3,7 @@ ghost use Rattle.std.specs.Prelude.{◌≡◌, ◌++◌, map, IfOk, OnOk, option
 ghost use Rattle.json.specs.Tree.{json_tokens};
 ghost use Rattle.report_entries.specs.EntryJson.{IsJsonText};
 ghost use Rattle.report_entries.specs.JsonTrees.{all_member_tokens, all_tokens};
-ghost use Rattle.observable_reports.specs.ObservationJson.{absent_members, advert_members, alarm_members, amount_members, array_members, bound_members, bounded_members, flag_alarms, flag_members, flag_warnings, flags_json, flags_members, known_members, limits_json, list_members, measured_members, number_members, observables_json, observation_json, observations_json, place_members, said_members, warning_members, what_members};
+ghost use Rattle.observable_reports.specs.ObservationJson.{absent_members, advert_members, alarm_members, amount_members, array_members, bound_members, bounded_members, flag_alarms, flag_members, flag_warnings, flags_json, flags_members, known_members, limits_json, list_members, measured_members, number_members, observables_json, observation_json, observations_json, place_members, report_members, warning_members, what_members};
 
 use crate::amount_text::ShownAmount;
 use crate::observation_text::{format_of, shown};
@@ -22,16 +22,16 @@ pub fn json(alloc: Global, seen: &[Observation], absent: Option<Key>) -> Result<
     ensures { IfOk result (λ text. IsJsonText (observables_json seen.now absent) text.items) }
 {
     let mut out = begin(alloc)?;
-    put_said(&mut out, seen, absent)?;
+    put_report(&mut out, seen, absent)?;
     end(out)
 }
 
-fn put_said(
+fn put_report(
     out: &mut JsonWriter,
     seen: &[Observation],
     absent: Option<Key>,
 ) -> Result<(), AllocError>
-    ensures { OnOk result (out.new ≡ out.old ++ all_member_tokens (said_members seen.now absent)) }
+    ensures { OnOk result (out.new ≡ out.old ++ all_member_tokens (report_members seen.now absent)) }
 {
     put_list(out, seen)?;
     put_absent(out, absent)

@@ -37,7 +37,7 @@ pub fn observables_json(alloc: Global, image: &Image) -> Result<Vec<u8>, ReportF
     Ok(json(alloc, &seen, absent_page(image, 0))?)
 }
 
-// Why nothing is told of a module: it is none of those whose details are told.
+// Why there is no list of a module: it is none of those that have details.
 #[tactic(auto, unfolding(reports::specs::Families::detail_fault))]
 fn refusal(image: &Image) -> Option<ReportFault>
     ensures { result ≡ detail_fault image.now }

@@ -6,12 +6,12 @@ use Rattle.text_lines.specs.Lines.{text_of}
 use Rattle.plan_certificate.specs.declared.path.Path.{Path}
 use Rattle.plan_certificate.specs.declared.state.State.{State}
 use Rattle.plan_drawing.specs.Walks.{Basis, next_state, states_on}
-use Rattle.plan_drawing.specs.Why.{state_lines, told_on}
+use Rattle.plan_drawing.specs.Why.{reasons_on, state_lines}
 
 -- where the plan decides on the lane, its lines come first
 pub told_here : (basis : Basis) (paths : List Path) (state : State) (lane : ℕ) (lanes before : List ℕ) → (state.boundary + 1 == lane) ≡ true
-    → before ++ text_of (told_on basis paths state (lane ∷ lanes))
-    ≡ (before ++ text_of (state_lines basis paths state)) ++ text_of (told_on basis paths (next_state basis paths state) lanes)
+    → before ++ text_of (reasons_on basis paths state (lane ∷ lanes))
+    ≡ (before ++ text_of (state_lines basis paths state)) ++ text_of (reasons_on basis paths (next_state basis paths state) lanes)
 unfolding states_on
 told_here basis paths state lane lanes before is =
     let lines = state_lines basis paths in
@@ -22,7 +22,7 @@ told_here basis paths state lane lanes before is =
 
 -- else none
 pub told_past : (basis : Basis) (paths : List Path) (state : State) (lane : ℕ) (lanes before : List ℕ) → (state.boundary + 1 == lane) ≡ false
-    → before ++ text_of (told_on basis paths state (lane ∷ lanes)) ≡ before ++ text_of (told_on basis paths state lanes)
+    → before ++ text_of (reasons_on basis paths state (lane ∷ lanes)) ≡ before ++ text_of (reasons_on basis paths state lanes)
 unfolding states_on
 told_past basis paths state lane lanes before is =
     let lines = state_lines basis paths in

@@ -14,17 +14,17 @@ use Rattle.plan_drawing.specs.UsedApps.{app_lines}
 use Rattle.plan_drawing.specs.Walks.{Basis}
 use Rattle.plan_drawing.specs.Why.{why_lines}
 
--- what is told besides the picture, of a plan
-abbrev pub told_lines : ℕ → Basis → List Path → List (List ℕ)
-told_lines media_type basis paths = app_lines media_type paths basis.advert.apps ++ [] ∷ why_lines basis paths
+-- the legend of a plan's picture: the Applications, and why no plan weighs more
+abbrev pub legend_lines : ℕ → Basis → List Path → List (List ℕ)
+legend_lines media_type basis paths = app_lines media_type paths basis.advert.apps ++ [] ∷ why_lines basis paths
 
--- the plan and what is told, with its picture between them, or as an SVG
+-- the plan and the legend, with its picture between them, or as an SVG
 abbrev pub lines_as : Bool → ℕ → Basis → List Path → List (List ℕ)
 lines_as false media_type basis paths =
-    plan_lines basis.advert basis.weights paths ++ [] ∷ picture_lines basis.advert basis.kept paths ++ told_lines media_type basis paths
+    plan_lines basis.advert basis.weights paths ++ [] ∷ picture_lines basis.advert basis.kept paths ++ legend_lines media_type basis paths
 lines_as true media_type basis paths =
     svg_lines basis.advert basis.kept paths
-    (text_of (plan_lines basis.advert basis.weights paths ++ told_lines media_type basis paths))
+    (text_of (plan_lines basis.advert basis.weights paths ++ legend_lines media_type basis paths))
 
 -- the drawing of the first of the best plans with the kept paths, whose paths stand by rising host lane, by what can be gained from each
 -- state that decisions from the start reach; and whether the plan has a path

@@ -59,9 +59,9 @@ state_lines basis paths state =
     ∷ map (choice_line paths (state.boundary + 1) (gain_at basis.table state)) (ranked (choices_in basis state))
 
 -- of the states in which the plan decides on these host lanes
-abbrev pub told_on : Basis → List Path → State → List ℕ → List (List ℕ)
-told_on basis paths state lanes = flat_map (state_lines basis paths) (states_on basis paths state lanes)
+abbrev pub reasons_on : Basis → List Path → State → List ℕ → List (List ℕ)
+reasons_on basis paths state lanes = flat_map (state_lines basis paths) (states_on basis paths state lanes)
 
 -- from the start on
 abbrev pub why_lines : Basis → List Path → List (List ℕ)
-why_lines basis paths = told_on basis paths start (range_with_len 1 8)
+why_lines basis paths = reasons_on basis paths start (range_with_len 1 8)

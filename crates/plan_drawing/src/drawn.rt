@@ -3,7 +3,7 @@ ghost use Rattle.std.specs.Prelude.{◌≡◌, ◌++◌, length, nat_lt, IfOk, O
 ghost use Rattle.text_lines.specs.Lines.{text_of};
 ghost use Rattle.plan_certificate.specs.Plans.{AreAllowed, IsAdmissible};
 ghost use Rattle.lane_planner.specs.Tables.{IsTable};
-ghost use Rattle.plan_drawing.specs.Drawings.{IsDrawing, lines_as, told_lines};
+ghost use Rattle.plan_drawing.specs.Drawings.{IsDrawing, legend_lines, lines_as};
 ghost use Rattle.plan_drawing.specs.Walks.{basis_of};
 
 use crate::picture::push_picture;
@@ -65,17 +65,17 @@ fn drawn_as(
 {
     let mut out = plan_text(alloc, problem.advert, problem.weights, &solution.plan)?;
     if as_svg {
-        push_told(&mut out, media_type, problem, solution)?;
+        push_legend(&mut out, media_type, problem, solution)?;
         return svg_of(alloc, problem, &solution.plan, &out);
     }
     out.push(b'\n')?;
     push_picture(&mut out, problem, &solution.plan)?;
-    push_told(&mut out, media_type, problem, solution)?;
+    push_legend(&mut out, media_type, problem, solution)?;
     Ok(out)
 }
 
-// What is told besides the picture.
-fn push_told(
+// The Applications, and why no plan weighs more.
+fn push_legend(
     out: &mut Vec<u8>,
     media_type: u8,
     problem: &Problem,
@@ -84,7 +84,7 @@ fn push_told(
     requires plan { AreAllowed problem.now.advert.now solution.now.plan }
     requires kept { AreAllowed problem.now.advert.now problem.now.kept.now }
     requires gains { IsTable solution.now.gains }
-    ensures { OnOk result (out.new.items ≡ out.old.items ++ text_of (told_lines media_type (basis_of problem.now solution.now.gains) solution.now.plan)) }
+    ensures { OnOk result (out.new.items ≡ out.old.items ++ text_of (legend_lines media_type (basis_of problem.now solution.now.gains) solution.now.plan)) }
 {
     let paths = solution.plan.paths.as_slice();
     push_apps(out, media_type, problem.advert, paths)?;

@@ -6,7 +6,7 @@ ghost use Rattle.plan_certificate.specs.Plans.{AreAllowed};
 ghost use Rattle.plan_certificate.specs.States.{start};
 ghost use Rattle.lane_planner.specs.Tables.{IsTable};
 ghost use Rattle.plan_drawing.specs.Walks.{basis_of, begins_at, next_state};
-ghost use Rattle.plan_drawing.specs.Why.{choice_line, is_taken, lane_line, name_of, note_of, state_lines, told_on};
+ghost use Rattle.plan_drawing.specs.Why.{choice_line, is_taken, lane_line, name_of, note_of, reasons_on, state_lines};
 
 use crate::choices::{Choice, choices_in, decision_of};
 use crate::columns::{push_left, push_number, push_right};
@@ -27,7 +27,7 @@ pub fn push_why(
     requires kept { AreAllowed problem.now.advert.now problem.now.kept.now }
     requires paths { AreAllowed problem.now.advert.now paths.now }
     requires gains { IsTable gains.now }
-    ensures { OnOk result (out.new.items ≡ out.old.items ++ text_of (told_on (basis_of problem.now gains.now) paths.now start lanes.now)) }
+    ensures { OnOk result (out.new.items ≡ out.old.items ++ text_of (reasons_on (basis_of problem.now gains.now) paths.now start lanes.now)) }
 {
     let mut state = State::start();
     for lane in lanes {
@@ -52,8 +52,8 @@ fn push_lane_if_next(
     requires lane { lane ≤ 8 }
     requires within { state.boundary ≤ 8 }
     ensures told { IfOk result (λ next. (lanes : List ℕ)
-        → out.old.items ++ text_of (told_on (basis_of problem.now gains.now) paths.now state (lane ∷ lanes))
-        ≡ out.new.items ++ text_of (told_on (basis_of problem.now gains.now) paths.now next lanes)) }
+        → out.old.items ++ text_of (reasons_on (basis_of problem.now gains.now) paths.now state (lane ∷ lanes))
+        ≡ out.new.items ++ text_of (reasons_on (basis_of problem.now gains.now) paths.now next lanes)) }
     ensures within { IfOk result (λ next. next.boundary ≤ 8) }
 {
     if state.boundary + 1 != lane {

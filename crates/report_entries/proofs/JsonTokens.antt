@@ -7,14 +7,14 @@ use Rattle.json.specs.Json.{Json, document, if_last, max_depth, value, number as
 use Rattle.json.specs.Lex.{tokens}
 use Rattle.json.specs.Tree.{depth, items_depth, json_tokens, items_tokens, members_depth, members_tokens}
 use Rattle.json.proofs.Printed.Trees.{value-json_tokens}
-use Rattle.report_entries.specs.Entries.{Entry, Said, word, right, number, code, revision, text, oui, amount, lanes, limits, state, lane_states, flags, apps, lane_set, fact}
+use Rattle.report_entries.specs.Entries.{Entry, Content, word, right, number, code, revision, text, oui, amount, lanes, limits, state, lane_states, flags, apps, lane_set, fact}
 use Rattle.json.specs.Word.{after_number}
 use Rattle.report_entries.specs.FactText.{level_text, milliwatts_text}
 use Rattle.report_entries.specs.Facts as facts
 use Rattle.report_entries.specs.Facts.{Fact}
 use Rattle.report_entries.specs.JsonScalars.{is_read, scalar_json}
 use Rattle.report_entries.specs.declared.fact.Place.{Place}
-use Rattle.report_entries.specs.EntryJson.{alarm_members, amount_json, amount_members, amounts_json, app_json, apps_json, config_status_members, coded_members, config_status_name, count_members, entries_members, fact_key, fact_key_in, fact_members, flag_json, flags_json, form_members, key_in, kind_members, lane_members, lane_state_json, lane_states_json, lanes_members, limits_json, module_state_name, name_members, names_json, string_json, path_state_members, path_state_name, report_json, said_members, snake, starts_members, state_members, string_members, usable_members, warning_members}
+use Rattle.report_entries.specs.EntryJson.{alarm_members, amount_json, amount_members, amounts_json, app_json, apps_json, config_status_members, coded_members, config_status_name, count_members, entries_members, fact_key, fact_key_in, fact_members, flag_json, flags_json, form_members, key_in, kind_members, lane_members, lane_state_json, lane_states_json, lanes_members, limits_json, module_state_name, name_members, names_json, string_json, path_state_members, path_state_name, report_json, content_members, snake, starts_members, state_members, string_members, usable_members, warning_members}
 use Rattle.report_entries.specs.JsonTrees.{Member, all_member_tokens, all_tokens, items_of, members_of}
 use Rattle.report_entries.specs.declared.entry.LaneState.{LaneState}
 use Rattle.report_entries.specs.declared.flag.Flag.{Flag}
@@ -122,28 +122,28 @@ fact_depth name place (facts.module_state n) = omega (arith, coded_depth name pl
 fact_depth name place (facts.path_state n) = omega (arith, coded_depth name place n (path_state_name n))
 fact_depth name place (facts.config_status n) = omega (arith, coded_depth name place n (config_status_name n))
 
-said_depth : (name : List ℕ) (said : Said) → members_depth (members_of (said_members name said)) ≤ 2
-unfolding said_members amounts_json lane_states_json flags_json apps_json
-said_depth name (word w) = omega arith
-said_depth name (right is_right) = omega arith
-said_depth name (number n) = omega arith
-said_depth name (code byte) = omega arith
-said_depth name (revision byte) = omega arith
-said_depth name (text bytes) = omega arith
-said_depth name (oui bytes) = omega arith
-said_depth name (amount millis unit) = omega arith
-said_depth name (lanes values unit) = omega (arith, all_deep amount_json 1 amount_depth values)
-said_depth name (limits levels unit) = omega (arith, limits_depth levels)
-said_depth name (state n) = omega (arith, state_depth name n)
-said_depth name (lane_states states) = omega (arith, all_deep lane_state_json 1 lane_state_depth states)
-said_depth name (flags raised) = omega (arith, all_deep flag_json 1 flag_depth raised)
-said_depth name (apps listed) = omega (arith, all_deep app_json 1 app_depth listed)
-said_depth name (lane_set set) = omega arith
-said_depth name (fact place f) = fact_depth name place f
+content_depth : (name : List ℕ) (content : Content) → members_depth (members_of (content_members name content)) ≤ 2
+unfolding content_members amounts_json lane_states_json flags_json apps_json
+content_depth name (word w) = omega arith
+content_depth name (right is_right) = omega arith
+content_depth name (number n) = omega arith
+content_depth name (code byte) = omega arith
+content_depth name (revision byte) = omega arith
+content_depth name (text bytes) = omega arith
+content_depth name (oui bytes) = omega arith
+content_depth name (amount millis unit) = omega arith
+content_depth name (lanes values unit) = omega (arith, all_deep amount_json 1 amount_depth values)
+content_depth name (limits levels unit) = omega (arith, limits_depth levels)
+content_depth name (state n) = omega (arith, state_depth name n)
+content_depth name (lane_states states) = omega (arith, all_deep lane_state_json 1 lane_state_depth states)
+content_depth name (flags raised) = omega (arith, all_deep flag_json 1 flag_depth raised)
+content_depth name (apps listed) = omega (arith, all_deep app_json 1 app_depth listed)
+content_depth name (lane_set set) = omega arith
+content_depth name (fact place f) = fact_depth name place f
 
 entries_depth : (entries : List Entry) → members_depth (members_of (entries_members entries)) ≤ 2
 entries_depth [] = omega arith
-entries_depth (e ∷ more) = deep (said_members e.name e.said) (entries_members more) 2 (said_depth e.name e.said) (entries_depth more)
+entries_depth (e ∷ more) = deep (content_members e.name e.content) (entries_members more) 2 (content_depth e.name e.content) (entries_depth more)
 
 pub form_depth : members_depth (members_of form_members) ≤ 2
 unfolding form_members count_members

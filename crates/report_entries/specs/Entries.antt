@@ -1,4 +1,4 @@
--- What a report says: names, each with a value. Its text and its JSON both follow from this. (docs/formats.md, "Reports";
+-- The entries of a report: names, each with its content. Its text and its JSON both follow from this. (docs/formats.md, "Reports";
 -- this project's own)
 use Rattle.std.specs.Prelude.{ℕ, Bool, ℤ, List, map, Vec}
 use Rattle.std.specs.declared.alloc.Global.{Global}
@@ -7,73 +7,73 @@ use Rattle.field_tables.specs.LaneSets.{Lanes}
 use Rattle.applications.specs.declared.app.App.{App}
 use Rattle.report_entries.specs.declared.entry.Entry as rust
 use Rattle.report_entries.specs.declared.entry.LaneState.{LaneState}
-use Rattle.report_entries.specs.declared.entry.Said as rust_said
-use Rattle.report_entries.specs.declared.entry.Said.TheVariants as said
+use Rattle.report_entries.specs.declared.entry.Content as rust_content
+use Rattle.report_entries.specs.declared.entry.Content.TheVariants as content
 use Rattle.report_entries.specs.declared.fact.Place.{Place}
 use Rattle.report_entries.specs.declared.flag.Flag.{Flag}
 use Rattle.report_entries.specs.declared.printed_unit.PrintedUnit.{PrintedUnit}
 use Rattle.report_entries.specs.Facts.{Fact, fact_of}
 
-pub data Said : Type 0 where
+pub data Content : Type 0 where
   -- a word of the report's own
-  word : List ℕ → Said
+  word : List ℕ → Content
   -- whether a sum is right
-  right : Bool → Said
-  number : ℕ → Said
+  right : Bool → Content
+  number : ℕ → Content
   -- a byte that is a code of the standard
-  code : ℕ → Said
-  revision : ℕ → Said
+  code : ℕ → Content
+  revision : ℕ → Content
   -- the bytes of a text field
-  text : List ℕ → Said
-  oui : List ℕ → Said
+  text : List ℕ → Content
+  oui : List ℕ → Content
   -- thousandths of a unit
-  amount : ℤ → PrintedUnit → Said
+  amount : ℤ → PrintedUnit → Content
   -- the same of each lane, lane 1 first
-  lanes : List ℤ → PrintedUnit → Said
+  lanes : List ℤ → PrintedUnit → Content
   -- and of each limit
-  limits : PerLimit ℤ → PrintedUnit → Said
+  limits : PerLimit ℤ → PrintedUnit → Content
   -- the state of the module, by its code
-  state : ℕ → Said
+  state : ℕ → Content
   -- of each lane, lane 1 first
-  lane_states : List LaneState → Said
+  lane_states : List LaneState → Content
   -- those that are raised
-  flags : List Flag → Said
+  flags : List Flag → Content
   -- by rising number
-  apps : List App → Said
-  lane_set : Lanes → Said
+  apps : List App → Content
+  lane_set : Lanes → Content
   -- a fact about the module, a lane or an Application
-  fact : Place → Fact → Said
+  fact : Place → Fact → Content
 
 pub record Entry : Type 0 where
   pub name : List ℕ
-  pub said : Said
+  pub content : Content
 
-unfoldable pub entry : List ℕ → Said → Entry
-entry name said = record { name = name; said = said }
+unfoldable pub entry : List ℕ → Content → Entry
+entry name content = record { name = name; content = content }
 
 -- ---- those of the code
 
-abbrev pub said_of : rust_said.Said → Said
-said_of (said.Word w) = word w.now
-said_of (said.Right is_right) = right is_right
-said_of (said.Number n) = number n
-said_of (said.Code byte) = code byte
-said_of (said.Revision byte) = revision byte
-said_of (said.Text bytes) = text bytes.items
-said_of (said.Oui bytes) = oui bytes
-said_of (said.Amount millis unit) = amount millis unit
-said_of (said.Lanes millis unit) = lanes millis.items unit
-said_of (said.Limits millis unit) = limits millis unit
-said_of (said.State n) = state n
-said_of (said.LaneStates states) = lane_states states.items
-said_of (said.Flags raised) = flags raised.items
-said_of (said.Apps listed) = apps listed.items
-said_of (said.LaneSet set) = lane_set set
-said_of (said.Fact place f) = fact place (fact_of f)
+abbrev pub content_of : rust_content.Content → Content
+content_of (content.Word w) = word w.now
+content_of (content.Right is_right) = right is_right
+content_of (content.Number n) = number n
+content_of (content.Code byte) = code byte
+content_of (content.Revision byte) = revision byte
+content_of (content.Text bytes) = text bytes.items
+content_of (content.Oui bytes) = oui bytes
+content_of (content.Amount millis unit) = amount millis unit
+content_of (content.Lanes millis unit) = lanes millis.items unit
+content_of (content.Limits millis unit) = limits millis unit
+content_of (content.State n) = state n
+content_of (content.LaneStates states) = lane_states states.items
+content_of (content.Flags raised) = flags raised.items
+content_of (content.Apps listed) = apps listed.items
+content_of (content.LaneSet set) = lane_set set
+content_of (content.Fact place f) = fact place (fact_of f)
 
 abbrev pub entry_of : rust.Entry → Entry
-entry_of e = record { name = e.name.now; said = said_of e.said }
+entry_of e = record { name = e.name.now; content = content_of e.content }
 
--- what a list of them says
-unfoldable pub said_in : Vec rust.Entry Global → List Entry
-said_in entries = map entry_of entries.items
+-- the entries of a list
+unfoldable pub as_entries : Vec rust.Entry Global → List Entry
+as_entries entries = map entry_of entries.items

@@ -18,7 +18,7 @@ use Rattle.datapath_states.specs.Names as path_names
 use Rattle.datapath_states.specs.Names.{status_name}
 use Rattle.datapath_states.specs.StateCodes as path_codes
 use Rattle.datapath_states.specs.StatusCodes.{status_at}
-use Rattle.report_entries.specs.Entries.{Entry, Said, word, right, number, code, revision, text, oui, amount, lanes, limits, state, lane_states, flags, apps, lane_set, fact}
+use Rattle.report_entries.specs.Entries.{Entry, Content, word, right, number, code, revision, text, oui, amount, lanes, limits, state, lane_states, flags, apps, lane_set, fact}
 use Rattle.report_entries.specs.Facts as facts
 use Rattle.report_entries.specs.Facts.{Fact}
 use Rattle.report_entries.specs.FactText.{level_text, milliwatts_text, version_text}
@@ -204,26 +204,26 @@ fact_members name place (facts.config_status n) = coded_members name place n (co
 
 -- ---- entries
 
-unfoldable pub said_members : List ℕ → Said → List Member
-said_members name (word w) = (snake name, json.string w) ∷ []
-said_members name (right is_right) = (key_in name (codes "right"), json.boolean is_right) ∷ []
-said_members name (number n) = (snake name, count_json n) ∷ []
-said_members name (code byte) = (snake name, count_json byte) ∷ []
-said_members name (revision byte) = (snake name, json.string (shown.revision byte)) ∷ []
-said_members name (text bytes) = (snake name, json.string (printable bytes)) ∷ []
-said_members name (oui bytes) = (snake name, json.string (encode_lower bytes)) ∷ []
-said_members name (amount millis unit) = (key_in name (unit_key unit), amount_json millis) ∷ []
-said_members name (lanes values unit) = (key_in name (unit_key unit), amounts_json values) ∷ []
-said_members name (limits levels unit) = (key_in name (unit_key unit), limits_json levels) ∷ []
-said_members name (state n) = state_members name n
-said_members name (lane_states states) = (snake name, lane_states_json states) ∷ []
-said_members name (flags raised) = (snake name, flags_json raised) ∷ []
-said_members name (apps listed) = (snake name, apps_json listed) ∷ []
-said_members name (lane_set set) = (snake name, count_json (byte_of set)) ∷ []
-said_members name (fact place f) = fact_members name place f
+unfoldable pub content_members : List ℕ → Content → List Member
+content_members name (word w) = (snake name, json.string w) ∷ []
+content_members name (right is_right) = (key_in name (codes "right"), json.boolean is_right) ∷ []
+content_members name (number n) = (snake name, count_json n) ∷ []
+content_members name (code byte) = (snake name, count_json byte) ∷ []
+content_members name (revision byte) = (snake name, json.string (shown.revision byte)) ∷ []
+content_members name (text bytes) = (snake name, json.string (printable bytes)) ∷ []
+content_members name (oui bytes) = (snake name, json.string (encode_lower bytes)) ∷ []
+content_members name (amount millis unit) = (key_in name (unit_key unit), amount_json millis) ∷ []
+content_members name (lanes values unit) = (key_in name (unit_key unit), amounts_json values) ∷ []
+content_members name (limits levels unit) = (key_in name (unit_key unit), limits_json levels) ∷ []
+content_members name (state n) = state_members name n
+content_members name (lane_states states) = (snake name, lane_states_json states) ∷ []
+content_members name (flags raised) = (snake name, flags_json raised) ∷ []
+content_members name (apps listed) = (snake name, apps_json listed) ∷ []
+content_members name (lane_set set) = (snake name, count_json (byte_of set)) ∷ []
+content_members name (fact place f) = fact_members name place f
 
 abbrev pub entry_members : Entry → List Member
-entry_members e = said_members e.name e.said
+entry_members e = content_members e.name e.content
 
 abbrev pub entries_members : List Entry → List Member
 entries_members entries = flat_map entry_members entries

@@ -7,7 +7,7 @@ use Rattle.field_tables.specs.declared.readings.PerLimit.{PerLimit}
 use Rattle.field_tables.specs.LaneSets.{byte_of}
 use Rattle.text_lines.specs.Lines.{text_of}
 use Rattle.report_entries.specs.AppText.{app_line}
-use Rattle.report_entries.specs.Entries.{Entry, Said, word, right, number, code, revision, text, oui, amount, lanes, limits, state, lane_states, flags, apps, lane_set, fact}
+use Rattle.report_entries.specs.Entries.{Entry, Content, word, right, number, code, revision, text, oui, amount, lanes, limits, state, lane_states, flags, apps, lane_set, fact}
 use Rattle.report_entries.specs.FactText.{fact_line}
 use Rattle.report_entries.specs.Flags.{flag_lines}
 use Rattle.report_entries.specs.Lines.{line}
@@ -38,26 +38,26 @@ lane_state_lines name states = map (λ (l : ℕ × LaneState). lane_state_line n
 abbrev pub in_thousandths : PerLimit ℤ → PerLimit Thousandths
 in_thousandths levels = each_limit (λ (millis : ℤ). record { 0 = millis }) levels
 
-unfoldable pub said_lines : List ℕ → Said → List (List ℕ)
-said_lines name (word w) = line name w ∷ []
-said_lines name (right is_right) = line name (sum_word is_right) ∷ []
-said_lines name (number n) = line name (decimal n) ∷ []
-said_lines name (code byte) = line name (byte_code byte) ∷ []
-said_lines name (revision byte) = line name (shown.revision byte) ∷ []
-said_lines name (text bytes) = line name (printable bytes) ∷ []
-said_lines name (oui bytes) = line name (encode_lower bytes) ∷ []
-said_lines name (amount millis unit) = line name (measure millis (unit_name unit)) ∷ []
-said_lines name (lanes values unit) = lane_lines name unit values
-said_lines name (limits levels unit) = line name (limits_text (in_thousandths levels)) ∷ []
-said_lines name (state n) = line name (module_state_text n) ∷ []
-said_lines name (lane_states states) = lane_state_lines name states
-said_lines name (flags raised) = flag_lines name raised
-said_lines name (apps listed) = map (app_line name) listed
-said_lines name (lane_set set) = line name (byte_code (byte_of set)) ∷ []
-said_lines name (fact place f) = fact_line name place f ∷ []
+unfoldable pub content_lines : List ℕ → Content → List (List ℕ)
+content_lines name (word w) = line name w ∷ []
+content_lines name (right is_right) = line name (sum_word is_right) ∷ []
+content_lines name (number n) = line name (decimal n) ∷ []
+content_lines name (code byte) = line name (byte_code byte) ∷ []
+content_lines name (revision byte) = line name (shown.revision byte) ∷ []
+content_lines name (text bytes) = line name (printable bytes) ∷ []
+content_lines name (oui bytes) = line name (encode_lower bytes) ∷ []
+content_lines name (amount millis unit) = line name (measure millis (unit_name unit)) ∷ []
+content_lines name (lanes values unit) = lane_lines name unit values
+content_lines name (limits levels unit) = line name (limits_text (in_thousandths levels)) ∷ []
+content_lines name (state n) = line name (module_state_text n) ∷ []
+content_lines name (lane_states states) = lane_state_lines name states
+content_lines name (flags raised) = flag_lines name raised
+content_lines name (apps listed) = map (app_line name) listed
+content_lines name (lane_set set) = line name (byte_code (byte_of set)) ∷ []
+content_lines name (fact place f) = fact_line name place f ∷ []
 
 abbrev pub entry_lines : Entry → List (List ℕ)
-entry_lines e = said_lines e.name e.said
+entry_lines e = content_lines e.name e.content
 
 abbrev pub entries_lines : List Entry → List (List ℕ)
 entries_lines entries = flat_map entry_lines entries

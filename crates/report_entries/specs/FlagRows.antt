@@ -1,4 +1,4 @@
--- The flags that the rows of a report tell of a module's memory, and whether they are raised. (docs/formats.md, "flags";
+-- The flags of a report's rows, and whether a module's memory raises them. (docs/formats.md, "flags";
 -- this project's own)
 use Rattle.std.specs.Prelude.{ℕ, ◌+◌, ◌&&◌, if◌then◌else◌, Bool, true, false, nat_le, List, [], ◌∷◌, Some, None, codes}
 use Rattle.std.specs.List.{flat_map}
@@ -55,7 +55,7 @@ row_flags memory flat row = if row.paged && flat then [] else flags_at memory ro
 abbrev pub rows_flags : Memory → Bool → List FlagRow → List (Flag × Bool)
 rows_flags memory flat rows = flat_map (row_flags memory flat) rows
 
--- what is said of those that are raised
+-- the entry of those that are raised
 abbrev pub flags_entry : List Flag → Entry
 flags_entry raised = entry (codes "flag") (flags raised)
 

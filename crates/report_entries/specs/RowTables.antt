@@ -7,7 +7,7 @@ use Rattle.report_entries.specs.declared.row.Instead.TheVariants as instead
 use Rattle.report_entries.specs.declared.row.Row as rust_row
 use Rattle.report_entries.specs.declared.row.Source as rust_source
 use Rattle.report_entries.specs.declared.row.Source.TheVariants as source
-use Rattle.report_entries.specs.Rows.{Row, Source, Instead, Word, Either, Code, Revision, Next, Text, Oui, Right, Amount, Length, Lanes, Limits, State, LaneStates, Nothing, Says}
+use Rattle.report_entries.specs.Rows.{Row, Source, Instead, Word, Either, Code, Revision, Next, Text, Oui, Right, Amount, Length, Lanes, Limits, State, LaneStates, Nothing, Wording}
 
 -- given what the code's texts are
 abbrev pub source_of : {T : Type 0} → (T → List ℕ) → rust_source.Source T → Source
@@ -28,7 +28,7 @@ source_of text (source.LaneStates paths statuses) = LaneStates paths statuses
 
 abbrev pub case_of : {T : Type 0} → (T → List ℕ) → rust_instead.Instead T → Instead
 case_of text (instead.Nothing field n) = Nothing field n
-case_of text (instead.Word field n w) = Says field n (text w)
+case_of text (instead.Word field n w) = Wording field n (text w)
 
 -- given also what the code's lists are
 abbrev pub line_of : {T I : Type 0} → (T → List ℕ) → (I → List (rust_instead.Instead T)) → rust_row.Row T I → Row

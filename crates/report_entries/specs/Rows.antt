@@ -1,4 +1,4 @@
--- What the rows of a report say of a module's memory. (docs/formats.md, "Reports"; this project's own)
+-- The entries that the rows of a report make of a module's memory. (docs/formats.md, "Reports"; this project's own)
 use Rattle.std.specs.Prelude.{ℕ, ◌+◌, ◌==◌, ◌&&◌, if◌then◌else◌, Bool, true, false, nat_le, is_some, List, [], ◌∷◌, map, Option, Some, None}
 use Rattle.std.specs.List.{find, flat_map, list_all, range_with_len}
 use Rattle.paged_memory.specs.Images.{Memory}
@@ -10,7 +10,7 @@ use Rattle.field_tables.specs.FieldValues.{of_each}
 use Rattle.field_tables.specs.Readings as readings
 use Rattle.field_tables.specs.Readings.{all_numbers, is_of_bytes, is_sum_right}
 use Rattle.module_decoding.specs.Amounts.{amount_at, is_power, length_in, limit_amounts, power_fits, unit_of}
-use Rattle.report_entries.specs.Entries.{Entry, Said, entry, word, right, number, code, revision, text, oui, amount, lanes, limits, state, lane_states}
+use Rattle.report_entries.specs.Entries.{Entry, Content, entry, word, right, number, code, revision, text, oui, amount, lanes, limits, state, lane_states}
 use Rattle.report_entries.specs.PrintedUnits.{printed_in}
 use Rattle.report_entries.specs.declared.entry.LaneState.{LaneState}
 use Rattle.report_entries.specs.declared.printed_unit.PrintedUnit.{PrintedUnit}
@@ -44,24 +44,24 @@ pub data Source : Type 0 where
   -- for each of eight lanes: the state of its data path, and by the second field the status of its configuration
   LaneStates : Field → Field → Source
 
--- what is said if a field has this number: nothing, or a word
+-- what stands in place of the source if a field has this number: nothing, or a word
 pub data Instead : Type 0 where
   Nothing : Field → ℕ → Instead
-  Says : Field → ℕ → List ℕ → Instead
+  Wording : Field → ℕ → List ℕ → Instead
 
 pub record Row : Type 0 where
   pub name : List ℕ
   pub source : Source
   -- whether only for a module with paged memory
   pub paged : Bool
-  -- the first that applies is said in place of the source
+  -- the first that applies stands in place of the source
   pub instead : List Instead
 
 -- a line for every module
 abbrev pub always : List ℕ → Source → Row
 always name source = record { name = name; source = source; paged = false; instead = [] }
 
--- a line for a module with paged memory; if one of these applies, it says a word or nothing instead
+-- a line for a module with paged memory; if one of these applies, it has a word or nothing instead
 abbrev pub if_paged : List ℕ → Source → List Instead → Row
 if_paged name source instead = record { name = name; source = source; paged = true; instead = instead }
 
@@ -72,36 +72,36 @@ printed_unit field = printed_in (unit_of field)
 abbrev pub lane_state_at : Memory → Field → Field → ℕ → LaneState
 lane_state_at memory paths statuses lane = record { path = readings.number_at memory paths lane; status = readings.number_at memory statuses lane }
 
--- ---- what rows say
+-- ---- the entries of rows
 
-unfoldable pub source_said : Memory → Source → Said
-source_said memory (Word w) = word w
-source_said memory (Either field one other) = word (if readings.number memory field == 1 then one else other)
-source_said memory (Code field) = code (readings.number memory field)
-source_said memory (Revision field) = revision (readings.number memory field)
-source_said memory (Next field) = number (readings.number memory field + 1)
-source_said memory (Text field) = text (readings.text memory field)
-source_said memory (Oui field) = oui (all_numbers memory field)
-source_said memory (Right sum) = right (is_sum_right memory sum)
-source_said memory (Amount field) = amount (amount_at memory field None 1) (printed_unit field)
-source_said memory (Length base power) = amount (length_in memory base power) Metre
-source_said memory (Lanes field power) = lanes (of_each field (amount_at memory field power)) (printed_unit field)
-source_said memory (Limits field power) = limits (limit_amounts memory field power) (printed_unit field)
-source_said memory (State field) = state (readings.number memory field)
-source_said memory (LaneStates paths statuses) = lane_states (map (lane_state_at memory paths statuses) (range_with_len 1 8))
+unfoldable pub source_content : Memory → Source → Content
+source_content memory (Word w) = word w
+source_content memory (Either field one other) = word (if readings.number memory field == 1 then one else other)
+source_content memory (Code field) = code (readings.number memory field)
+source_content memory (Revision field) = revision (readings.number memory field)
+source_content memory (Next field) = number (readings.number memory field + 1)
+source_content memory (Text field) = text (readings.text memory field)
+source_content memory (Oui field) = oui (all_numbers memory field)
+source_content memory (Right sum) = right (is_sum_right memory sum)
+source_content memory (Amount field) = amount (amount_at memory field None 1) (printed_unit field)
+source_content memory (Length base power) = amount (length_in memory base power) Metre
+source_content memory (Lanes field power) = lanes (of_each field (amount_at memory field power)) (printed_unit field)
+source_content memory (Limits field power) = limits (limit_amounts memory field power) (printed_unit field)
+source_content memory (State field) = state (readings.number memory field)
+source_content memory (LaneStates paths statuses) = lane_states (map (lane_state_at memory paths statuses) (range_with_len 1 8))
 
 -- the field has this number
 abbrev pub applies : Memory → Instead → Bool
 applies memory (Nothing field n) = readings.number memory field == n
-applies memory (Says field n w) = readings.number memory field == n
+applies memory (Wording field n w) = readings.number memory field == n
 
 abbrev pub deciding : Memory → List Instead → Option Instead
 deciding memory cases = find (applies memory) cases
 
 abbrev pub decided_entries : Memory → Row → Option Instead → List Entry
-decided_entries memory row None = entry row.name (source_said memory row.source) ∷ []
+decided_entries memory row None = entry row.name (source_content memory row.source) ∷ []
 decided_entries memory row (Some (Nothing field n)) = []
-decided_entries memory row (Some (Says field n w)) = entry row.name (word w) ∷ []
+decided_entries memory row (Some (Wording field n w)) = entry row.name (word w) ∷ []
 
 unfoldable pub row_entries : Memory → Bool → Row → List Entry
 row_entries memory flat row = if row.paged && flat then [] else decided_entries memory row (deciding memory row.instead)
@@ -118,7 +118,7 @@ is_counted field n = is_of_bytes (row_of field) && (row_of field).count == n
 
 abbrev pub instead_fits : Instead → Bool
 instead_fits (Nothing field n) = is_counted field 1
-instead_fits (Says field n w) = is_counted field 1
+instead_fits (Wording field n w) = is_counted field 1
 
 abbrev pub source_fits : Source → Bool
 source_fits (Word w) = true

@@ -1,6 +1,6 @@
-// What a report says, whatever it is printed as.
+// The entries of a report, whatever it is printed as.
 ghost use Rattle.std.specs.Prelude.{◌≡◌, ◌++◌, ◌∷◌, [], OnOk};
-ghost use Rattle.report_entries.specs.Entries.{entry, said_in, said_of};
+ghost use Rattle.report_entries.specs.Entries.{as_entries, content_of, entry};
 
 use crate::fact::{Fact, Place};
 use crate::flag::Flag;
@@ -10,9 +10,9 @@ use arrayvec::ArrayVec;
 use field_tables::{LaneSet, PerLimit};
 use std::alloc::AllocError;
 
-/// What is said under a name.
+/// What stands under a name.
 #[derive(Drop)]
-pub enum Said {
+pub enum Content {
     /// A word of the report's own.
     Word(&'static str),
     /// Whether a sum is right.
@@ -50,18 +50,22 @@ pub struct LaneState {
     pub status: u8,
 }
 
-/// A name and what is said under it.
+/// A name and what stands under it.
 #[derive(Drop)]
 pub struct Entry {
     pub name: &'static str,
-    pub said: Said,
+    pub content: Content,
 }
 
 /// Adds an entry.
-#[tactic(auto, unfolding(crate::specs::Entries::said_in, crate::specs::Entries::entry))]
-pub fn say(entries: &mut Vec<Entry>, name: &'static str, said: Said) -> Result<(), AllocError>
-    ensures { OnOk result (said_in entries.new ≡ said_in entries.old ++ entry name.now (said_of said) ∷ []) }
+#[tactic(auto, unfolding(crate::specs::Entries::as_entries, crate::specs::Entries::entry))]
+pub fn add_entry(
+    entries: &mut Vec<Entry>,
+    name: &'static str,
+    content: Content,
+) -> Result<(), AllocError>
+    ensures { OnOk result (as_entries entries.new ≡ as_entries entries.old ++ entry name.now (content_of content) ∷ []) }
 {
-    entries.push(Entry { name, said })?;
+    entries.push(Entry { name, content })?;
     Ok(())
 }

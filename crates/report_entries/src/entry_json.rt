@@ -3,11 +3,11 @@ ghost use Rattle.std.specs.Prelude.{◌≡◌, ◌++◌, map, OnOk, IfOk, IfSome
 ghost use Rattle.json.specs.Json.{document};
 ghost use Rattle.json.specs.Layout.{pretty};
 ghost use Rattle.json.specs.Tree.{json_tokens};
-ghost use Rattle.report_entries.specs.Entries.{entry_of, said_of};
-ghost use Rattle.report_entries.specs.EntryJson.{alarm_members, amount_json, amount_members, amounts_json, app_json, apps_json, config_status_members, count_members, entries_members, flag_json, flags_json, IsJsonText, form_members, kind_members, lane_members, lane_state_json, lane_states_json, lanes_members, limits_json, path_state_members, report_json, said_members, starts_members, state_members, string_members, usable_members, warning_members};
+ghost use Rattle.report_entries.specs.Entries.{content_of, entry_of};
+ghost use Rattle.report_entries.specs.EntryJson.{alarm_members, amount_json, amount_members, amounts_json, app_json, apps_json, config_status_members, count_members, entries_members, flag_json, flags_json, IsJsonText, form_members, kind_members, lane_members, lane_state_json, lane_states_json, lanes_members, limits_json, path_state_members, report_json, content_members, starts_members, state_members, string_members, usable_members, warning_members};
 ghost use Rattle.report_entries.specs.JsonTrees.{all_member_tokens, all_tokens};
 
-use crate::entry::{Entry, LaneState, Said};
+use crate::entry::{Content, Entry, LaneState};
 use crate::fact_json::put_fact;
 use crate::flag::Flag;
 use crate::json_writer::JsonWriter;
@@ -27,7 +27,7 @@ pub fn json(alloc: Global, entries: &[Entry]) -> Result<Vec<u8>, AllocError>
     Ok(text)
 }
 
-// The same without the last LF. Reading it gives back what was said.
+// The same without the last LF. Reading it gives back the entries.
 fn json_lines(alloc: Global, entries: &[Entry]) -> Result<Vec<u8>, AllocError>
     ensures text { IfOk result (λ text.
         text.items ≡ pretty (json_tokens (report_json (map entry_of entries.now)))) }
@@ -54,75 +54,79 @@ fn put_entries(out: &mut JsonWriter, entries: &[Entry]) -> Result<(), AllocError
         ≡ out.old ++ all_member_tokens (entries_members (map entry_of entries.now))) }
 {
     for entry in entries {
-        put_said(out, entry.name, &entry.said)?;
+        put_content(out, entry.name, &entry.content)?;
     }
     Ok(())
 }
 
-#[tactic(auto, unfolding(crate::specs::EntryJson::said_members))]
-fn put_said(out: &mut JsonWriter, name: &'static str, said: &Said) -> Result<(), AllocError>
+#[tactic(auto, unfolding(crate::specs::EntryJson::content_members))]
+fn put_content(
+    out: &mut JsonWriter,
+    name: &'static str,
+    content: &Content,
+) -> Result<(), AllocError>
     ensures { OnOk result (out.new
-        ≡ out.old ++ all_member_tokens (said_members name.now (said_of said.now))) }
+        ≡ out.old ++ all_member_tokens (content_members name.now (content_of content.now))) }
 {
-    match said {
-        Said::Amount(millis, unit) => {
+    match content {
+        Content::Amount(millis, unit) => {
             out.key_in(name, unit.key())?;
             out.amount(*millis)
         }
-        Said::Lanes(millis, unit) => {
+        Content::Lanes(millis, unit) => {
             out.key_in(name, unit.key())?;
             put_amounts(out, millis.as_slice())
         }
-        Said::Limits(limits, unit) => {
+        Content::Limits(limits, unit) => {
             out.key_in(name, unit.key())?;
             put_limits(out, *limits)
         }
-        Said::State(code) => put_state(out, name, *code),
-        Said::Right(right) => {
+        Content::State(code) => put_state(out, name, *code),
+        Content::Right(right) => {
             out.key_in(name, "right")?;
             out.boolean(*right)
         }
-        Said::Word(word) => {
+        Content::Word(word) => {
             out.key_of(name)?;
             out.string(*word)
         }
-        Said::Number(number) => {
+        Content::Number(number) => {
             out.key_of(name)?;
             out.number(u64::from(*number))
         }
-        Said::Code(byte) => {
+        Content::Code(byte) => {
             out.key_of(name)?;
             out.number(u64::from(*byte))
         }
-        Said::Revision(byte) => {
+        Content::Revision(byte) => {
             out.key_of(name)?;
             out.shown(Revision(*byte))
         }
-        Said::Text(bytes) => {
+        Content::Text(bytes) => {
             out.key_of(name)?;
             out.shown(TextIn(bytes.as_slice()))
         }
-        Said::Oui(bytes) => {
+        Content::Oui(bytes) => {
             out.key_of(name)?;
             out.shown(Hexadecimal(bytes))
         }
-        Said::LaneSet(lanes) => {
+        Content::LaneSet(lanes) => {
             out.key_of(name)?;
             out.number(u64::from(lanes.byte()))
         }
-        Said::LaneStates(states) => {
+        Content::LaneStates(states) => {
             out.key_of(name)?;
             put_lane_states(out, states.as_slice())
         }
-        Said::Flags(flags) => {
+        Content::Flags(flags) => {
             out.key_of(name)?;
             put_flags(out, flags)
         }
-        Said::Apps(apps) => {
+        Content::Apps(apps) => {
             out.key_of(name)?;
             put_apps(out, apps.as_slice())
         }
-        Said::Fact(place, fact) => put_fact(out, name, *place, fact),
+        Content::Fact(place, fact) => put_fact(out, name, *place, fact),
     }
 }
 

@@ -1,12 +1,12 @@
 // A report as text.
 ghost use Rattle.std.specs.Prelude.{◌≡◌, ◌≤◌, ◌++◌, ◌∷◌, [], length, map, OnOk, IfOk};
 ghost use Rattle.text_lines.specs.Lines.{text_of};
-ghost use Rattle.report_entries.specs.Entries.{entry_of, said_of};
+ghost use Rattle.report_entries.specs.Entries.{content_of, entry_of};
 ghost use Rattle.report_entries.specs.AppText.{app_line};
-ghost use Rattle.report_entries.specs.EntryText.{lane_line, in_thousandths, lane_lines, lane_state_line, lane_state_lines, report_text, said_lines};
+ghost use Rattle.report_entries.specs.EntryText.{lane_line, in_thousandths, lane_lines, lane_state_line, lane_state_lines, report_text, content_lines};
 ghost use Rattle.report_entries.specs.Flags.{flag_lines};
 
-use crate::entry::{Entry, LaneState, Said};
+use crate::entry::{Content, Entry, LaneState};
 use crate::fact_text::push_fact;
 use crate::flag::Flag;
 use crate::monitor::{LaneMeasure, LimitsText};
@@ -33,32 +33,36 @@ fn push_entries(report: &mut ReportText, entries: &[Entry]) -> Result<(), AllocE
     ensures { OnOk result (report.new ≡ report.old ++ report_text (map entry_of entries.now)) }
 {
     for entry in entries {
-        push_said(report, entry.name, &entry.said)?;
+        push_content(report, entry.name, &entry.content)?;
     }
     Ok(())
 }
 
-#[tactic(auto, unfolding(crate::specs::EntryText::said_lines))]
-fn push_said(report: &mut ReportText, name: &'static str, said: &Said) -> Result<(), AllocError>
-    ensures { OnOk result (report.new ≡ report.old ++ text_of (said_lines name.now (said_of said.now))) }
+#[tactic(auto, unfolding(crate::specs::EntryText::content_lines))]
+fn push_content(
+    report: &mut ReportText,
+    name: &'static str,
+    content: &Content,
+) -> Result<(), AllocError>
+    ensures { OnOk result (report.new ≡ report.old ++ text_of (content_lines name.now (content_of content.now))) }
 {
-    match said {
-        Said::Word(word) => report.line(name, *word),
-        Said::Right(right) => report.line(name, sum_word(*right)),
-        Said::Number(number) => report.line(name, *number),
-        Said::Code(byte) => report.line(name, Code(*byte)),
-        Said::Revision(byte) => report.line(name, Revision(*byte)),
-        Said::Text(bytes) => report.line(name, TextIn(bytes.as_slice())),
-        Said::Oui(bytes) => report.line(name, Hexadecimal(bytes)),
-        Said::Amount(millis, unit) => report.line(name, Measure(*millis, unit.name())),
-        Said::Lanes(millis, unit) => push_lanes(report, name, millis.as_slice(), *unit),
-        Said::Limits(limits, _) => report.line(name, LimitsText(in_thousandths(*limits))),
-        Said::State(code) => report.line(name, ModuleStateCode(*code)),
-        Said::LaneStates(states) => push_lane_states(report, name, states.as_slice()),
-        Said::Flags(flags) => push_flags(report, name, flags),
-        Said::Apps(apps) => push_apps(report, name, apps.as_slice()),
-        Said::LaneSet(lanes) => report.line(name, LanesCode(*lanes)),
-        Said::Fact(place, fact) => push_fact(report, name, *place, fact),
+    match content {
+        Content::Word(word) => report.line(name, *word),
+        Content::Right(right) => report.line(name, sum_word(*right)),
+        Content::Number(number) => report.line(name, *number),
+        Content::Code(byte) => report.line(name, Code(*byte)),
+        Content::Revision(byte) => report.line(name, Revision(*byte)),
+        Content::Text(bytes) => report.line(name, TextIn(bytes.as_slice())),
+        Content::Oui(bytes) => report.line(name, Hexadecimal(bytes)),
+        Content::Amount(millis, unit) => report.line(name, Measure(*millis, unit.name())),
+        Content::Lanes(millis, unit) => push_lanes(report, name, millis.as_slice(), *unit),
+        Content::Limits(limits, _) => report.line(name, LimitsText(in_thousandths(*limits))),
+        Content::State(code) => report.line(name, ModuleStateCode(*code)),
+        Content::LaneStates(states) => push_lane_states(report, name, states.as_slice()),
+        Content::Flags(flags) => push_flags(report, name, flags),
+        Content::Apps(apps) => push_apps(report, name, apps.as_slice()),
+        Content::LaneSet(lanes) => report.line(name, LanesCode(*lanes)),
+        Content::Fact(place, fact) => push_fact(report, name, *place, fact),
     }
 }
 

@@ -31,7 +31,7 @@ pub enum Condition {
     RxLol,
 }
 
-/// What a flag tells.
+/// What a flag is about.
 #[derive(Clone, Copy)]
 pub enum FlagName {
     /// What is measured has passed a limit.

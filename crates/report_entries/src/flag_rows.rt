@@ -1,4 +1,4 @@
-// The flags of a report as rows: what each tells, and which bits of a module's memory raise it.
+// The flags of a report as rows: the name of each, and which bits of a module's memory raise it.
 ghost use Rattle.std.specs.Prelude.{◌≡◌, ◌++◌, ◌∷◌, [], IfOk, IsTrue, OnOk};
 ghost use Rattle.std.specs.List.{list_all};
 ghost use Rattle.field_tables.specs.FieldRows.{row_of};
@@ -50,7 +50,7 @@ pub fn raised_flags(
 }
 
 /// All of these flags, each with whether it is raised.
-pub fn told_flags(
+pub fn all_flags(
     alloc: Global,
     image: &Image,
     flat: bool,
@@ -61,13 +61,13 @@ pub fn told_flags(
 {
     let mut flags = Vec::new(alloc);
     for row in rows {
-        tell_row(&mut flags, image, flat, row)?;
+        add_flags(&mut flags, image, flat, row)?;
     }
     Ok(flags)
 }
 
 #[tactic(auto, unfolding(crate::specs::FlagRows::row_flags))]
-fn tell_row(
+fn add_flags(
     flags: &mut Vec<(Flag, bool)>,
     image: &Image,
     flat: bool,
@@ -85,11 +85,11 @@ fn tell_row(
             flags.push((Flag { name, lane }, bit_at(image, row.field, index)))?;
             Ok(())
         }
-        FlagPlace::Lanes => tell_lanes(flags, image, name, row.field),
+        FlagPlace::Lanes => add_lane_flags(flags, image, name, row.field),
     }
 }
 
-fn tell_lanes(
+fn add_lane_flags(
     flags: &mut Vec<(Flag, bool)>,
     image: &Image,
     name: FlagName,

@@ -30,7 +30,7 @@ pub enum Source<T> {
     LaneStates(Field, Field),
 }
 
-/// What is said if a field has a number: nothing, or this word.
+/// What stands in place of the source if a field has this number: nothing, or this word.
 #[derive(Clone, Copy)]
 pub enum Instead<T> {
     Nothing(Field, u8),
@@ -44,7 +44,7 @@ pub struct Row<T, I> {
     pub source: Source<T>,
     /// Whether only for a module with paged memory.
     pub paged: bool,
-    /// The first that applies is said in place of the source.
+    /// The first that applies stands in place of the source.
     pub instead: I,
 }
 

@@ -2,7 +2,7 @@
 use Rattle.module_decoding.specs.declared.report.Report.TheVariants.{Flags, Inventory, Monitors}
 use Rattle.reports.specs.SameReports.{FetchedReportsSame}
 use Rattle.reports.proofs.FetchedHalves.{fetched_agree}
-use Rattle.reports.proofs.SameSaid.{same_apps, same_details, same_report, same_told_flags}
+use Rattle.reports.proofs.SameContents.{same_apps, same_details, same_report, same_flag_states}
 
 pub fetched_reports : FetchedReportsSame
 fetched_reports old new history memory copy image start ran fetching =
@@ -13,5 +13,5 @@ fetched_reports old new history memory copy image start ran fetching =
       monitors = same_report Monitors copy memory agree;
       flags = same_report Flags copy memory agree;
       details = same_details copy memory agree;
-      told = same_told_flags copy memory agree;
+      each_flag = same_flag_states copy memory agree;
     }

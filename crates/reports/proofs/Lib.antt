@@ -3,7 +3,7 @@ pub mod SameFamilies
 pub mod SameApps
 mod SameDetailRows
 pub mod SameIf
-pub mod SameSaid
+pub mod SameContents
 pub mod FetchedReports
 pub mod SameRows
 mod UniqueDetails

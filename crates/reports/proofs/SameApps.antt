@@ -28,30 +28,30 @@ details_of memory flat = if not flat && is_some (page_fault memory) then [] else
 
 -- ---- what is said of descriptors of flat memory
 
-abbrev told_of : Memory → List ℕ → List Entry
-told_of memory [] = []
-told_of memory (n ∷ ns) = cond (is_listed (app_at memory n)) (app_entries true (number memory fields.CMediaType) (app_at memory n) ++ told_of memory ns) []
+abbrev entries_of_apps : Memory → List ℕ → List Entry
+entries_of_apps memory [] = []
+entries_of_apps memory (n ∷ ns) = cond (is_listed (app_at memory n)) (app_entries true (number memory fields.CMediaType) (app_at memory n) ++ entries_of_apps memory ns) []
 
-pub told_is : (memory : Memory) (ns : List ℕ) → flat_map (app_entries true (number memory fields.CMediaType)) (take_while is_listed (map (app_at memory) ns)) ≡ told_of memory ns
-told_is memory [] = refl
-told_is memory (n ∷ ns) =
-    ap (flat_map entries) (take_while-cons is_listed (app_at memory n) (map (app_at memory) ns)) ∙ by (is_listed (app_at memory n)) (told_is memory ns) where
+pub entries_are : (memory : Memory) (ns : List ℕ) → flat_map (app_entries true (number memory fields.CMediaType)) (take_while is_listed (map (app_at memory) ns)) ≡ entries_of_apps memory ns
+entries_are memory [] = refl
+entries_are memory (n ∷ ns) =
+    ap (flat_map entries) (take_while-cons is_listed (app_at memory n) (map (app_at memory) ns)) ∙ by (is_listed (app_at memory n)) (entries_are memory ns) where
       entries : App → List Entry
       entries = app_entries true (number memory fields.CMediaType)
 
-      by : (listed : Bool) → flat_map entries (take_while is_listed (map (app_at memory) ns)) ≡ told_of memory ns → flat_map entries (cond listed (app_at memory n ∷ take_while is_listed (map (app_at memory) ns)) []) ≡ cond listed (entries (app_at memory n) ++ told_of memory ns) []
-      by true later = ap (λ (said : List Entry). entries (app_at memory n) ++ said) later
+      by : (listed : Bool) → flat_map entries (take_while is_listed (map (app_at memory) ns)) ≡ entries_of_apps memory ns → flat_map entries (cond listed (app_at memory n ∷ take_while is_listed (map (app_at memory) ns)) []) ≡ cond listed (entries (app_at memory n) ++ entries_of_apps memory ns) []
+      by true later = ap (λ (rest : List Entry). entries (app_at memory n) ++ rest) later
       by false later = refl
 
 -- beyond the eighth nothing is said
-pub none_told : (memory : Memory) (ns : List ℕ) → list_all (nat_lt 8) ns ≡ true → told_of memory ns ≡ []
+pub no_entries : (memory : Memory) (ns : List ℕ) → list_all (nat_lt 8) ns ≡ true → entries_of_apps memory ns ≡ []
 unfolding app_entries app_at
-none_told memory [] far = refl
-none_told memory (n ∷ ns) far =
+no_entries memory [] far = refl
+no_entries memory (n ∷ ns) far =
     let media = number memory fields.CMediaType in
     let parts = and_parts _ _ far in
     let here = ap (λ (far : Bool). if far then [] else interface_entries media (app_at memory n) ++ (lane_entries (app_at memory n) ++ start_entries true (app_at memory n))) parts.0 in
-    (λ i. cond (is_listed (app_at memory n)) (here i ++ none_told memory ns parts.1 i) [])
+    (λ i. cond (is_listed (app_at memory n)) (here i ++ no_entries memory ns parts.1 i) [])
     ∙ cond_both (is_listed (app_at memory n)) [] [] (λ (entries : List Entry). entries ≡ []) (λ is. refl) (λ not. refl)
 
 -- ---- the descriptors
@@ -81,13 +81,13 @@ module _ {a b : Memory} {keys : List Key} (agree : KeysAgree a b keys) where
       by (take_while is_listed) (mapped (app_at a) (app_at b)
       (λ n. by_two (λ (app : App) (starts : ℕ). record app { media_starts = lanes_in starts }) (described_same n) (number_read agree fields.CMediaStarts n)) (range_with_len 1 15))
 
-  abbrev told_same : (ns : List ℕ) → SameIf (told_of a ns) (told_of b ns)
+  abbrev entries_same : (ns : List ℕ) → SameIf (entries_of_apps a ns) (entries_of_apps b ns)
   unfolding described_same app_entries interface_entries host_entry medium_entry lane_entries start_entries app_entry
-  told_same [] = always []
-  told_same (n ∷ ns) =
+  entries_same [] = always []
+  entries_same (n ∷ ns) =
       if nat_le n 8 then
-      by_two (λ (it : ℕ × App) later. cond (is_listed it.1) (app_entries true it.0 it.1 ++ later) []) (pair (number_read agree fields.CMediaType 1) (described_same n)) (told_same ns)
-      else record { test = list_all (nat_lt 8) (n ∷ ns); same = λ far. none_told a (n ∷ ns) far ∙ sym (none_told b (n ∷ ns) far) }
+      by_two (λ (it : ℕ × App) later. cond (is_listed it.1) (app_entries true it.0 it.1 ++ later) []) (pair (number_read agree fields.CMediaType 1) (described_same n)) (entries_same ns)
+      else record { test = list_all (nat_lt 8) (n ∷ ns); same = λ far. no_entries a (n ∷ ns) far ∙ sym (no_entries b (n ∷ ns) far) }
 
   -- ---- what is said of them
 
@@ -98,9 +98,9 @@ module _ {a b : Memory} {keys : List Key} (agree : KeysAgree a b keys) where
 
   -- in details, of memory that is flat or not
   unfoldable pub details_same : (flat : Bool) → SameIf (details_of a flat) (details_of b flat)
-  unfolding apps_of apps_same told_same
+  unfolding apps_of apps_same entries_same
   details_same true =
-      let told = told_same (range_with_len 1 15) in
-      record { test = told.test; same = λ e. told_is a (range_with_len 1 15) ∙ told.same e ∙ sym (told_is b (range_with_len 1 15)) }
+      let same_entries = entries_same (range_with_len 1 15) in
+      record { test = same_entries.test; same = λ e. entries_are a (range_with_len 1 15) ∙ same_entries.same e ∙ sym (entries_are b (range_with_len 1 15)) }
   details_same false =
       either (by is_some (refusal_same agree page_reasons)) (always []) (by_two (λ media apps. flat_map (app_entries false media) apps) (number_read agree fields.CMediaType 1) apps_same)

@@ -31,8 +31,8 @@ use Rattle.reports.proofs.SameIf.{KeysAgree, SameIf, always, amount_read, any, b
 
 -- a row that is left out of flat memory, or where a test says so
 abbrev left_out : {A : Type 0} {s t : Bool} {u v : List A} (absent : Bool) → SameIf s t → SameIf u v → SameIf (if absent || s then [] else u) (if absent || t then [] else v)
-left_out true test said = always []
-left_out false test said = either test (always []) said
+left_out true test content = always []
+left_out false test content = either test (always []) content
 
 module _ {a b : Memory} {keys : List Key} (agree : KeysAgree a b keys) where
   abbrev class_same : SameIf (power_class a) (power_class b)

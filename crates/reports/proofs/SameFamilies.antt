@@ -40,15 +40,15 @@ none_mapped f None e = refl
 none_mapped f (Some x) e = absurd cc
 
 -- a report is the same whose faults have other names
-pub same_renamed : {E F A : Type 0} (f : E → F) (fault : Memory → Option E) (said : Memory → A) (a b : Memory) → IsSame fault said a b → IsSame (λ m. option_map f (fault m)) said a b
-same_renamed f fault said a b same = record { fault = ap (option_map f) same.fault; said = λ none. same.said (none_mapped f (fault a) none) }
+pub same_renamed : {E F A : Type 0} (f : E → F) (fault : Memory → Option E) (content : Memory → A) (a b : Memory) → IsSame fault content a b → IsSame (λ m. option_map f (fault m)) content a b
+same_renamed f fault content a b same = record { fault = ap (option_map f) same.fault; content = λ none. same.content (none_mapped f (fault a) none) }
 
 -- what is refused for the same reason before, or else has the same fault and says the same, is the same
-same_after : {F A : Type 0} (x y u v : Option F) (said other : A) → x ≡ y → (x ≡ None → (u ≡ v) × (u ≡ None → said ≡ other))
-    → (option_or x u ≡ option_or y v) × (option_or x u ≡ None → said ≡ other)
-same_after {F = F} x y u v said other same later =
-    subst (λ (z : Option F). (option_or x u ≡ option_or z v) × (option_or x u ≡ None → said ≡ other)) same (by x later) where
-      by : (first : Option F) → (first ≡ None → (u ≡ v) × (u ≡ None → said ≡ other)) → (option_or first u ≡ option_or first v) × (option_or first u ≡ None → said ≡ other)
+same_after : {F A : Type 0} (x y u v : Option F) (content other : A) → x ≡ y → (x ≡ None → (u ≡ v) × (u ≡ None → content ≡ other))
+    → (option_or x u ≡ option_or y v) × (option_or x u ≡ None → content ≡ other)
+same_after {F = F} x y u v content other same later =
+    subst (λ (z : Option F). (option_or x u ≡ option_or z v) × (option_or x u ≡ None → content ≡ other)) same (by x later) where
+      by : (first : Option F) → (first ≡ None → (u ≡ v) × (u ≡ None → content ≡ other)) → (option_or first u ≡ option_or first v) × (option_or first u ≡ None → content ≡ other)
       by None later = later refl
       by (Some fault) later = (refl, λ none. absurd cc)
 
@@ -67,7 +67,7 @@ keys_by Sff8472 diagnosed = map key_of (sfp_regions everything diagnosed)
 
 -- the halves agree that are asked for of a module of this family
 abbrev pub FamilyAgrees : Memory → Memory → Family → Type 0
-FamilyAgrees a b family = (told : Bool) → tells family a ≡ told → KeysAgree a b (keys_by family told)
+FamilyAgrees a b family = (which : Bool) → tells family a ≡ which → KeysAgree a b (keys_by family which)
 
 -- and of one that is found to be of it, or of none
 abbrev pub AllAgree : Memory → Memory → Type 0
@@ -79,8 +79,8 @@ low_agrees a b all = all.half (lower_key A0) (ap (λ (regions : List Region). is
 pub family_agrees : (a b : Memory) (family : Family) → managed_by (identifier a) ≡ Some family → AllAgree a b → FamilyAgrees a b family
 family_agrees a b family managed all = by family (subst (λ (found : Option Family). KeysAgree a b (map key_of (regions_in everything found a))) managed all) where
   by : (family : Family) → KeysAgree a b (map key_of (regions_in everything (Some family) a)) → FamilyAgrees a b family
-  by Cmis agree told is = subst (λ (flat : Bool). KeysAgree a b (keys_by Cmis flat)) is agree
-  by other agree told is = subst (λ (t : Bool). KeysAgree a b (keys_by other t)) is agree
+  by Cmis agree which is = subst (λ (flat : Bool). KeysAgree a b (keys_by Cmis flat)) is agree
+  by other agree which is = subst (λ (t : Bool). KeysAgree a b (keys_by other t)) is agree
 
 -- a family that all reports may speak of is the one that manages the module
 pub is_managed : (id : ℕ) (family : Family) → family_by id ≡ Some family → managed_by id ≡ Some family
@@ -97,11 +97,11 @@ module _ (a b : Memory) (low : Agree a b (lower_key A0)) where
   same_told Sff8472 = λ i. (same_number a b SDiagPresent low refl refl i == 1) && not (same_number a b SAddressChange low refl refl i == 1)
 
   -- what is the same of modules of the family of which either is told
-  pub by_told : {A : Type 0} (family : Family) (of : Bool → Memory → A) → FamilyAgrees a b family → (each : (told : Bool) → KeysAgree a b (keys_by family told) → SameIf (of told a) (of told b))
+  pub by_told : {A : Type 0} (family : Family) (of : Bool → Memory → A) → FamilyAgrees a b family → (each : (which : Bool) → KeysAgree a b (keys_by family which) → SameIf (of which a) (of which b))
       → ((agree : KeysAgree a b (keys_by family true)) → (each true agree).test ≡ true) → ((agree : KeysAgree a b (keys_by family false)) → (each false agree).test ≡ true)
       → of (tells family a) a ≡ of (tells family b) b
-  by_told family of agree each if_true if_false = by (tells family a) (agree (tells family a) refl) ∙ ap (λ (told : Bool). of told b) (same_told family) where
-    by : (told : Bool) → KeysAgree a b (keys_by family told) → of told a ≡ of told b
+  by_told family of agree each if_true if_false = by (tells family a) (agree (tells family a) refl) ∙ ap (λ (which : Bool). of which b) (same_told family) where
+    by : (which : Bool) → KeysAgree a b (keys_by family which) → of which a ≡ of which b
     by true agree = (each true agree).same (if_true agree)
     by false agree = (each false agree).same (if_false agree)
 
@@ -109,11 +109,11 @@ module _ (a b : Memory) (low : Agree a b (lower_key A0)) where
 
 -- a report that is the same in each family is the same, whatever tells the family of an identifier, which revisions are read and what
 -- faults are called
-pub same_found : {F A : Type 0} (find : ℕ → Option Family) (is_read : ℕ → Bool) (called : ModuleFault → F) (fault_in : Family → Memory → Option F) (said_in : Family → Memory → A) (a b : Memory) → AllAgree a b
-    → ((id : ℕ) (family : Family) → find id ≡ Some family → managed_by id ≡ Some family) → ((family : Family) → FamilyAgrees a b family → IsSame (fault_in family) (said_in family) a b)
-    → IsSame (λ m. option_or (option_map called (families.fault_in (find (identifier m)) (is_read (number m CRevision)) m)) (fault_in (known (find (identifier m))) m)) (λ m. said_in (known (find (identifier m))) m) a b
+pub same_found : {F A : Type 0} (find : ℕ → Option Family) (is_read : ℕ → Bool) (called : ModuleFault → F) (fault_in : Family → Memory → Option F) (content_in : Family → Memory → A) (a b : Memory) → AllAgree a b
+    → ((id : ℕ) (family : Family) → find id ≡ Some family → managed_by id ≡ Some family) → ((family : Family) → FamilyAgrees a b family → IsSame (fault_in family) (content_in family) a b)
+    → IsSame (λ m. option_or (option_map called (families.fault_in (find (identifier m)) (is_read (number m CRevision)) m)) (fault_in (known (find (identifier m))) m)) (λ m. content_in (known (find (identifier m))) m) a b
 unfolding families.fault_in
-same_found {F} find is_read called fault_in said_in a b all managed each =
+same_found {F} find is_read called fault_in content_in a b all managed each =
     let low = low_agrees a b all in
     let absent = same_absent a b (lower_key A0) low in
     let id = same_number a b CIdentifier low refl refl in
@@ -128,8 +128,8 @@ same_found {F} find is_read called fault_in said_in a b all managed each =
     let same = same_after (refusal a) (refusal b) _ _ _ _ same_refusal (λ none.
     let applies = none_applies refused (none_mapped called (first_fault refused) none) in
     let found = in_found (find (identifier a)) refl (not-false (is_some (find (identifier a))) applies.1.0) in
-    (found.fault ∙ (λ i. fault_in (known (find (id i))) b), λ e. found.said e ∙ (λ i. said_in (known (find (id i))) b))) in
-    record { fault = same.0; said = same.1 } where
-      in_found : (found : Option Family) → find (identifier a) ≡ found → is_some found ≡ true → IsSame (fault_in (known found)) (said_in (known found)) a b
+    (found.fault ∙ (λ i. fault_in (known (find (id i))) b), λ e. found.content e ∙ (λ i. content_in (known (find (id i))) b))) in
+    record { fault = same.0; content = same.1 } where
+      in_found : (found : Option Family) → find (identifier a) ≡ found → is_some found ≡ true → IsSame (fault_in (known found)) (content_in (known found)) a b
       in_found (Some family) is some = each family (family_agrees a b family (managed (identifier a) family is) all)
       in_found None is some = absurd cc

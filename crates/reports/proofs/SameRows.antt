@@ -14,17 +14,17 @@ use Rattle.report_entries.specs.declared.flag_rows.FlagPlace.TheVariants as plac
 use Rattle.report_entries.specs.declared.flag_rows.FlagRow.{FlagRow}
 use Rattle.report_entries.specs.declared.printed_unit.PrintedUnit.TheVariants.{Metre}
 use Rattle.report_entries.specs.FlagRows.{flags_at, lane_flag, row_flags, rows_flags}
-use Rattle.report_entries.specs.Rows.{Row, Source, Instead, Word, Either, Code, Revision, Next, Text, Oui, Right, Amount, Length, Lanes, Limits, State, LaneStates, Nothing, Says, applies, decided_entries, lane_state_at, printed_unit, row_entries, rows_entries, source_said}
+use Rattle.report_entries.specs.Rows.{Row, Source, Instead, Word, Either, Code, Revision, Next, Text, Oui, Right, Amount, Length, Lanes, Limits, State, LaneStates, Nothing, Wording, applies, decided_entries, lane_state_at, printed_unit, row_entries, rows_entries, source_content}
 use Rattle.reports.proofs.SameIf.{KeysAgree, SameIf, always, amount_read, bit_read, by, by_two, choice, each, first, length_read, mapped, number_read, numbers_read, pair, sum_read, text_read}
 
-pub decided_same : (a b : Memory) (row : Row) → source_said a row.source ≡ source_said b row.source → (decided : Option Instead) → decided_entries a row decided ≡ decided_entries b row decided
-decided_same a b row said None = λ j. entry row.name (said j) ∷ []
-decided_same a b row said (Some (Nothing field n)) = refl
-decided_same a b row said (Some (Says field n w)) = refl
+pub decided_same : (a b : Memory) (row : Row) → source_content a row.source ≡ source_content b row.source → (decided : Option Instead) → decided_entries a row decided ≡ decided_entries b row decided
+decided_same a b row content None = λ j. entry row.name (content j) ∷ []
+decided_same a b row content (Some (Nothing field n)) = refl
+decided_same a b row content (Some (Wording field n w)) = refl
 
 module _ {a b : Memory} {keys : List Key} (agree : KeysAgree a b keys) where
-  abbrev source_same : (s : Source) → SameIf (source_said a s) (source_said b s)
-  unfolding source_said amount_at
+  abbrev source_same : (s : Source) → SameIf (source_content a s) (source_content b s)
+  unfolding source_content amount_at
   source_same (Word w) = always (word w)
   source_same (Either field one other) = by (λ set. word (if set then one else other)) (bit_read agree field 1)
   source_same (Code field) = by code (number_read agree field 1)
@@ -48,15 +48,15 @@ module _ {a b : Memory} {keys : List Key} (agree : KeysAgree a b keys) where
 
   abbrev applies_same : (case : Instead) → SameIf (applies a case) (applies b case)
   applies_same (Nothing field n) = by (λ m. m == n) (number_read agree field 1)
-  applies_same (Says field n w) = by (λ m. m == n) (number_read agree field 1)
+  applies_same (Wording field n w) = by (λ m. m == n) (number_read agree field 1)
 
   -- a row is left out of flat memory, or told by what decides
   abbrev row_same : (flat : Bool) (row : Row) → SameIf (row_entries a flat row) (row_entries b flat row)
   unfolding row_entries source_same
   row_same flat row =
-      let said = source_same row.source in
-      let told : SameIf (decided_entries a row) (decided_entries b row) = record { test = said.test; same = λ e j decided. decided_same a b row (said.same e) decided j } in
-      choice (row.paged && flat) (always []) (by_two (λ told decided. told decided) told (first (applies a) (applies b) applies_same row.instead))
+      let content = source_same row.source in
+      let decided_alike : SameIf (decided_entries a row) (decided_entries b row) = record { test = content.test; same = λ e j decided. decided_same a b row (content.same e) decided j } in
+      choice (row.paged && flat) (always []) (by_two (λ decided_alike decided. decided_alike decided) decided_alike (first (applies a) (applies b) applies_same row.instead))
 
   unfoldable pub rows_same : (flat : Bool) (rows : List Row) → SameIf (rows_entries a flat rows) (rows_entries b flat rows)
   unfolding row_same

@@ -95,9 +95,9 @@ fact_part name place (Some f) = kept end
 lane_part : (memory : Memory) (name : List ℕ) (item : Item) (lane : ℕ) → lane < 10 → Part (keys_of (lane_entries memory name item lane)) (lane_key name lane ∷ [])
 unfolding lane_entries
 lane_part memory name item lane small =
-    let said = fact_entries name (Lane lane) (fact_at memory item lane) in
-    cond_both (has_lane memory lane) said [] (λ (entries : List Entry). Part (keys_of entries) (lane_key name lane ∷ []))
-    (λ has. subst (λ (key : List ℕ). Part (keys_of said) (key ∷ [])) (lane_key_text name lane small) (fact_part name (Lane lane) (fact_at memory item lane)))
+    let content = fact_entries name (Lane lane) (fact_at memory item lane) in
+    cond_both (has_lane memory lane) content [] (λ (entries : List Entry). Part (keys_of entries) (lane_key name lane ∷ []))
+    (λ has. subst (λ (key : List ℕ). Part (keys_of content) (key ∷ [])) (lane_key_text name lane small) (fact_part name (Lane lane) (fact_at memory item lane)))
     (λ lacks. left end)
 
 values_part : (memory : Memory) (name : List ℕ) (item : Item) (values : Values) → are_small values ≡ true → Part (keys_of (values_entries memory name item values)) (values_keys name values)
@@ -109,7 +109,7 @@ row_part : (memory : Memory) (flat : Bool) (row : Row) → are_small row.values 
 unfolding row_entries
 row_part memory flat row e =
     cond_both (is_left_out memory flat row) [] (values_entries memory row.name row.item row.values) (λ (entries : List Entry). Part (keys_of entries) (row_keys row))
-    (λ left_out. part_none (row_keys row)) (λ told. values_part memory row.name row.item row.values e)
+    (λ left_out. part_none (row_keys row)) (λ shown. values_part memory row.name row.item row.values e)
 
 -- ---- of each family
 

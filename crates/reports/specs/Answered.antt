@@ -1,4 +1,4 @@
--- What a report answers: its fault if there is one, and else what it says, if there is memory for it: as entries, as text or as
+-- What a report answers: its fault if there is one, and else its entries, if there is memory for them: as they are, as text or as
 -- JSON. (docs/formats.md, "Reports" and "JSON"; this project's own)
 use Rattle.std.specs.Prelude.{◌≡◌, ℕ, Bool, List, MatchOption, Option, Result, Ok, Err, Vec}
 use Rattle.std.specs.Result.{result_map_both}
@@ -6,23 +6,23 @@ use Rattle.std.specs.declared.alloc.Global.{Global}
 use Rattle.text_lines.specs.Lines.{text_of}
 use Rattle.report_entries.specs.declared.entry.Entry as rust
 use Rattle.report_entries.specs.declared.flag.Flag.{Flag}
-use Rattle.report_entries.specs.Entries.{Entry, said_in}
+use Rattle.report_entries.specs.Entries.{Entry, as_entries}
 use Rattle.report_entries.specs.EntryJson.{IsJsonText, report_json}
 use Rattle.reports.specs.declared.fault.ReportFault.{ReportFault}
 use Rattle.reports.specs.declared.fault.ReportFault.TheVariants.{Memory}
 
 -- P holds of what is answered, if there is memory for it
 abbrev pub IfMemory : {A : Type 0} → (A → Type 0) → Result A ReportFault → Type 0
-IfMemory P (Ok said) = P said
+IfMemory P (Ok answer) = P answer
 IfMemory P (Err fault) = fault ≡ Memory
 
 -- this fault if there is one, else these entries
-abbrev pub Says : Option ReportFault → List Entry → Result (Vec rust.Entry Global) ReportFault → Type 0
-Says refused entries result = MatchOption refused (IfMemory (λ (said : Vec rust.Entry Global). said_in said ≡ entries) result) (λ fault. result ≡ Err fault)
+abbrev pub AreEntries : Option ReportFault → List Entry → Result (Vec rust.Entry Global) ReportFault → Type 0
+AreEntries refused entries result = MatchOption refused (IfMemory (λ (found : Vec rust.Entry Global). as_entries found ≡ entries) result) (λ fault. result ≡ Err fault)
 
 -- this fault if there is one, else these flags, each with whether it is raised
-abbrev pub Tells : Option ReportFault → List (Flag × Bool) → Result (Vec (Flag × Bool) Global) ReportFault → Type 0
-Tells refused flags result = MatchOption refused (IfMemory (λ (told : Vec (Flag × Bool) Global). told.items ≡ flags) result) (λ fault. result ≡ Err fault)
+abbrev pub AreFlags : Option ReportFault → List (Flag × Bool) → Result (Vec (Flag × Bool) Global) ReportFault → Type 0
+AreFlags refused flags result = MatchOption refused (IfMemory (λ (each_flag : Vec (Flag × Bool) Global). each_flag.items ≡ flags) result) (λ fault. result ≡ Err fault)
 
 -- this fault if there is one, else the text of these lines
 abbrev pub Reports : Option ReportFault → List (List ℕ) → Result (Vec ℕ Global) ReportFault → Type 0

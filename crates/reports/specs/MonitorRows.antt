@@ -5,11 +5,11 @@
 use Rattle.std.specs.Prelude.{List, [], ◌∷◌, None, Some, codes}
 use Rattle.field_tables.specs.declared.field.Field.TheVariants as fields
 use Rattle.field_tables.specs.declared.field.Sum.TheVariants as sums
-use Rattle.report_entries.specs.Rows.{Row, Instead, Amount, Lanes, Limits, Right, Nothing, Says, always, if_paged}
+use Rattle.report_entries.specs.Rows.{Row, Instead, Amount, Lanes, Limits, Right, Nothing, Wording, always, if_paged}
 
 -- the module says that it measures none, or multiplies bias by a reserved code
 abbrev bias_words : List Instead
-bias_words = Says fields.CTxBiasMonitor 0 (codes "unsupported") ∷ Says fields.CBiasMultiplier 3 (codes "reserved") ∷ []
+bias_words = Wording fields.CTxBiasMonitor 0 (codes "unsupported") ∷ Wording fields.CBiasMultiplier 3 (codes "reserved") ∷ []
 
 abbrev bias_blanks : List Instead
 bias_blanks = Nothing fields.CTxBiasMonitor 0 ∷ Nothing fields.CBiasMultiplier 3 ∷ []
@@ -20,11 +20,11 @@ cmis_rows =
     ∷ if_paged (codes "temperature-limits") (Limits fields.CTempLimits None) []
     ∷ always (codes "vcc") (Amount fields.CVcc)
     ∷ if_paged (codes "vcc-limits") (Limits fields.CVccLimits None) []
-    ∷ if_paged (codes "tx-power") (Lanes fields.CTxPower None) (Says fields.CTxPowerMonitor 0 (codes "unsupported") ∷ [])
+    ∷ if_paged (codes "tx-power") (Lanes fields.CTxPower None) (Wording fields.CTxPowerMonitor 0 (codes "unsupported") ∷ [])
     ∷ if_paged (codes "tx-power-limits") (Limits fields.CTxPowerLimits None) (Nothing fields.CTxPowerMonitor 0 ∷ [])
     ∷ if_paged (codes "tx-bias") (Lanes fields.CTxBias (Some fields.CBiasMultiplier)) bias_words
     ∷ if_paged (codes "tx-bias-limits") (Limits fields.CTxBiasLimits (Some fields.CBiasMultiplier)) bias_blanks
-    ∷ if_paged (codes "rx-power") (Lanes fields.CRxPower None) (Says fields.CRxPowerMonitor 0 (codes "unsupported") ∷ [])
+    ∷ if_paged (codes "rx-power") (Lanes fields.CRxPower None) (Wording fields.CRxPowerMonitor 0 (codes "unsupported") ∷ [])
     ∷ if_paged (codes "rx-power-limits") (Limits fields.CRxPowerLimits None) (Nothing fields.CRxPowerMonitor 0 ∷ [])
     ∷ if_paged (codes "sum-02h") (Right sums.CSum02) []
     ∷ []

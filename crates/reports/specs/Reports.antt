@@ -49,17 +49,17 @@ is_flat_in families.Cmis memory = is_flat memory
 is_flat_in families.Sff8636 memory = bit memory QFlatMemory
 is_flat_in families.Sff8472 memory = false
 
-abbrev pub said_in : Report → Family → Memory → List Entry
-said_in report family memory = rows_entries memory (is_flat_in family memory) (rows_of report family)
+abbrev pub family_entries : Report → Family → Memory → List Entry
+family_entries report family memory = rows_entries memory (is_flat_in family memory) (rows_of report family)
 
 -- all flags that it has, each with whether it is raised
-abbrev pub told_in : Family → Memory → List (Flag × Bool)
-told_in family memory = rows_flags memory (is_flat_in family memory) (flag_rows_of family)
+abbrev pub family_flags : Family → Memory → List (Flag × Bool)
+family_flags family memory = rows_flags memory (is_flat_in family memory) (flag_rows_of family)
 
 abbrev pub entries_in : Report → Family → Memory → List Entry
-entries_in Inventory family memory = said_in Inventory family memory
-entries_in Monitors family memory = said_in Monitors family memory
-entries_in Flags family memory = said_in Flags family memory ++ flags_entry (raised (told_in family memory)) ∷ []
+entries_in Inventory family memory = family_entries Inventory family memory
+entries_in Monitors family memory = family_entries Monitors family memory
+entries_in Flags family memory = family_entries Flags family memory ++ flags_entry (raised (family_flags family memory)) ∷ []
 
 -- ---- by its family
 
@@ -72,8 +72,8 @@ entries_of report memory = entries_in report (family_of memory) memory
 unfoldable pub report_lines : Report → Memory → List (List ℕ)
 report_lines report memory = entries_lines (entries_of report memory)
 
-unfoldable pub flags_told : Memory → List (Flag × Bool)
-flags_told memory = told_in (family_of memory) memory
+unfoldable pub flag_states : Memory → List (Flag × Bool)
+flag_states memory = family_flags (family_of memory) memory
 
 -- ---- each of them
 

@@ -1,5 +1,5 @@
 // All that a module says of itself.
-ghost use Rattle.reports.specs.Answered.{Reports, ReportsJson, Says};
+ghost use Rattle.reports.specs.Answered.{AreEntries, Reports, ReportsJson};
 ghost use Rattle.reports.specs.Details as spec;
 ghost use Rattle.reports.specs.Details.{details_entries, details_fault, details_lines};
 ghost use Rattle.paged_memory.specs.declared.family.Family.TheVariants as families;
@@ -14,7 +14,7 @@ use report_entries::{Entry, json, text};
 use std::alloc::Global;
 
 /// All that the module says of itself, line by line.
-#[tactic(auto, unfolding(report_entries::specs::Entries::said_in, crate::specs::Details::details_lines))]
+#[tactic(auto, unfolding(report_entries::specs::Entries::as_entries, crate::specs::Details::details_lines))]
 pub fn details(alloc: Global, image: &Image) -> Result<Vec<u8>, ReportFault>
     ensures { Reports (details_fault image.now) (details_lines image.now) result }
 {
@@ -22,7 +22,7 @@ pub fn details(alloc: Global, image: &Image) -> Result<Vec<u8>, ReportFault>
 }
 
 /// The same as JSON.
-#[tactic(auto, unfolding(report_entries::specs::Entries::said_in))]
+#[tactic(auto, unfolding(report_entries::specs::Entries::as_entries))]
 pub fn details_json(alloc: Global, image: &Image) -> Result<Vec<u8>, ReportFault>
     ensures { ReportsJson (details_fault image.now) (details_entries image.now) result }
 {
@@ -31,7 +31,7 @@ pub fn details_json(alloc: Global, image: &Image) -> Result<Vec<u8>, ReportFault
 
 #[tactic(auto, unfolding(crate::specs::Details::details_fault, crate::specs::Details::details_entries))]
 fn details_entries(alloc: Global, image: &Image) -> Result<Vec<Entry>, ReportFault>
-    ensures { Says (details_fault image.now) (details_entries image.now) result }
+    ensures { AreEntries (details_fault image.now) (details_entries image.now) result }
 {
     match detail_family_of(image)? {
         Family::Cmis => of_cmis(alloc, image),
@@ -41,7 +41,7 @@ fn details_entries(alloc: Global, image: &Image) -> Result<Vec<Entry>, ReportFau
 }
 
 fn of_cmis(alloc: Global, image: &Image) -> Result<Vec<Entry>, ReportFault>
-    ensures { Says (spec.fault_in families.Cmis image.now) (spec.entries_in families.Cmis image.now) result }
+    ensures { AreEntries (spec.fault_in families.Cmis image.now) (spec.entries_in families.Cmis image.now) result }
 {
     if let Some(key) = absent_detail_page(image) {
         return Err(ReportFault::Absent(key));
@@ -50,7 +50,7 @@ fn of_cmis(alloc: Global, image: &Image) -> Result<Vec<Entry>, ReportFault>
 }
 
 fn of_sff8636(alloc: Global, image: &Image) -> Result<Vec<Entry>, ReportFault>
-    ensures { Says (spec.fault_in families.Sff8636 image.now) (spec.entries_in families.Sff8636 image.now) result }
+    ensures { AreEntries (spec.fault_in families.Sff8636 image.now) (spec.entries_in families.Sff8636 image.now) result }
 {
     if let Some(fault) = sff8636_map::identity_refusal(image) {
         return Err(ReportFault::Sff(fault));
@@ -59,7 +59,7 @@ fn of_sff8636(alloc: Global, image: &Image) -> Result<Vec<Entry>, ReportFault>
 }
 
 fn of_sff8472(alloc: Global, image: &Image) -> Result<Vec<Entry>, ReportFault>
-    ensures { Says (spec.fault_in families.Sff8472 image.now) (spec.entries_in families.Sff8472 image.now) result }
+    ensures { AreEntries (spec.fault_in families.Sff8472 image.now) (spec.entries_in families.Sff8472 image.now) result }
 {
     if let Some(fault) = sff8472_map::module_refusal(image) {
         return Err(ReportFault::Sff(fault));

@@ -1,12 +1,12 @@
 // What a module is, what it measures, and what it warns of.
 ghost use Rattle.std.specs.Prelude.{◌≡◌, ◌∷◌, ◌++◌, [], IfOk};
 ghost use Rattle.module_decoding.specs.declared.report.Report.TheVariants.{Flags, Inventory, Monitors};
-ghost use Rattle.report_entries.specs.Entries.{said_in};
+ghost use Rattle.report_entries.specs.Entries.{as_entries};
 ghost use Rattle.report_entries.specs.FlagRows.{flags_entry};
 ghost use Rattle.report_entries.specs.Flags.{raised};
-ghost use Rattle.reports.specs.Answered.{Reports, ReportsJson, Says, Tells};
+ghost use Rattle.reports.specs.Answered.{AreEntries, AreFlags, Reports, ReportsJson};
 ghost use Rattle.reports.specs.Reports as spec;
-ghost use Rattle.reports.specs.Reports.{entries_of, flags_entries, flags_fault, flags_told, inventory_entries, inventory_fault, monitors_entries, monitors_fault, report_fault, report_lines, told_in};
+ghost use Rattle.reports.specs.Reports.{entries_of, family_flags, flag_states, flags_entries, flags_fault, inventory_entries, inventory_fault, monitors_entries, monitors_fault, report_fault, report_lines};
 
 use crate::family::family_with;
 use crate::fault::ReportFault;
@@ -14,7 +14,9 @@ use crate::tables;
 use field_tables::{Field, bit};
 use module_decoding::{Report, is_flat};
 use paged_memory::{Family, Image};
-use report_entries::{Entry, Flag, Said, json, raised_flags, said_by, say, text, told_flags};
+use report_entries::{
+    Content, Entry, Flag, add_entry, all_flags, entries_of_rows, json, raised_flags, text,
+};
 use std::alloc::{AllocError, Global};
 
 /// What the module is, line by line.
@@ -33,7 +35,7 @@ pub fn inventory_json(alloc: Global, image: &Image) -> Result<Vec<u8>, ReportFau
 
 /// The same as entries.
 pub fn inventory_entries(alloc: Global, image: &Image) -> Result<Vec<Entry>, ReportFault>
-    ensures { Says (inventory_fault image.now) (inventory_entries image.now) result }
+    ensures { AreEntries (inventory_fault image.now) (inventory_entries image.now) result }
 {
     entries(alloc, Report::Inventory, image)
 }
@@ -54,7 +56,7 @@ pub fn monitors_json(alloc: Global, image: &Image) -> Result<Vec<u8>, ReportFaul
 
 /// The same as entries.
 pub fn monitors_entries(alloc: Global, image: &Image) -> Result<Vec<Entry>, ReportFault>
-    ensures { Says (monitors_fault image.now) (monitors_entries image.now) result }
+    ensures { AreEntries (monitors_fault image.now) (monitors_entries image.now) result }
 {
     entries(alloc, Report::Monitors, image)
 }
@@ -75,29 +77,29 @@ pub fn flags_json(alloc: Global, image: &Image) -> Result<Vec<u8>, ReportFault>
 
 /// The same as entries.
 pub fn flags_entries(alloc: Global, image: &Image) -> Result<Vec<Entry>, ReportFault>
-    ensures { Says (flags_fault image.now) (flags_entries image.now) result }
+    ensures { AreEntries (flags_fault image.now) (flags_entries image.now) result }
 {
     entries(alloc, Report::Flags, image)
 }
 
 /// All flags that such a module has, each with whether it is raised.
-#[tactic(auto, unfolding(crate::specs::Reports::flags_told))]
-pub fn flags_told(alloc: Global, image: &Image) -> Result<Vec<(Flag, bool)>, ReportFault>
-    ensures { Tells (flags_fault image.now) (flags_told image.now) result }
+#[tactic(auto, unfolding(crate::specs::Reports::flag_states))]
+pub fn flag_states(alloc: Global, image: &Image) -> Result<Vec<(Flag, bool)>, ReportFault>
+    ensures { AreFlags (flags_fault image.now) (flag_states image.now) result }
 {
     let family = family_with(Report::Flags, image)?;
     let flat = is_flat_in(family, image);
-    Ok(told_flags(alloc, image, flat, tables::flag_rows(family))?)
+    Ok(all_flags(alloc, image, flat, tables::flag_rows(family))?)
 }
 
-#[tactic(auto, unfolding(report_entries::specs::Entries::said_in, crate::specs::Reports::report_lines))]
+#[tactic(auto, unfolding(report_entries::specs::Entries::as_entries, crate::specs::Reports::report_lines))]
 fn as_text(alloc: Global, report: Report, image: &Image) -> Result<Vec<u8>, ReportFault>
     ensures { Reports (report_fault report image.now) (report_lines report image.now) result }
 {
     Ok(text(alloc, &entries(alloc, report, image)?)?)
 }
 
-#[tactic(auto, unfolding(report_entries::specs::Entries::said_in))]
+#[tactic(auto, unfolding(report_entries::specs::Entries::as_entries))]
 fn as_json(alloc: Global, report: Report, image: &Image) -> Result<Vec<u8>, ReportFault>
     ensures { ReportsJson (report_fault report image.now) (entries_of report image.now) result }
 {
@@ -106,7 +108,7 @@ fn as_json(alloc: Global, report: Report, image: &Image) -> Result<Vec<u8>, Repo
 
 #[tactic(auto, unfolding(crate::specs::Reports::entries_of))]
 fn entries(alloc: Global, report: Report, image: &Image) -> Result<Vec<Entry>, ReportFault>
-    ensures { Says (report_fault report image.now) (entries_of report image.now) result }
+    ensures { AreEntries (report_fault report image.now) (entries_of report image.now) result }
 {
     let family = family_with(report, image)?;
     Ok(entries_in(alloc, report, family, image)?)
@@ -118,10 +120,10 @@ fn entries_in(
     family: Family,
     image: &Image,
 ) -> Result<Vec<Entry>, AllocError>
-    ensures { IfOk result (λ entries. said_in entries ≡ spec.entries_in report family image.now) }
+    ensures { IfOk result (λ entries. as_entries entries ≡ spec.entries_in report family image.now) }
 {
     let flat = is_flat_in(family, image);
-    let entries = said_by(alloc, image, flat, tables::rows(report, family))?;
+    let entries = entries_of_rows(alloc, image, flat, tables::rows(report, family))?;
     match report {
         Report::Inventory => Ok(entries),
         Report::Monitors => Ok(entries),
@@ -136,12 +138,12 @@ fn with_flags(
     image: &Image,
     entries: Vec<Entry>,
 ) -> Result<Vec<Entry>, AllocError>
-    ensures { IfOk result (λ all. said_in all ≡ said_in entries ++ flags_entry (raised (told_in family image.now)) ∷ []) }
+    ensures { IfOk result (λ all. as_entries all ≡ as_entries entries ++ flags_entry (raised (family_flags family image.now)) ∷ []) }
 {
     let mut all = entries;
     let flat = is_flat_in(family, image);
     let raised = raised_flags(alloc, image, flat, tables::flag_rows(family))?;
-    say(&mut all, "flag", Said::Flags(raised))?;
+    add_entry(&mut all, "flag", Content::Flags(raised))?;
     Ok(all)
 }
 

@@ -9,7 +9,7 @@ ghost use Rattle.command_line.specs.declared.choice.fault.ChoiceFault.TheVariant
 
 use super::word_fault::WordFault;
 use crate::fault::Fault;
-use crate::output::{FaultForm, StoppingWriter, status_after, write_fault};
+use crate::output::{FaultForm, StoppingWriter, ended, write_fault};
 use crate::status::Status;
 use clap::error::ErrorKind;
 use module_metrics::LabelFault;
@@ -93,11 +93,11 @@ pub fn choice_refused<W: Write>(fault: &ChoiceFault, writer: &mut StoppingWriter
 {
     match fault {
         ChoiceFault::Memory => write_fault(writer, Fault::Memory, &FaultForm::Line),
-        ChoiceFault::Line(error) => status_after(writer.put_text(error), status_of(error)),
-        ChoiceFault::Word(fault) => status_after(writer.put_text(*fault), Status::CommandLine),
+        ChoiceFault::Line(error) => ended(writer.put_text(error), status_of(error)),
+        ChoiceFault::Word(fault) => ended(writer.put_text(*fault), Status::CommandLine),
         ChoiceFault::Unreadable => {
             let line = b"error: a word of the command line is not UTF-8\n";
-            status_after(writer.put(line), Status::CommandLine)
+            ended(writer.put(line), Status::CommandLine)
         }
     }
 }

@@ -5,7 +5,7 @@ ghost use Rattle.command_line.specs.Coloring.{shown_as};
 ghost use Rattle.command_line.specs.ReportCommands.{IsObservablesAnswer, IsReportAnswer, IsReportedAs, Prints, observed_text, printed_of, refusal_of, text_unless};
 ghost use Rattle.command_line.specs.Runs.{IsOwnAnswer, answer_of};
 
-use super::over_bus::image_to_report;
+use super::over_bus::{image_to_observe, image_to_report};
 use crate::choice::commands::ReportName;
 use crate::choice::options::Options;
 use crate::command_output::CommandOutput;
@@ -31,7 +31,7 @@ pub fn report(
     report_output(alloc, options, printed)
 }
 
-/// All that the module of the image measures, or as much of it as is read over a bus, as text or as JSON.
+/// All that the module of the image measures, or what is read of that over a bus, as text or as JSON.
 pub fn print_observables(
     alloc: Global,
     options: &Options,
@@ -40,7 +40,7 @@ pub fn print_observables(
     ensures answer { IsOwnAnswer (IsObservablesAnswer options.now image.now) (answer_of result) }
     ensures read { IfErr result (λ fault. fault ≢ Fault.Io) }
 {
-    let image = image_to_report(alloc, image, options.bus)?;
+    let image = image_to_observe(alloc, image, options.bus)?;
     let printed = observed(alloc, options.json, &image);
     report_output(alloc, options, printed)
 }

@@ -1,6 +1,6 @@
 use Rattle.std.proofs.Common.{◌≡◌, ◌++◌, drop, map}
 use Rattle.module_metrics.specs.Exposition.{marked}
-use Rattle.module_metrics.specs.Told.{label_of}
+use Rattle.module_metrics.specs.MetricData.{label_of}
 use Rattle.module_metrics.proofs.exposition.push_marked.Given as goal
 
 -- the labels so far, with those that are left, are all

@@ -1,7 +1,7 @@
 use Rattle.std.proofs.Common.{◌≡◌, ◌++◌, map, take}
 use Rattle.text_lines.specs.Lines.{text_of}
 use Rattle.module_metrics.specs.Exposition.{sample_line}
-use Rattle.module_metrics.specs.Told.{label_of, sample_of}
+use Rattle.module_metrics.specs.MetricData.{label_of, sample_of}
 use Rattle.module_metrics.proofs.exposition.push_samples.Given as goal
 
 -- the samples so far

@@ -1,6 +1,6 @@
 use Rattle.std.proofs.Common.{◌≡◌, map, take}
 use Rattle.module_metrics.specs.Exposition.{exposition}
-use Rattle.module_metrics.specs.Told.{label_of, metric_of}
+use Rattle.module_metrics.specs.MetricData.{label_of, metric_of}
 use Rattle.module_metrics.proofs.exposition.text.Given as goal
 
 -- the metrics so far

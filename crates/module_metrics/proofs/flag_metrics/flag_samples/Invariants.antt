@@ -1,6 +1,6 @@
 use Rattle.std.proofs.Common.{◌≡◌, map, take}
 use Rattle.module_metrics.specs.FlagMetrics.{flag_sample, flags_in}
-use Rattle.module_metrics.specs.Told.{samples_in}
+use Rattle.module_metrics.specs.MetricData.{samples_in}
 use Rattle.module_metrics.proofs.flag_metrics.flag_samples.Given as goal
 
 -- the flags so far

@@ -1,6 +1,6 @@
 use Rattle.std.proofs.Common.{◌≡◌, drop, map}
 use Rattle.module_metrics.specs.CommonLabels.{has_key}
-use Rattle.module_metrics.specs.Told.{label_of}
+use Rattle.module_metrics.specs.MetricData.{label_of}
 use Rattle.module_metrics.proofs.labels.has_key.Given as goal
 
 -- none so far has it

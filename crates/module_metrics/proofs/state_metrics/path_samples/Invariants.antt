@@ -1,7 +1,7 @@
 use Rattle.std.proofs.Common.{◌≡◌, map, take}
 use Rattle.std.specs.List.{enumerate_from}
 use Rattle.module_metrics.specs.StateMetrics.{path_sample}
-use Rattle.module_metrics.specs.Told.{samples_in}
+use Rattle.module_metrics.specs.MetricData.{samples_in}
 use Rattle.module_metrics.proofs.state_metrics.path_samples.Given as goal
 
 -- the lanes so far

@@ -1,6 +1,6 @@
 use Rattle.std.proofs.Common.{◌≡◌, ◌++◌, take}
 use Rattle.std.specs.List.{flat_map}
-use Rattle.module_metrics.specs.Told.{metrics_in}
+use Rattle.module_metrics.specs.MetricData.{metrics_in}
 use Rattle.module_metrics.specs.VdmMetrics.{measure_metrics}
 use Rattle.module_metrics.proofs.vdm_metrics.add_measures.Given as goal
 

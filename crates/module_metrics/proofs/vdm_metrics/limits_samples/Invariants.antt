@@ -1,6 +1,6 @@
 use Rattle.std.proofs.Common.{◌≡◌, take}
 use Rattle.std.specs.List.{flat_map}
-use Rattle.module_metrics.specs.Told.{samples_in}
+use Rattle.module_metrics.specs.MetricData.{samples_in}
 use Rattle.module_metrics.specs.VdmMetrics.{limit_samples}
 use Rattle.module_metrics.proofs.vdm_metrics.limits_samples.Given as goal
 

@@ -1,6 +1,6 @@
 use Rattle.std.proofs.Common.{◌≡◌, take}
 use Rattle.std.specs.List.{flat_map}
-use Rattle.module_metrics.specs.Told.{samples_in}
+use Rattle.module_metrics.specs.MetricData.{samples_in}
 use Rattle.module_metrics.specs.VdmMetrics.{value_sample}
 use Rattle.module_metrics.proofs.vdm_metrics.value_samples.Given as goal
 

@@ -1,5 +1,6 @@
 use Rattle.std.proofs.Common.{Ok}
 use Rattle.std.proofs.lemmas.Result.{err_from_is_err_and}
+use Rattle.command_line.specs.OverBus.{IsFetchedFrom}
 use Rattle.command_line.specs.ReportCommands.{printed_of, refusal_of, report_of}
 use Rattle.command_line.specs.Runs.{answer_of}
 use Rattle.command_line.proofs.ReportAnswers.{input_refused, report_answered}
@@ -9,11 +10,11 @@ pub returns-in_err-image-clause-answer : goal.returns-in_err-image-clause-answer
 returns-in_err-image-clause-answer c =
     let options = c.args.options.now in
     let p = err_from_is_err_and c.from_residual.result c.from_residual.ensures.1 in
-    rw (p.1, p.2) (input_refused options.bus options (refusal_of c.args.name) (printed_of c.args.name) c.args.image.now c.in_err-image.field-0.0 c.in_err-image.ensures)
+    rw (p.1, p.2) (input_refused IsFetchedFrom options.bus options (refusal_of c.args.name) (printed_of c.args.name) c.args.image.now c.in_err-image.field-0.0 c.in_err-image.ensures)
 
 pub returns-clause-answer : goal.returns-clause-answer
 returns-clause-answer c =
     let options = c.args.options.now in
     let image = c.in_ok-image.image in
     let reported = c.report_output.ensures.output (refusal_of c.args.name image) (printed_of c.args.name options.json image) c.printed-printed.ensures in
-    report_answered options.bus (report_of options (refusal_of c.args.name) (printed_of c.args.name)) c.args.image.now (Ok image) c.in_ok-image.ensures (answer_of c.report_output.result) reported
+    report_answered IsFetchedFrom options.bus (report_of options (refusal_of c.args.name) (printed_of c.args.name)) c.args.image.now (Ok image) c.in_ok-image.ensures (answer_of c.report_output.result) reported

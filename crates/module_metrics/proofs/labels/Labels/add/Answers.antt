@@ -3,7 +3,7 @@ use Rattle.std.proofs.lemmas.Grind.{common_steps}
 use Rattle.module_metrics.specs.AddedLabels.{AreAdded}
 use Rattle.module_metrics.specs.CommonLabels.{key_fault}
 use Rattle.module_metrics.specs.Exposition.{label}
-use Rattle.module_metrics.specs.Told.{labels_in}
+use Rattle.module_metrics.specs.MetricData.{labels_in}
 use Rattle.module_metrics.proofs.MoreLabels.{added_more}
 use Rattle.module_metrics.proofs.labels.Labels.add.Goals as goal
 

@@ -1,9 +1,0 @@
-use Rattle.std.proofs.Common.{◌≡◌, ◌++◌, take}
-use Rattle.std.specs.List.{flat_map}
-use Rattle.report_entries.specs.Entries.{said_in}
-use Rattle.module_details.specs.AppDetails.{app_entries}
-use Rattle.module_details.proofs.apps.say_each.Given as goal
-
--- the Applications so far
-abbrev pub invariant-loop-app : goal.invariant-loop-app
-invariant-loop-app l = said_in l.entries ≡ said_in l.initial.entries ++ flat_map (app_entries l.flat l.media) (take l.app-index l.apps)

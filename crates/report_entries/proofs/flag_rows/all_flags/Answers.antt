@@ -1,0 +1,7 @@
+use Rattle.std.proofs.Common.{arith}
+use Rattle.report_entries.specs.FlagRows.{flag_row_fits}
+use Rattle.report_entries.proofs.RowsFit.{at_fits}
+use Rattle.report_entries.proofs.flag_rows.all_flags.Goals as goal
+
+pub add_flags-requires : goal.add_flags-requires
+add_flags-requires c = at_fits flag_row_fits c.args.rows.now c.loop-row.row-index _ (omega (arith, c.loop-row-test.true)) c.requires

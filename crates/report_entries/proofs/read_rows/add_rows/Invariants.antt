@@ -1,0 +1,9 @@
+use Rattle.std.proofs.Common.{◌≡◌, ◌++◌, take}
+use Rattle.report_entries.specs.Entries.{as_entries}
+use Rattle.report_entries.specs.RowTables.{rows_in}
+use Rattle.report_entries.specs.Rows.{rows_entries}
+use Rattle.report_entries.proofs.read_rows.add_rows.Given as goal
+
+-- what the rows so far say
+abbrev pub invariant-loop-row : goal.invariant-loop-row
+invariant-loop-row l = as_entries l.entries ≡ as_entries l.initial.entries ++ rows_entries l.image l.flat (rows_in (take l.row-index l.rows))

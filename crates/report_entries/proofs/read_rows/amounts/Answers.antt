@@ -1,0 +1,22 @@
+use Rattle.std.proofs.Common.{◌≡◌, ◌+◌, ap, ◌∙◌, length, arith}
+use Rattle.std.proofs.lemmas.Grind.{common_steps}
+use Rattle.std.proofs.lemmas.List.FromFn.{length-map-range_with_len, map-range_with_len_more}
+use Rattle.field_tables.specs.declared.layout.Row.{Row}
+use Rattle.field_tables.specs.FieldRows.{row_of}
+use Rattle.module_decoding.specs.Amounts.{amount_at}
+use Rattle.report_entries.proofs.read_rows.amounts.Goals as goal
+
+pub loop-before-preserved : goal.loop-before-preserved
+loop-before-preserved c =
+    let of = amount_at c.args.image.now c.args.field c.args.power in
+    let k = c.loop-before.before in
+    let next : 1 + k ≡ k + 1 = omega arith in
+    let more = map-range_with_len_more of 1 k (k + 1) next in
+    grind (arith, common_steps)
+
+pub push-requires : goal.push-requires
+push-requires c =
+    let of = amount_at c.args.image.now c.args.field c.args.power in
+    let len : length c.loop-before.amounts.items ≡ c.loop-before.before = ap length c.loop-before.invariant ∙ length-map-range_with_len of 1 c.loop-before.before in
+    let count : c.row-before-end.result.count ≡ (row_of c.args.field).count = ap (λ (r : Row). r.count) c.row-before-end.ensures in
+    (omega arith, omega (arith, len, count, c.requires.count, c.loop-before-test.true))
