@@ -11,6 +11,8 @@
 #include <stdio.h>
 #include <stdlib.h>
 #include <string.h>
+#include <sys/socket.h>
+#include <sys/un.h>
 #include <time.h>
 #include <unistd.h>
 
@@ -418,6 +420,14 @@ int open(const char *path, int flags, ...) {
     if (getenv("PORT") != NULL) begin();
     shim.in_a_row = strcmp(path, eeprom) == 0;
     return shim.file = REAL(open)(shim.image, O_RDWR | O_CLOEXEC); /* two programs at once lock the same file */
+}
+
+/* Where a cmisd is looked for is kept in the file that ASKED names. */
+int connect(int file, __CONST_SOCKADDR_ARG name, socklen_t length) {
+    const char *asked = getenv("ASKED");
+    FILE *out = asked != NULL ? fopen(asked, "a") : NULL;
+    if (out != NULL) fprintf(out, "%s\n", name.__sockaddr_un__->sun_path), fclose(out);
+    return REAL(connect)(file, name, length);
 }
 
 ssize_t readlink(const char *path, char *target, size_t room) {
