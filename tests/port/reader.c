@@ -11,6 +11,6 @@ int main(int count, char **words) {
     if (flock(file, LOCK_EX) != 0 || fcntl(file, F_OFD_SETLK, &shared) != 0) return 1;
     puts("locked");
     fflush(stdout);
-    sleep(120);
+    pause();
     return 0;
 }
