@@ -436,19 +436,21 @@ def test_a_long_pause_is_made_in_parts() -> None:
 
 
 def test_a_port_has_the_clock_of_the_system() -> None:
-    port, module = Port(Times(100, 100, 50, 400)), SimulatedModule(DR4)
+    module, took = SimulatedModule(DR4), list[float]()
 
     async def transact(operation: Operation) -> Reply:
         return module.transact(operation)
 
-    async def first() -> None:
+    async def first(port: Port) -> None:
         async for _ in port.run_async(transact, WANTED):
             return
 
-    begun = time.monotonic()
-    port.plug(time.monotonic_ns() // 1_000_000)
-    asyncio.run(first())
-    assert 0.09 <= time.monotonic() - begun < 10
+    for _ in range(3):  # one may take longer on a busy machine
+        port, begun = Port(Times(100, 100, 50, 400)), time.monotonic()
+        port.plug(time.monotonic_ns() // 1_000_000)
+        asyncio.run(first(port))
+        took.append(time.monotonic() - begun)
+    assert 0.09 <= min(took) < 10
 
 
 def test_a_module_that_is_left_alone_is_read_anew() -> None:

@@ -396,9 +396,12 @@ def test_a_copy_of_a_reading_has_what_was_read() -> None:
 
 
 def test_run_sleeps_as_long_as_the_library_says() -> None:
-    reading, begun = Reading(8, Patience(30, 59)), time.monotonic()
-    pytest.raises(TimeoutError, reading.run, lambda _: False)
-    assert 0.06 <= time.monotonic() - begun < 10
+    took = list[float]()
+    for _ in range(3):  # one may take longer on a busy machine
+        reading, begun = Reading(8, Patience(30, 59)), time.monotonic()
+        pytest.raises(TimeoutError, reading.run, lambda _: False)
+        took.append(time.monotonic() - begun)
+    assert 0.06 <= min(took) < 10
 
 
 def test_the_selection_is_doubted_after_a_refusal() -> None:
