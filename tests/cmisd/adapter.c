@@ -43,9 +43,14 @@ struct adapter {
     uint32_t frozen, freezes; /* whether the statistics are, or are to be; how often that was stored */
     uint32_t module_flags[32], lane_flags[152]; /* how often each was answered as raised */
     char image[256];
+    uint32_t state_changes[8], status_changes[8]; /* how often a lane's code was answered to be another one */
+    uint32_t silent;                              /* in how many milliseconds at most four in a row were refused */
+    uint32_t steps, waits; /* asked for: no more transactions than so many, if it isn't 0; whether one waits for that */
     /* not the test's */
     uint64_t random;
-    int64_t ticked;
+    int64_t ticked, silent_since;
+    uint32_t refused_in_a_row;
+    uint8_t states[8], statuses[8];
     struct simulated simulated;
     struct two_banks banks;
     struct statistics statistics;
@@ -137,8 +142,21 @@ static void count_flags(uint32_t *counts, unsigned first, unsigned size, unsigne
     }
 }
 
+/* Each lane has four bits. */
+static void count_changes(uint32_t changes[8], uint8_t codes[8], const uint8_t *bytes) {
+    for (unsigned lane = 0; lane < 8; lane++) {
+        uint8_t code = bytes[lane / 2] >> lane % 2 * 4 & 15;
+        changes[lane] += code != codes[lane];
+        codes[lane] = code;
+    }
+}
+
 static void judge_fetch(struct adapter *it, unsigned offset, const uint8_t *bytes, unsigned count) {
     bool shows_lanes = it->simulated.module.page == 0x11;
+    unsigned end = offset + count;
+    if (shows_lanes && offset <= 128 && end >= 132) count_changes(it->state_changes, it->states, bytes + 128 - offset);
+    if (shows_lanes && offset <= 202 && end >= 206)
+        count_changes(it->status_changes, it->statuses, bytes + 202 - offset);
     count_flags(it->module_flags, 8, 32, offset, bytes, count);
     if (shows_lanes) count_flags(it->lane_flags, 134, 152, offset, bytes, count);
     if (offset == 0 && count == 128) it->read_lower = 1;
@@ -260,6 +278,14 @@ static bool is_hidden(const struct adapter *it, const struct i2c_rdwr_ioctl_data
     return it->hides != 0 && is_alone && it->simulated.module.page == 0x10;
 }
 
+static void judge_silence(struct adapter *it, bool is_answered) {
+    if (is_answered) it->refused_in_a_row = 0;
+    if (is_answered) return;
+    if (it->refused_in_a_row++ == 0) it->silent_since = now();
+    uint32_t lasts = (uint32_t)(now() - it->silent_since);
+    if (it->refused_in_a_row > 3 && lasts > it->silent) it->silent = lasts;
+}
+
 static void show(struct adapter *it) {
     const struct dovecounter_module *module = &it->simulated.module;
     it->state = module->state;
@@ -275,9 +301,12 @@ static int answer(volatile struct adapter *waits, struct adapter *it, unsigned l
     }
     const struct i2c_rdwr_ioctl_data *data = argument;
     while (waits->blocks) usleep(2000);
+    for (; waits->steps != 0 && waits->transactions >= waits->steps; usleep(1000)) waits->waits = 1;
+    waits->waits = 0;
     if (waits->takes) usleep(1000 * waits->takes);
     it->probes += data->nmsgs == 2 && data->msgs[0].buf[0] == 0 && data->msgs[1].len == 1;
     bool is_answered = !is_hidden(it, data) && transact(it, data);
+    judge_silence(it, is_answered);
     show(it);
     it->refused += !is_answered;
     errno = EREMOTEIO;
@@ -342,22 +371,23 @@ int __wrap_pthread_cond_timedwait(pthread_cond_t *condition, pthread_mutex_t *mu
     return __real_pthread_cond_timedwait(condition, mutex, &real);
 }
 
-/* The clock that can be set is ahead by the seconds that the file `clock` in that folder has, if there is one. */
+/* The clock that can be set is ahead by the seconds that the file `clock` in that folder has, if there is one. That is read first, so that
+   the daemon reads both clocks one right after the other. */
 int __real_clock_gettime(clockid_t clock, struct timespec *time);
 int __wrap_clock_gettime(clockid_t clock, struct timespec *time);
 
 int __wrap_clock_gettime(clockid_t clock, struct timespec *time) {
-    char path[400], text[24] = "";
+    char path[400] = "", text[24] = "";
+    bool is_set = clock == CLOCK_REALTIME && getenv("ADAPTERS") != NULL;
+    if (is_set) snprintf(path, sizeof path, "%s/clock", getenv("ADAPTERS"));
+    int file = is_set ? __real_open(path, O_RDONLY | O_CLOEXEC) : -1;
+    int64_t ahead = file >= 0 && read(file, text, sizeof text - 1) > 0 ? (int64_t)(strtod(text, NULL) * 1000) : 0;
+    if (file >= 0) close(file);
     int answered = __real_clock_gettime(clock, time);
     if (clock == CLOCK_MONOTONIC && haste() > 1) *time = time_of(microseconds_of(time) * haste());
-    if (clock != CLOCK_REALTIME || getenv("ADAPTERS") == NULL) return answered;
-    snprintf(path, sizeof path, "%s/clock", getenv("ADAPTERS"));
-    int file = __real_open(path, O_RDONLY | O_CLOEXEC);
     if (file < 0) return answered;
-    int64_t ahead = read(file, text, sizeof text - 1) > 0 ? (int64_t)(strtod(text, NULL) * 1000) : 0;
     int64_t thousandths = (int64_t)time->tv_sec * 1000 + time->tv_nsec / 1000000 + ahead;
     *time = (struct timespec){thousandths / 1000, thousandths % 1000 * 1000000};
-    close(file);
     return answered;
 }
 
