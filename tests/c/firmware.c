@@ -646,6 +646,52 @@ static void try_run(const struct dovecounter_plan *plan) {
     expect("zeros", DOVECOUNTER_NO_CONVERSATION, dovecounter_run(&procedure, none, say_nothing, pause_never, &calls));
 }
 
+/* All else that is carried out by a loop of the header. */
+struct others {
+    struct dovecounter_update update;
+    struct dovecounter_changing_lanes lanes;
+    struct dovecounter_link_test test;
+    struct dovecounter_changing_settings settings;
+    struct dovecounter_explicit provisioning;
+    struct dovecounter_vdm reading;
+};
+
+static void run_others(const char *what, unsigned wanted, struct others *it) {
+    static const uint8_t file[1] = {0};
+    struct dovecounter_half halves[DOVECOUNTER_MOST_VDM] = {0};
+    int calls = 0;
+    expect(what, wanted, dovecounter_update_run(&it->update, file, 1, say_nothing, pause_never, &calls));
+    expect(what, wanted, dovecounter_lane_run(&it->lanes, say_nothing, pause_never, &calls));
+    expect(what, wanted, dovecounter_link_test_run(&it->test, say_nothing, pause_never, &calls));
+    expect(what, wanted, dovecounter_settings_run(&it->settings, say_nothing, pause_never, &calls));
+    expect(what, wanted, dovecounter_explicit_run(&it->provisioning, say_nothing, pause_never, &calls));
+    expect(what, wanted, dovecounter_vdm_run(&it->reading, halves, say_nothing, pause_never, &calls));
+    expect("a call of each", wanted == DOVECOUNTER_NO_REPLY ? 6 : 0, (unsigned)calls);
+}
+
+static void try_other_runs(const struct dovecounter_plan *plan) {
+    static const struct dovecounter_lane_change change = {.lanes = 1, .on = 1, .most_stores = 1};
+    static const struct dovecounter_link_plan link = {.period = 1000,
+                                                      .rounds = 1,
+                                                      .shown = DOVECOUNTER_ERROR_RATIOS,
+                                                      .generator = DOVECOUNTER_NO_PATTERN,
+                                                      .checker = DOVECOUNTER_NO_PATTERN};
+    static const struct dovecounter_settings_limits limits = {.amplitudes = 1};
+    static const struct dovecounter_settings_change settings = {.lanes = 1, .permitted = 1, .tries = 1};
+    struct others it, before;
+    memset(&it, 0, sizeof it);
+    run_others("zeros of another loop", DOVECOUNTER_NO_CONVERSATION, &it);
+    dovecounter_update_begin(1, 0, &it.update);
+    dovecounter_lane_begin(&change, &patience, &it.lanes);
+    dovecounter_link_test_begin(&link, &patience, &it.test);
+    dovecounter_settings_begin(&settings, &limits, &patience, &it.settings);
+    dovecounter_explicit_begin(plan->control, 0xFF, &settings, &limits, &patience, &it.provisioning);
+    dovecounter_vdm_begin(40, &it.reading);
+    memcpy(&before, &it, sizeof it);
+    run_others("no outcome of another loop", DOVECOUNTER_NO_REPLY, &it);
+    expect_same("each goes on where it was", &before, &it, sizeof it);
+}
+
 struct waits {
     unsigned calls, pauses, milliseconds;
 };
@@ -879,6 +925,7 @@ int main(void) {
     try_left(&plan);
     try_limit(&plan);
     try_run(&plan);
+    try_other_runs(&plan);
     try_waits(&plan);
     try_kept_procedure();
     try_other_numbers(&plan);
