@@ -890,7 +890,8 @@ static inline uint32_t dovecounter_run(struct dovecounter_conversation *conversa
    dovecounter_update_next names the operation to make, and dovecounter_update_reply takes its outcome, until
    dovecounter_update_end says how it ended; dovecounter_update_run is that loop. Pass the file, of less than 4 GiB,
    to each call; with a single command any pointer and a size of 0. Nobody else may use the module meanwhile. A fetch
-   of up to 120 bytes may be split, as for a port (below). */
+   of up to 120 bytes may be split, as for a port (below), and has to be where it has more bytes than the module gives
+   of page 9Fh at once. */
 
 /* What bytes 163 to 166 of page 01h advertise. */
 struct dovecounter_command_block {
@@ -899,7 +900,7 @@ struct dovecounter_command_block {
     uint8_t background_mode;
     uint8_t auto_paging;
     uint8_t epl_pages;
-    uint8_t length_extension;
+    uint8_t length_extension; /* of page 9Fh it gives 8, and 8 more for each of these, at once */
 };
 
 void dovecounter_command_block(const uint8_t bytes[4], struct dovecounter_command_block *block);

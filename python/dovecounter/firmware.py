@@ -81,6 +81,7 @@ class CommandBlock:
     auto_paging: bool
     epl_pages: int
     length_extension: int
+    """of page 9Fh it gives 8 bytes, and 8 more for each of these, at once: fetch more in pieces"""
     max_busy_time: int
     """milliseconds for which it may refuse transactions"""
 

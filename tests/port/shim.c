@@ -335,6 +335,11 @@ static bool is_locked(const struct i2c_msg *message) {
     return shim.locked && stores && shim.module.page == 0x10;
 }
 
+/* Of page 9Fh the module gives no more bytes at once than byte 164 of page 01h advertises. */
+static bool is_too_long(const struct i2c_msg *message) {
+    return is_of_block(shim.pointer) && message->len > 8 * (1 + shim.module.pages[1][164 - 128]);
+}
+
 static int transfer(const struct i2c_rdwr_ioctl_data *data) {
     if (data->nmsgs == 2 && data->msgs[0].len != 1) abort(); /* a store with a fetch after it */
     for (unsigned i = 0; i < data->nmsgs; i++)
@@ -346,7 +351,7 @@ static int transfer(const struct i2c_rdwr_ioctl_data *data) {
         struct i2c_msg *message = &data->msgs[i];
         if (message->addr != 0x50) return errno = ENXIO, -1;
         if (message->flags & I2C_M_RD) {
-            if (!reached) return -1;
+            if (!reached || is_too_long(message)) return -1;
             fetch_bytes(shim.pointer, message->len, message->buf);
         } else {
             /* a refused store may have given some of its bytes */

@@ -154,6 +154,13 @@ static bool give_password(struct port *port) {
 
 /* ---- the module ---- */
 
+/* Heeds what the module advertises: how long it may refuse all, and how many bytes of page 9Fh it gives at once. */
+static void heed(struct port *port, const struct dovecounter_command_block *block) {
+    unsigned length = 8 * (1U + block->length_extension);
+    port->busy_time = block->max_busy_time;
+    if (length < port->most) port->most = (uint8_t)length;
+}
+
 /* Reads the module, and gives it the password if there is one. Says why it has no firmware that can be managed. */
 static bool read_manageable(struct port *port) {
     struct dovecounter_command_block block = {0};
@@ -164,6 +171,7 @@ static bool read_manageable(struct port *port) {
     for (size_t i = 0; i < port->half_count; i++)
         if (port->halves[i].upper == 1 && port->halves[i].page == 1)
             dovecounter_command_block(port->halves[i].bytes + ADVERTISED, &block);
+    heed(port, &block);
     if (block.instances == 0) warnx("%s: the module has no command data block", port->bus.name);
     return block.instances > 0 && (port->password_name == NULL || give_password(port));
 }

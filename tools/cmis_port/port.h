@@ -39,12 +39,13 @@ struct port {
     const char *told; /* what cmisd has answered about the port, or NULL */
     bool is_told;     /* the memory is as cmisd has it, and no bus is opened */
     FILE *log;
-    uint8_t most, least; /* bytes that the adapter fetches at once: as far as is known, and certainly */
+    uint8_t most, least; /* bytes that are fetched at once: at most, as far as is known, and by the adapter certainly */
     sigset_t signals;    /* they end the program between two operations */
 
     /* what came of it */
-    unsigned made, refused;                   /* operations; those that were refused since one was answered */
-    int64_t refused_at, given_up;             /* when the first of these began, and how long they took */
+    unsigned made, refused;       /* operations; those that were refused since one was answered */
+    int64_t refused_at, given_up; /* when the first of these began, and how long they took */
+    int64_t busy_time;            /* for which the module may refuse all while it is busy, in milliseconds */
     enum { GOES_ON, STOPPED, SILENT } ending; /* whether no further operation is to be made */
     bool stored;                              /* or tried to, but for page selections */
     bool patient;                             /* a module that does not answer may be back */

@@ -101,11 +101,12 @@ static void log_operation(struct port *port, const struct dovecounter_operation 
     fflush(port->log);
 }
 
-/* Whether the module is silent: it has refused many transactions in a row for a second. An adapter may take that second to give up a few,
-   and pauses between them may be so long that a few take it. */
+/* Whether the module is silent: it has refused many transactions in a row for a second, and as long as it may while it is busy. An
+   adapter may take that time to give up a few, and pauses between them may be so long that a few take it. */
 static bool is_silent(const struct port *port) {
-    bool is_slow = port->refused >= SLOW_AFTER && port->given_up > SILENCE;
-    return is_slow || (port->refused >= SILENT_AFTER && now() - port->refused_at > SILENCE);
+    int64_t silence = SILENCE + port->busy_time;
+    bool is_slow = port->refused >= SLOW_AFTER && port->given_up > silence;
+    return is_slow || (port->refused >= SILENT_AFTER && now() - port->refused_at > silence);
 }
 
 static void take_refusal(struct port *port, const struct dovecounter_operation *operation, int64_t began, int error) {
