@@ -1,5 +1,5 @@
-"""Fixtures for tests of one's own, which pytest finds where the package is installed (docs/python.md,
-"In your tests")."""
+"""Fixtures for tests of one's own (docs/python.md, "In your tests"). Where the package is installed, pytest
+finds them by dovecounter_pytest."""
 from __future__ import annotations
 
 from typing import Callable, Iterable
@@ -31,17 +31,18 @@ class RefusingBus:
         return False
 
 
+def module_of(image: Image | str, **delays: int) -> SimulatedModule:
+    """The simulated module of an image, or of the text of one, with these delays."""
+    return SimulatedModule(
+        Image.from_text(image) if isinstance(image, str) else image, Delays(**delays)
+    )
+
+
 @pytest.fixture
 def simulated_module() -> Callable[..., SimulatedModule]:
     """Makes the simulated module of an image, or of the text of one: simulated_module(image, init=30)
     has these delays."""
-
-    def made(image: Image | str, **delays: int) -> SimulatedModule:
-        return SimulatedModule(
-            Image.from_text(image) if isinstance(image, str) else image, Delays(**delays)
-        )
-
-    return made
+    return module_of
 
 
 @pytest.fixture

@@ -2,8 +2,12 @@
 from __future__ import annotations
 
 import json
+import os
 import re
-from typing import Any, Callable, Dict, Set, Type
+import subprocess
+import sys
+from pathlib import Path
+from typing import Any, Callable, Dict, Mapping, Set, Type
 from xml.etree import ElementTree
 
 import pytest
@@ -239,4 +243,37 @@ def stores_of(best: Any) -> Any:
 def test_the_plugin_has_its_entry_point() -> None:
     project = (ROOT / "python/pyproject.toml").read_text()
     found = re.search(r"\[project\.entry-points\.pytest11\]\n(.*)\n", project)
-    assert found is not None and found[1] == 'dovecounter = "dovecounter.pytest_plugin"'
+    assert found is not None and found[1] == 'dovecounter = "dovecounter_pytest"'
+
+
+def run_of_pytest(folder: Path, environment: Mapping[str, str], tests: str) -> str:
+    """What pytest says of tests, with the fixtures as it finds them where the package is installed."""
+    (folder / "test_own.py").write_text(tests)
+    words = [sys.executable, "-m", "pytest", "-p", "no:cacheprovider", "-p", "dovecounter_pytest"]
+    ran = subprocess.run(
+        words,
+        cwd=folder,
+        env={**os.environ, "PYTHONPATH": str(ROOT / "python"), **environment},
+        capture_output=True,
+        text=True,
+        check=False,
+    )
+    return ran.stdout + ran.stderr
+
+
+def test_installed_fixtures_are_those_of_the_package(tmp_path: Path) -> None:
+    tests = f"""
+IMAGE = {str(ROOT / "examples/qsfp_dd_400g_dr4.txt")!r}
+
+
+def test_driver(simulated_module, refusing_bus):
+    module = simulated_module(open(IMAGE).read(), init=30)
+    assert refusing_bus(module, {{1}}).module is module
+"""
+    assert "1 passed" in run_of_pytest(tmp_path, {}, tests)
+
+
+def test_a_package_without_a_library_holds_up_no_other_test(tmp_path: Path) -> None:
+    tests = "def test_other(): pass\n\n\ndef test_driver(simulated_module): pass\n"
+    said = run_of_pytest(tmp_path, {"DOVECOUNTER_LIBRARY": str(tmp_path / "none")}, tests)
+    assert "1 passed, 1 error" in said and "ImportError" in said
