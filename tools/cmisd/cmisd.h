@@ -78,6 +78,7 @@ struct port {
     struct image image;           /* as its file has it; zeros if there is none */
     bool has_new_counts;          /* than its PORT.prom */
     bool is_unwritten;            /* its PORT.json or PORT.prom couldn't be written */
+    bool lacks_image;             /* its PORT.image couldn't */
     struct dovecounter_plan plan; /* whose paths are shown, if its control bytes are those that the port works for */
 
     struct listing listing;

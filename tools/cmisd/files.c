@@ -132,8 +132,9 @@ _Static_assert(sizeof(struct image) == 2 + (MOST_HALVES + DOVECOUNTER_MOST_VDM) 
 /* Written only if it differs from what the file has. */
 void put_image(struct port *port) {
     const struct image image = image_of(port);
-    if (memcmp(&image, &port->image, sizeof image) == 0) return;
-    if (put_file(port, "image", print_lines)) port->image = image;
+    bool is_new = memcmp(&image, &port->image, sizeof image) != 0;
+    port->lacks_image = is_new && !put_file(port, "image", print_lines);
+    if (!port->lacks_image) port->image = image;
 }
 
 /* PORT.json is written although nothing has changed, so that others see when the port was looked at. */
@@ -151,7 +152,9 @@ void renew_files(void) {
     bool is_set = is - was >= 1000 || was - is >= 1000;
     if (is_set) was = is;
     for (struct port *each = ports; each != NULL; each = each->next) {
-        if (each->is_retired || !(is_set || each->is_unwritten)) continue;
+        if (each->is_retired) continue;
+        if (each->lacks_image && each->core.stage == DOVECOUNTER_PORT_LEFT && each->half_count > 0) put_image(each);
+        if (!is_set && !each->is_unwritten) continue;
         each->has_new_counts = each->has_new_counts || is_set;
         put_status(each);
     }
@@ -167,6 +170,7 @@ void remove_file(const char *port, const char *ending) {
 void remove_image(struct port *port) {
     remove_file(port->entry.name, "image");
     memset(&port->image, 0, sizeof port->image);
+    port->lacks_image = false;
 }
 
 /* Of a run before this one there may be files of ports that are no longer configured, and images of modules that are gone. */

@@ -92,11 +92,22 @@ static void shut(struct port *port) {
     send_to_holders(port, true);
 }
 
+/* Lets the module out of its reset. If it was in it, it needs as long as after a plug. */
+static void let_out(struct port *port) {
+    bool was_in = port->entry.manage && port->entry.reset[0] != 0 && read_pin(port, port->entry.reset) == 1;
+    if (port->is_retired) return;
+    set_pin(port, port->entry.reset, false);
+    if (!was_in || port->is_retired || !is_there(port)) return;
+    doubt(port);
+    port->before.is_once = false;
+    must(dovecounter_port_plug(&port->core, (uint64_t)now()));
+}
+
 /* Opens the bus anew, or waits longer and longer. */
 static void reopen(struct port *port) {
     port->bus = (struct bus){.name = port->entry.bus, .file = -1, .lock.file = -1};
     port->is_open = open_bus(&port->bus);
-    if (port->is_open) set_pin(port, port->entry.reset, false);
+    if (port->is_open) let_out(port);
     if (!port->is_open) close_bus(&port->bus);
     port->due = now();
     port->reopens_at = port->is_open ? 0 : now() + port->reopens_in;
@@ -221,6 +232,13 @@ static bool may_have_other_outputs(const struct port *port, const struct dovecou
     return is_read && half_of(port, 1, LANES_PAGE) != NULL;
 }
 
+/* Lanes of take_down may go down for what the plan has in their place, and not for a sleep, for which whoever asks names them. */
+static struct dovecounter_wanted wanted_of(const struct port *port) {
+    struct dovecounter_wanted wanted = port->entry.wanted;
+    if (port->core.request == DOVECOUNTER_REQUEST_SLEEP) wanted.may_take_down = 0;
+    return wanted;
+}
+
 static void carry_out(struct port *port, const struct dovecounter_port_next *next) {
     uint8_t bytes[128];
     struct dovecounter_port_outcome led_to;
@@ -230,7 +248,8 @@ static void carry_out(struct port *port, const struct dovecounter_port_next *nex
     size_t count = answered && !stores ? next->operation.count : 0;
     if (port->is_retired) return;
     remember(port, next, outcome, bytes);
-    must(dovecounter_port_take(&port->core, outcome, bytes, count, &port->entry.wanted, (uint64_t)now(), &led_to));
+    const struct dovecounter_wanted wanted = wanted_of(port);
+    must(dovecounter_port_take(&port->core, outcome, bytes, count, &wanted, (uint64_t)now(), &led_to));
     port->is_rested = led_to.note >= DOVECOUNTER_PORT_CAME_UP || led_to.kind == DOVECOUNTER_PORT_FAILED;
     port->outputs.is_due = port->outputs.is_due || may_have_other_outputs(port, &led_to);
     tell_flags(port);

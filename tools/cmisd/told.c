@@ -120,9 +120,9 @@ static void find_plan(struct port *port) {
                      wanted->stay, NULL, 0, &port->plan);
 }
 
-/* Once the module is left alone. What was asked only once gives way to what was asked before, if lanes that are up stand against it. */
+/* Once the module is left alone. What was asked only once gives way to what was asked before, unless that is why. */
 static void end_request(struct port *port, uint8_t reason) {
-    bool is_refused = port->before.is_once && reason == DOVECOUNTER_LEFT_NEEDS_PERMISSION;
+    bool is_refused = port->before.is_once && reason != DOVECOUNTER_LEFT_ASLEEP;
     port->before.is_once = false;
     if (!is_refused) return;
     request(port, port->before.request, port->before.lanes, false);
