@@ -293,7 +293,7 @@ static bool print_about(const struct port *port) {
 }
 
 int main(int count, char **words) {
-    static char output[1 << 14]; /* holds all of it, to be written where a signal may end the program */
+    static char output[1 << 18]; /* holds all of it, to be written where a signal may end the program */
     struct port port = {.bus = {.file = -1, .lock.file = -1}, .manager = -1, .most = 128, .least = 8};
     fill_streams();
     signal(SIGPIPE, SIG_IGN); /* writes fail instead, */

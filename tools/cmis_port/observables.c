@@ -100,10 +100,10 @@ static void print_places(int64_t mantissa, int places) {
 }
 
 static void print_amount(const struct dovecounter_amount *amount, uint8_t unit) {
-    int64_t scaled = amount->mantissa * 1000;
-    if (amount->divisor != 1) /* rounded down to thousandths */
+    if (amount->divisor != 1) { /* rounded down to thousandths */
+        int64_t scaled = amount->mantissa * 1000;
         print_places(scaled / amount->divisor - (scaled % amount->divisor < 0), 3);
-    else if (unit == DOVECOUNTER_UNIT_RATIO || unit == DOVECOUNTER_UNIT_FRAMES)
+    } else if (unit == DOVECOUNTER_UNIT_RATIO || unit == DOVECOUNTER_UNIT_FRAMES)
         print_float(amount->mantissa, amount->exponent);
     else
         print_places(amount->mantissa, -amount->exponent);
