@@ -220,6 +220,49 @@ ENUMERATIONS: List[Tuple[Type[enum.Enum], str, str]] = [
     (states.ModuleState, "module_state", ""),
     (states.PathState, "path_state", ""),
 ]
+# Those of observables, which the package has by their names: the names of the core, in order from 1 on.
+NAMES = {
+    "quantity": "quantity_name",
+    "figure": "figure_name",
+    "unit": "unit_name",
+}
+# The header's names of units, by the signs that are shown.
+SIGNS = {
+    "percent": "%",
+    "celsius": "C",
+    "volts": "V",
+    "milliamperes": "mA",
+    "milliwatts": "mW",
+    "dbm": "dBm",
+    "decibels": "dB",
+    "megahertz": "MHz",
+    "picoseconds": "ps",
+    "square-picoseconds": "ps^2",
+    "picoseconds-per-nanometre": "ps/nm",
+    "kiloradians-per-second": "krad/s",
+}
+
+
+@pytest.mark.parametrize("enumeration, function", NAMES.items())
+def test_observables_have_the_numbers_of_their_names(enumeration: str, function: str) -> None:
+    text = (ROOT / "crates/observables/src/names.rt").read_text()
+    body = re.search(rf"\npub fn {function}\(.*?\n}}\n", text, re.DOTALL)
+    listed = re.search(rf"enum dovecounter_{enumeration} \{{(.*?)\}}", HEADER, re.DOTALL)
+    assert body is not None and listed is not None
+    wanted = list(enumerate(re.findall(r'=> "(.+)",', body[0]), 1))
+    found = re.findall(rf"DOVECOUNTER_{enumeration.upper()}_(\w+) = (\d+)", listed[1])
+    names = [(int(number), name.lower().replace("_", "-")) for name, number in found]
+    assert [(number, SIGNS.get(name, name)) for number, name in names] == wanted
+
+
+def test_faults_of_procedures_have_the_numbers_of_their_codes() -> None:
+    text = HEADERS[0].read_text()  # with its comments
+    rows = re.findall(r"DOVECOUNTER_(\w+) = (\d+),? +/\* PV(\d)", text)
+    assert len(rows) == 7 and all(number == code for _, number, code in rows)
+    numbers = {name: int(number) for name, number, _ in rows}
+    assert (numbers["NOT_STAGED"], numbers["NOT_ACTIVE"], numbers["RESERVED_CODE"]) == (2, 3, 7)
+
+
 # What stands for nothing, which the package has as None, or not as a failure.
 NOTHING = {"NO_LOOPBACK", "NO_PATTERN", "UPDATE_DONE"}
 

@@ -247,6 +247,24 @@ def test_settings_are_tried_again(tries: int) -> None:
     assert len(stored) == tries + 1
 
 
+@pytest.mark.parametrize("tries", [1, 5])
+def test_settings_of_a_provisioning_are_tried_again(tries: int) -> None:
+    module = Provisioned()
+    module.keeps = False
+    stored: List[int] = []
+
+    def transact(operation: Operation) -> Reply:
+        if operation.is_store and operation.offset == 153:
+            stored.append(operation.offset)
+        return module.transact(operation)
+
+    with pytest.raises(SettingsFault):
+        ExplicitProvisioning(PLAN, 0x02, TARGET, LIMITS, tries=tries).run(
+            transact, lambda seconds: None
+        )
+    assert len(stored) == tries + 1
+
+
 def test_a_lane_with_other_settings_is_a_fault() -> None:
     module = Provisioned()
     kept = module.transact

@@ -669,6 +669,41 @@ static void run_others(const char *what, unsigned wanted, struct others *it) {
     expect("a call of each", wanted == DOVECOUNTER_NO_REPLY ? 6 : 0, (unsigned)calls);
 }
 
+struct waits {
+    unsigned calls, pauses, milliseconds;
+};
+
+static uint8_t refuse_all(void *context, const struct dovecounter_operation *operation, uint8_t bytes[128]) {
+    struct waits *waits = context;
+    expect("an operation", 1, operation->kind == DOVECOUNTER_FETCH || operation->kind == DOVECOUNTER_STORE);
+    memset(bytes, 0, 128);
+    waits->calls++;
+    return DOVECOUNTER_REFUSED;
+}
+
+static void count_pause(void *context, uint32_t milliseconds) {
+    struct waits *waits = context;
+    waits->pauses++;
+    waits->milliseconds += milliseconds;
+}
+
+/* Over a bus that refuses all, each pauses as it is told to. */
+static void try_pauses(struct others *it) {
+    static const uint8_t file[1] = {0};
+    struct dovecounter_half halves[DOVECOUNTER_MOST_VDM] = {0};
+    struct waits waits[6] = {{0}};
+    dovecounter_update_run(&it->update, file, 1, refuse_all, count_pause, &waits[0]);
+    dovecounter_lane_run(&it->lanes, refuse_all, count_pause, &waits[1]);
+    dovecounter_link_test_run(&it->test, refuse_all, count_pause, &waits[2]);
+    dovecounter_settings_run(&it->settings, refuse_all, count_pause, &waits[3]);
+    dovecounter_explicit_run(&it->provisioning, refuse_all, count_pause, &waits[4]);
+    dovecounter_vdm_run(&it->reading, halves, refuse_all, count_pause, &waits[5]);
+    for (int i = 0; i < 6; i++) {
+        expect("a loop is over at once", 1, waits[i].calls > 1 && waits[i].pauses > 0);
+        expect("other pauses", 1, waits[i].milliseconds >= 5 * waits[i].pauses);
+    }
+}
+
 static void try_other_runs(const struct dovecounter_plan *plan) {
     static const struct dovecounter_lane_change change = {.lanes = 1, .on = 1, .most_stores = 1};
     static const struct dovecounter_link_plan link = {.period = 1000,
@@ -690,11 +725,8 @@ static void try_other_runs(const struct dovecounter_plan *plan) {
     memcpy(&before, &it, sizeof it);
     run_others("no outcome of another loop", DOVECOUNTER_NO_REPLY, &it);
     expect_same("each goes on where it was", &before, &it, sizeof it);
+    try_pauses(&it);
 }
-
-struct waits {
-    unsigned calls, pauses, milliseconds;
-};
 
 static uint8_t refuse(void *context, const struct dovecounter_operation *operation, uint8_t bytes[128]) {
     struct waits *waits = context;
@@ -702,12 +734,6 @@ static uint8_t refuse(void *context, const struct dovecounter_operation *operati
     memset(bytes, 3 << 1, 128); /* ModuleReady, if anybody looks at it */
     waits->calls++;
     return DOVECOUNTER_REFUSED;
-}
-
-static void count_pause(void *context, uint32_t milliseconds) {
-    struct waits *waits = context;
-    waits->pauses++;
-    waits->milliseconds += milliseconds;
 }
 
 /* A bus that refuses all, as in try_limit. */

@@ -73,8 +73,16 @@ static void look_at_numbers(void) {
                                              [DOVECOUNTER_QUANTITY_PRE_FEC_BER] = "pre-fec-ber",
                                              [DOVECOUNTER_QUANTITY_SNR] = "snr",
                                              [DOVECOUNTER_QUANTITY_TEC_CURRENT] = "tec-current"};
-    static const char *const figures[] = {"", "now", "minimum", "maximum", "average", "last"};
-    static const char *const scopes[] = {"", "module", "host-lane", "media-lane", "host-path", "media-path"};
+    static const char *const figures[] = {[DOVECOUNTER_FIGURE_NOW] = "now",
+                                          [DOVECOUNTER_FIGURE_MINIMUM] = "minimum",
+                                          [DOVECOUNTER_FIGURE_MAXIMUM] = "maximum",
+                                          [DOVECOUNTER_FIGURE_AVERAGE] = "average",
+                                          [DOVECOUNTER_FIGURE_LAST] = "last"};
+    static const char *const scopes[] = {[DOVECOUNTER_SCOPE_MODULE] = "module",
+                                         [DOVECOUNTER_SCOPE_HOST_LANE] = "host-lane",
+                                         [DOVECOUNTER_SCOPE_MEDIA_LANE] = "media-lane",
+                                         [DOVECOUNTER_SCOPE_HOST_PATH] = "host-path",
+                                         [DOVECOUNTER_SCOPE_MEDIA_PATH] = "media-path"};
     const char *quantity = quantities[one.quantity];
     expect("another quantity", quantity == NULL || strcmp(quantity, one.quantity_name) == 0);
     expect("another figure", strcmp(figures[one.figure], one.figure_name) == 0);
