@@ -81,7 +81,8 @@ extern "C" {
      lane_next                               31 32
      lane_reply                              31 32 34
      lane_end                                31 33
-     settings, settings_limits               as advertisement, then 14 (page 11h)
+     settings                                as advertisement, then 14 (page 11h)
+     settings_limits                         as advertisement
      settings_begin                          106, then 101 to 105
      settings_next                           31 32
      settings_reply                          31 32 34
@@ -689,7 +690,7 @@ enum dovecounter_fault_code {
     DOVECOUNTER_REJECTED = 1,        /* PV1: the module rejected the configuration of lane `first`, by status `second` */
     DOVECOUNTER_NOT_STAGED = 2,      /* PV2: the staged control byte of lane `first` isn't what was stored */
     DOVECOUNTER_NOT_ACTIVE = 3,      /* PV3: the active control byte of lane `first` isn't the plan's */
-    DOVECOUNTER_GAVE_UP_WAITING = 4, /* PV4: after 4096 transactions */
+    DOVECOUNTER_GAVE_UP_WAITING = 4, /* PV4: after 4096 transactions, answered looks left out */
     DOVECOUNTER_BUS_ENDED = 5,       /* PV5: `first` is the digit of BU1 or BU2; never here */
     DOVECOUNTER_NOT_READY = 6,       /* PV6: the module is in state `first`, not in ModuleReady; wake and sleep: in ModuleFault */
     DOVECOUNTER_RESERVED_CODE = 7,   /* PV7: the module shows `first`, a reserved code */
@@ -841,13 +842,13 @@ enum dovecounter_outcome {
 /* Takes the outcome of that operation, once, and the bytes of a fetch: with any outcome but DOVECOUNTER_FETCHED,
    bytes and byte_count are ignored. A reading inserts each whole half at halves[0], and counts them in
    conversation->halves. A refused transaction comes again, up to 4096 in all, pieces and page selections included;
-   waits don't count. */
+   waits don't count, nor do answered looks at the module's state, one after each wait. */
 uint32_t dovecounter_reply(struct dovecounter_conversation *conversation,
                            struct dovecounter_half halves[DOVECOUNTER_MOST_READ], uint8_t outcome,
                            const uint8_t *bytes, size_t byte_count);
 
 struct dovecounter_ending {
-    uint16_t steps;                 /* transactions of a success; else 0 */
+    uint16_t steps;                 /* transactions of a success, answered looks left out; else 0 */
     struct dovecounter_fault fault; /* code 0 for a success */
 };
 
@@ -1323,7 +1324,7 @@ uint32_t dovecounter_link_test_stop(struct dovecounter_link_test *test);
 enum dovecounter_link_outcome {
     DOVECOUNTER_LINK_TESTED = 0,         /* results were read as often as wanted, while all of the plan was on */
     DOVECOUNTER_LINK_SWITCHED_TWICE = 1, /* the plan has a control twice; no plan of dovecounter_link_test_begin does */
-    /* from here up to 6 the plan was refused, and nothing was stored */
+    /* from here up to 6 the plan was refused, and nothing was stored but page selections */
     DOVECOUNTER_LINK_NO_PAGES = 2,      /* the module has no pages 13h and 14h */
     DOVECOUNTER_LINK_UNSUPPORTED = 3,   /* it doesn't advertise this pattern, loopback or gate */
     DOVECOUNTER_LINK_NO_RESULTS = 4,    /* it doesn't advertise such results */
@@ -1614,7 +1615,7 @@ enum dovecounter_explicit_settings {
 
 /* A success has fault.code 0 and settings 0. A failure may leave settings staged, besides what one of provisioning leaves. */
 struct dovecounter_explicit_end {
-    uint16_t steps; /* transactions of a success; else 0 */
+    uint16_t steps; /* transactions of a success, answered looks left out; else 0 */
     struct dovecounter_fault fault;
     uint8_t settings; /* enum dovecounter_explicit_settings */
     uint8_t lane;     /* the lowest that it is so with, or 0 */
@@ -1929,7 +1930,7 @@ enum dovecounter_port_do {
     DOVECOUNTER_PORT_DO = 0,    /* make the operation, and pass its reply to dovecounter_port_take */
     DOVECOUNTER_PORT_UNTIL = 1, /* nothing before the moment */
     DOVECOUNTER_PORT_BUSY = 2,  /* nothing before the outstanding reply is passed */
-    DOVECOUNTER_PORT_IDLE = 3   /* nothing before plug, reconsider, request or hold is called */
+    DOVECOUNTER_PORT_IDLE = 3   /* nothing before plug, hear, reconsider, request or hold is called */
 };
 
 /* What is to be done now. */
