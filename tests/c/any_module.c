@@ -313,5 +313,7 @@ int main(int count, char **words) {
     printf("any_module: %ld modules, %ld with a plan; procedures ended with", runs, planned);
     for (int code = 0; code < 9; code++) printf(" %d: %lu", code, ends[code]);
     printf("\n");
+    expect("hardly a module has a plan", 1, runs < 100 || planned > runs / 10);
+    expect("no procedure succeeds", 1, runs < 100 || ends[0] > 0);
     return judged("any_module");
 }

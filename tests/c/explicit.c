@@ -303,5 +303,6 @@ int main(int count, char **words) {
     for (unsigned i = 0; i < times && failures < 10; i++) try_forged();
     for (unsigned i = 0; i < times && failures < 10; i++) provision_by_chance();
     printf("explicit: %u successes and %u other ends by chance\n", successes, others);
+    expect("no provisioning, or each, succeeds", 1, successes > 0 && others > 0);
     return judged("explicit");
 }

@@ -273,5 +273,6 @@ int main(int count, char **words) {
     printf("lanes: %u by chance; at the end, from unchanged to given up:", changes);
     for (int outcome = 0; outcome < 7; outcome++) printf(" %u", ended[outcome]);
     printf("\n");
+    for (int outcome = 0; outcome < 6; outcome++) expect("an end that never came", 1, ended[outcome] > 0);
     return judged("lanes");
 }

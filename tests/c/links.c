@@ -502,5 +502,7 @@ int main(int count, char **words) {
     printf("links: %u by chance; at the end, from tested to given up:", tests);
     for (int outcome = 0; outcome < 12; outcome++) printf(" %u", ended[outcome]);
     printf("\n");
+    static const int by_chance[] = {0, 3, 4, 6, 7, 8, 10};
+    for (int i = 0; i < 7; i++) expect("an end that never came", 1, ended[by_chance[i]] > 0);
     return judged("links");
 }

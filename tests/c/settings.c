@@ -455,5 +455,6 @@ int main(int count, char **words) {
     printf("settings: %u by chance, %u not permitted; at the end, from active to given up:", changes, not_begun);
     for (int outcome = 0; outcome < 8; outcome++) printf(" %u", ended[outcome]);
     printf("\n");
+    for (int outcome = 0; outcome < 7; outcome++) expect("an end that never came", 1, ended[outcome] > 0);
     return judged("settings");
 }

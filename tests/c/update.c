@@ -241,5 +241,6 @@ int main(int count, char **words) {
            lost);
     for (int known = 1; known < 10; known++) printf(" %u", ended[known]);
     printf("\n");
+    expect("no update, or each, succeeds", 1, ended[1] > 0 && ended[9] > 0);
     return judged("update");
 }
