@@ -5,7 +5,7 @@ import copy
 import dataclasses
 import json
 import pathlib
-from typing import Dict, List, Optional
+from typing import Dict, List, Optional, Union
 
 import pytest
 
@@ -230,9 +230,10 @@ def test_lanes_of_kept_paths_are_left_alone() -> None:
     assert module.applied == [0xF0]
 
 
-@pytest.mark.parametrize("tries", [1, 5])
-def test_settings_are_tried_again(tries: int) -> None:
-    module = Module()
+def stores_in_vain(
+    work: Union[SettingsChange, ExplicitProvisioning], module: Module, fault: str
+) -> int:
+    """How often it stores settings on a module that keeps none, until it ends with this fault."""
     module.keeps = False
     stored: List[int] = []
 
@@ -241,28 +242,21 @@ def test_settings_are_tried_again(tries: int) -> None:
             stored.append(operation.offset)
         return module.transact(operation)
 
+    with pytest.raises(SettingsFault, match=fault):
+        work.run(transact, lambda seconds: None)
+    return len(stored)
+
+
+@pytest.mark.parametrize("tries", [1, 5])
+def test_settings_are_tried_again(tries: int) -> None:
     change = SettingsChange(0x02, TARGET, LIMITS, permitted=0x02, tries=tries)
-    with pytest.raises(SettingsFault, match="^not staged$"):
-        change.run(transact, lambda seconds: None)
-    assert len(stored) == tries + 1
+    assert stores_in_vain(change, Module(), "^not staged$") == tries + 1
 
 
 @pytest.mark.parametrize("tries", [1, 5])
 def test_settings_of_a_provisioning_are_tried_again(tries: int) -> None:
-    module = Provisioned()
-    module.keeps = False
-    stored: List[int] = []
-
-    def transact(operation: Operation) -> Reply:
-        if operation.is_store and operation.offset == 153:
-            stored.append(operation.offset)
-        return module.transact(operation)
-
-    with pytest.raises(SettingsFault):
-        ExplicitProvisioning(PLAN, 0x02, TARGET, LIMITS, tries=tries).run(
-            transact, lambda seconds: None
-        )
-    assert len(stored) == tries + 1
+    provisioning = ExplicitProvisioning(PLAN, 0x02, TARGET, LIMITS, tries=tries)
+    assert stores_in_vain(provisioning, Provisioned(), "^not staged$") == tries + 1
 
 
 def test_a_lane_with_other_settings_is_a_fault() -> None:
