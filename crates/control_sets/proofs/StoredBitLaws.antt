@@ -1,5 +1,5 @@
 -- Provisioning stores the bits of its lanes, and no others.
-use Rattle.std.proofs.Common.{false, ◌≡◌, ◌⊎◌, inl, inr, ℕ, Some, None, List, [], ◌∷◌, refl, sym, ap, ◌∙◌}
+use Rattle.std.proofs.Common.{Bool, ◌≡◌, ◌⊎◌, inl, inr, ℕ, Some, None, List, [], ◌∷◌, refl, sym, ap, ◌∙◌}
 use Rattle.std.specs.FinSet as set
 use Rattle.std.specs.List.{AllByRecursion}
 use Rattle.bus_model.specs.declared.operation.Op.{Op}
@@ -25,8 +25,8 @@ mask_alone op bits mask (inl deinit) (inr sets) = let none : None ≡ Some bits 
 mask_alone op bits mask (inr applies) (inl sets) = let none : None ≡ Some bits = ap (byte_for (first_byte CDPDeinit)) (sym applies) ∙ sets in cc
 mask_alone op bits mask (inr applies) (inr sets) = let same : Some mask ≡ Some bits = ap (byte_for (first_byte CApplyDPInit)) (sym applies) ∙ sets in cc
 
-module _ (control : List ℕ) (lanes : Lanes) where
-  mask_of : (step : Step) (before : History) (bits : ℕ) → IsProvisioningStepBy false control lanes step before → Sets bits step.op → bits ≡ byte_of lanes
+module _ (doubts : Bool) (control : List ℕ) (lanes : Lanes) where
+  mask_of : (step : Step) (before : History) (bits : ℕ) → IsProvisioningStepBy doubts control lanes step before → Sets bits step.op → bits ≡ byte_of lanes
   mask_of step before bits (inl (inl is)) sets = absurd (stores_none step.op read_module_state bits is refl refl sets)
   mask_of step before bits (inl (inr (inl is))) sets = absurd (stores_none step.op read_selection bits is refl refl sets)
   mask_of step before bits (inl (inr (inr (inl is)))) sets = absurd (stores_none step.op (selection control_page) bits is refl refl sets)
@@ -42,11 +42,11 @@ module _ (control : List ℕ) (lanes : Lanes) where
   mask_of step before bits (inr (inr (inr (inr (inr (inl is))), confirmed))) sets = mask_alone step.op bits (byte_of lanes) (inr is) sets
   mask_of step before bits (inr (inr (inr (inr (inr (inr none))), confirmed))) sets = absurd none
 
-  bits_of : (step : Step) (before : History) → IsProvisioningStepBy false control lanes step before → HasBitsOf lanes step
+  bits_of : (step : Step) (before : History) → IsProvisioningStepBy doubts control lanes step before → HasBitsOf lanes step
   bits_of step before shaped bits lane sets within =
       ap (λ (byte : ℕ). set.contains (lanes_in byte) lane) (mask_of step before bits shaped sets) ∙ in_byte_of lanes lane within
 
-  pub each_has_bits : (history : History) → EachStep (IsProvisioningStepBy false control lanes) history → AllByRecursion (HasBitsOf lanes) history
+  pub each_has_bits : (history : History) → EachStep (IsProvisioningStepBy doubts control lanes) history → AllByRecursion (HasBitsOf lanes) history
   each_has_bits [] shape = tt
   each_has_bits (step ∷ before) shape = (bits_of step before shape.0, each_has_bits before shape.1)
 

@@ -93,3 +93,7 @@ pub record IsAtRegister (step : Step) (before : History) : Type 0 where
   pub register : Register
   pub wholly : IsWholly register step.op
   pub shown : IsConfirmed (page_of register) before
+
+-- with doubts, by the steps since the newest refusal
+abbrev pub IsAtRegisterBy : Bool → Step → History → Type 0
+IsAtRegisterBy doubts step before = IsAtRegister step (trusted doubts before)

@@ -16,7 +16,7 @@ ghost use Rattle.control_sets.specs.declared.fault.ProvisionFault.TheVariants.{A
 ghost use Rattle.bus_model.specs.SameOperation.{same_op};
 ghost use Rattle.control_sets.specs.Pages.{EachStep, read_selection, selection, History};
 ghost use Rattle.control_sets.specs.OutcomeSteps.{Gives, IsAccepted, IsAnswered, Stands};
-ghost use Rattle.control_sets.specs.OutcomeOperations.{IsAtRegister, apply, control_page, read_active, read_module_state, read_path_states, read_staged, read_statuses, stage, status_page};
+ghost use Rattle.control_sets.specs.OutcomeOperations.{IsAtRegister, IsAtRegisterBy, apply, control_page, read_active, read_module_state, read_path_states, read_staged, read_statuses, stage, status_page};
 ghost use Rattle.control_sets.specs.OutcomeExamples.{activated, almost_pairs, gave, low_power, on_controls, on_status_at_once, other_bank, pairs, provisioned, provisioned_beside_reserved_codes, ready, refused, refused_reads, refused_selection, repeated_selection, took};
 ghost use Rattle.control_sets.specs.Tasks.{activation, provisioning};
 ghost use Rattle.control_sets.specs.Procedures.{HasEndedBy, IsUnfinishedBy};
@@ -95,22 +95,32 @@ pub fn a_success_was_read()
         IsProvisioningBy doubts control lanes (made ≡ room) history (Ok steps) → ReadsActive doubts control history }
 {}
 
-/// Each store of provisioning to DPDeinit and to ApplyDPInit, accepted or refused, has the bits of its lanes, and no others.
-/// So it sets no bit of another lane, and it clears a DPDeinit bit of another lane that was set.
+/// Each store of provisioning to DPDeinit and to ApplyDPInit, accepted or refused, has the bits of its lanes, and no others, however far
+/// provisioning has come, with doubts and without. So it sets no bit of another lane, and it clears a DPDeinit bit of another lane that
+/// was set.
 pub fn bits_are_those_of_the_lanes()
-    ensures each { (control : List ℕ) (lanes : Lanes) (made room : ℕ) (history : History) (answer : Answer) →
-        IsProvisioning control lanes (made ≡ room) history answer → AllByRecursion (HasBitsOf lanes) history }
-    ensures others { (control : List ℕ) (lanes : Lanes) (made room : ℕ) (history : History) (answer : Answer) →
-        IsProvisioning control lanes (made ≡ room) history answer → AllByRecursion (LeavesOthers lanes) history }
+    ensures each { (doubts : Bool) (control : List ℕ) (lanes : Lanes) (made room : ℕ) (history : History) (answer : Answer) →
+        IsProvisioningBy doubts control lanes (made ≡ room) history answer → AllByRecursion (HasBitsOf lanes) history }
+    ensures others { (doubts : Bool) (control : List ℕ) (lanes : Lanes) (made room : ℕ) (history : History) (answer : Answer) →
+        IsProvisioningBy doubts control lanes (made ≡ room) history answer → AllByRecursion (LeavesOthers lanes) history }
+    ensures unfinished { (doubts : Bool) (control : List ℕ) (lanes : Lanes) (history : History) →
+        IsUnfinishedProvisioningBy doubts control lanes history → AllByRecursion (HasBitsOf lanes) history }
+    ensures others_unfinished { (doubts : Bool) (control : List ℕ) (lanes : Lanes) (history : History) →
+        IsUnfinishedProvisioningBy doubts control lanes history → AllByRecursion (LeavesOthers lanes) history }
 {}
 
-/// Each operation of provisioning, activation and changes of power, whatever it answers, reads all bytes of a register of the memory map or stores
-/// all of them, and the page of the register is confirmed before it.
+/// Each operation of provisioning, activation and changes of power, whatever it answers and however far that has come, reads all bytes of a
+/// register of the memory map or stores all of them, and the page of the register is confirmed before it: with doubts, by the steps since
+/// the newest refusal.
 pub fn operations_are_at_registers()
-    ensures provisioning { (control : List ℕ) (lanes : Lanes) (made room : ℕ) (history : History) (answer : Answer) →
-        length control ≡ 8 → IsProvisioning control lanes (made ≡ room) history answer → EachStep IsAtRegister history }
-    ensures activation { (control : List ℕ) (lanes : Lanes) (made room : ℕ) (history : History) (answer : Answer) →
-        IsActivation control lanes (made ≡ room) history answer → EachStep IsAtRegister history }
+    ensures provisioning { (doubts : Bool) (control : List ℕ) (lanes : Lanes) (made room : ℕ) (history : History) (answer : Answer) →
+        length control ≡ 8 → IsProvisioningBy doubts control lanes (made ≡ room) history answer → EachStep (IsAtRegisterBy doubts) history }
+    ensures activation { (doubts : Bool) (control : List ℕ) (lanes : Lanes) (made room : ℕ) (history : History) (answer : Answer) →
+        IsActivationBy doubts control lanes (made ≡ room) history answer → EachStep (IsAtRegisterBy doubts) history }
+    ensures unfinished_provisioning { (doubts : Bool) (control : List ℕ) (lanes : Lanes) (history : History) →
+        length control ≡ 8 → IsUnfinishedProvisioningBy doubts control lanes history → EachStep (IsAtRegisterBy doubts) history }
+    ensures unfinished_activation { (doubts : Bool) (control : List ℕ) (lanes : Lanes) (history : History) →
+        IsUnfinishedActivationBy doubts control lanes history → EachStep (IsAtRegisterBy doubts) history }
     ensures power { (power : Power) (made room : ℕ) (history : History) (answer : Answer) →
         IsPowerChange power (made ≡ room) history answer → EachStep IsAtRegister history }
 {}
