@@ -1900,7 +1900,7 @@ uint32_t dovecounter_port_hold(struct dovecounter_port *port, uint8_t held);
 
 enum dovecounter_request {
     DOVECOUNTER_REQUEST_WAKE = 0,      /* the default: the module is to be awake, and as wanted */
-    DOVECOUNTER_REQUEST_SLEEP = 1,     /* it is to be in low power; these lanes may go down for that */
+    DOVECOUNTER_REQUEST_SLEEP = 1,     /* it is to be in low power; these lanes may go down for that, and no others */
     DOVECOUNTER_REQUEST_PROVISION = 2, /* these lanes may go down, until it is up or left alone; see
                                           dovecounter_port_plug */
     DOVECOUNTER_REQUEST_DEACTIVATE = 3 /* no data path may have one of these lanes, and they may go down */
@@ -1955,7 +1955,7 @@ struct dovecounter_wanted {
     uint8_t paired;        /* as for dovecounter_plan */
     uint8_t counts_by_id;
     uint8_t most_power;    /* in quarters of a watt: a module that needs more isn't woken; 255: no limit */
-    uint8_t may_take_down; /* lanes that may go down although they are up */
+    uint8_t may_take_down; /* lanes that may go down although they are up, but not for a requested sleep */
 };
 
 enum dovecounter_port_led_to {

@@ -163,7 +163,7 @@ class Wanted:
     most_power: int = 255
     """in quarters of a watt; a module that needs more is not woken up; 255 is no limit"""
     may_take_down: int = 0
-    """the byte of host lanes that may be taken down although they are up"""
+    """the byte of host lanes that may be taken down although they are up, but not for a sleep that somebody asks for"""
 
 
 @dataclass(frozen=True)

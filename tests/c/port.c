@@ -314,9 +314,11 @@ static void try_sleep(void) {
     begin();
     plug_in();
     expect("a module comes up", 1, (unsigned long)comes_up());
+    wanted.may_take_down = ALL_LANES; /* for provisioning, and not for this */
     request(DOVECOUNTER_REQUEST_SLEEP, 0x7F);
     expect("lane 8 may not go down", 1, (unsigned long)is_left(DOVECOUNTER_LEFT_NEEDS_PERMISSION));
     expect("nothing was stored", 0, stores);
+    wanted.may_take_down = 0;
     request(DOVECOUNTER_REQUEST_SLEEP, ALL_LANES);
     expect("it goes to sleep", 1, (unsigned long)is_left(DOVECOUNTER_LEFT_ASLEEP));
     expect("by one store", 1, stores);

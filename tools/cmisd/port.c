@@ -232,13 +232,6 @@ static bool may_have_other_outputs(const struct port *port, const struct dovecou
     return is_read && half_of(port, 1, LANES_PAGE) != NULL;
 }
 
-/* Lanes of take_down may go down for what the plan has in their place, and not for a sleep, for which whoever asks names them. */
-static struct dovecounter_wanted wanted_of(const struct port *port) {
-    struct dovecounter_wanted wanted = port->entry.wanted;
-    if (port->core.request == DOVECOUNTER_REQUEST_SLEEP) wanted.may_take_down = 0;
-    return wanted;
-}
-
 static void carry_out(struct port *port, const struct dovecounter_port_next *next) {
     uint8_t bytes[128];
     struct dovecounter_port_outcome led_to;
@@ -248,8 +241,7 @@ static void carry_out(struct port *port, const struct dovecounter_port_next *nex
     size_t count = answered && !stores ? next->operation.count : 0;
     if (port->is_retired) return;
     remember(port, next, outcome, bytes);
-    const struct dovecounter_wanted wanted = wanted_of(port);
-    must(dovecounter_port_take(&port->core, outcome, bytes, count, &wanted, (uint64_t)now(), &led_to));
+    must(dovecounter_port_take(&port->core, outcome, bytes, count, &port->entry.wanted, (uint64_t)now(), &led_to));
     port->is_rested = led_to.note >= DOVECOUNTER_PORT_CAME_UP || led_to.kind == DOVECOUNTER_PORT_FAILED;
     port->outputs.is_due = port->outputs.is_due || may_have_other_outputs(port, &led_to);
     tell_flags(port);

@@ -56,10 +56,9 @@ union_empty lanes =
 
 granted_same : (wanted : Wanted) → granted Wake wanted ≡ wanted
 granted_same wanted =
-    let may = union_empty wanted.may_take_down in
     let down = union_empty wanted.down in
     let asleep = or_false wanted.asleep in
-    λ i. record wanted { may_take_down = may i; asleep = asleep i; down = down i } where
+    λ i. record wanted { asleep = asleep i; down = down i } where
       or_false : (b : Bool) → (b || false) ≡ b
       or_false true = refl
       or_false false = refl

@@ -6,12 +6,12 @@ use Rattle.port_manager.specs.declared.deciding.Wanted.{Wanted}
 use Rattle.port_manager.specs.declared.request.Request.{Request}
 use Rattle.port_manager.specs.declared.request.Request.TheVariants.{Wake, Sleep, Provision, Deactivate}
 
--- the host lanes that may be taken down
-abbrev pub permitted : Request → Lanes
-permitted Wake = set.empty
-permitted (Sleep lanes) = lanes
-permitted (Provision lanes) = lanes
-permitted (Deactivate lanes) = lanes
+-- the host lanes that may be taken down where these may be without it: for a sleep those alone that it names
+abbrev pub permitted : Request → Lanes → Lanes
+permitted Wake may = may
+permitted (Sleep lanes) may = lanes
+permitted (Provision lanes) may = set.union may lanes
+permitted (Deactivate lanes) may = set.union may lanes
 
 abbrev pub is_sleep : Request → Bool
 is_sleep Wake = false
@@ -29,7 +29,7 @@ down (Deactivate lanes) = lanes
 -- what is wanted, with what was asked
 abbrev pub granted : Request → Wanted → Wanted
 granted request wanted = record wanted {
-  may_take_down = set.union wanted.may_take_down (permitted request);
+  may_take_down = permitted request wanted.may_take_down;
   asleep = wanted.asleep || is_sleep request;
   down = set.union wanted.down (down request);
 }

@@ -10,7 +10,7 @@ use field_tables::LaneSet;
 pub enum Request {
     /// Nothing: the module is to be awake, and as it is wanted.
     Wake,
-    /// The module is to be in low power, for which these host lanes may be taken down.
+    /// The module is to be in low power, for which these host lanes may be taken down, and no others.
     Sleep(LaneSet),
     /// The module is to be as it is wanted. Until it is, or is left alone, these host lanes may be taken down.
     Provision(LaneSet),
@@ -30,7 +30,7 @@ impl Request {
             paired: wanted.paired,
             counts_by_id: wanted.counts_by_id,
             max_power: wanted.max_power,
-            may_take_down: wanted.may_take_down.union(self.permitted()),
+            may_take_down: self.permitted(wanted.may_take_down),
             asleep: wanted.asleep || self.is_sleep(),
             down: wanted.down.union(self.down()),
         }
@@ -48,13 +48,14 @@ impl Request {
         }
     }
 
-    // The host lanes that may be taken down.
-    fn permitted(self) -> LaneSet
-        ensures { result ≡ spec.permitted self }
+    // The host lanes that may be taken down where these may be without it.
+    fn permitted(self, may: LaneSet) -> LaneSet
+        ensures { result ≡ spec.permitted self may }
     {
         match self {
-            Request::Wake => LaneSet::empty(),
-            Request::Sleep(lanes) | Request::Provision(lanes) | Request::Deactivate(lanes) => lanes,
+            Request::Wake => may,
+            Request::Sleep(lanes) => lanes,
+            Request::Provision(lanes) | Request::Deactivate(lanes) => may.union(lanes),
         }
     }
 
