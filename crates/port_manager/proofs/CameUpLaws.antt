@@ -24,7 +24,7 @@ use Rattle.field_tables.specs.Readings.{number}
 use Rattle.paged_memory.specs.Images.{Memory}
 use Rattle.paged_memory.specs.declared.page_addressing.PageAddressing.TheVariants.{BankAndPage}
 use Rattle.paged_memory.specs.KnownPages.{is_awaited, missing_page, selecting_first, wanted as page_first}
-use Rattle.paged_memory.specs.PageAddressing.{read_selection}
+use Rattle.paged_memory.specs.PageAddressing.{History, is_page_confirmed, read_selection}
 use Rattle.port_manager.specs.declared.deciding.Decision.{Decision}
 use Rattle.port_manager.specs.declared.deciding.Decision.TheVariants.{Leave, Wake, Sleep, Hold, Activate, Provision}
 use Rattle.port_manager.specs.declared.deciding.Goal.{Goal}
@@ -35,33 +35,26 @@ use Rattle.port_manager.specs.declared.job.Job.TheVariants as jobs
 use Rattle.port_manager.specs.declared.look.Look.{Look}
 use Rattle.port_manager.specs.declared.look.LookStage.{LookStage}
 use Rattle.port_manager.specs.declared.look.LookStage.TheVariants as looking
-use Rattle.port_manager.specs.declared.port.Outcome.{Outcome}
 use Rattle.port_manager.specs.declared.port.Outcome.TheVariants as outcome
-use Rattle.port_manager.specs.declared.port.Outstanding.{Outstanding}
-use Rattle.port_manager.specs.declared.port.Outstanding.TheVariants as outstanding
 use Rattle.port_manager.specs.declared.port.Port.{Port}
-use Rattle.port_manager.specs.declared.port.Stage.{Stage}
-use Rattle.port_manager.specs.declared.port.Stage.TheVariants as stages
-use Rattle.port_manager.specs.declared.request.Request.{Request}
-use Rattle.port_manager.specs.declared.times.Times.{Times}
 use Rattle.port_manager.specs.declared.turn.Note.TheVariants as notes
-use Rattle.port_manager.specs.CameUp.{CameUpAsWanted, IfCameUp, IfUp, IsFoundUp, IsLookedAt, ShowsUp}
+use Rattle.port_manager.specs.CameUp.{CameUpAsWanted, IfUp, IsFoundUp, IsLookedAt, IsUpSo, ShowsUp}
 use Rattle.port_manager.specs.Decisions.{IsDecision, IsDecisionFor, IsDecisionIn, IsJudged, has_no_plan, if_permitted, page_of_lanes, sleep_in, sleep_within}
-use Rattle.port_manager.specs.Flags.{no_flags}
 use Rattle.port_manager.specs.Goals.{are_up, conventions_of, has_all, may_activate, may_provision}
-use Rattle.port_manager.specs.Jobs.{IsReplyTo, asked, look_after, look_wants, paged_look, watching}
+use Rattle.port_manager.specs.Jobs.{asked, look_after, look_wants, paged_look, watching}
 use Rattle.port_manager.specs.Looks as looks
 use Rattle.port_manager.specs.Patients.{Patient, after_on, wants_on}
-use Rattle.port_manager.specs.Ports.{IfWorking, IsAwaitedBy, IsRestartedIn, IsTakenBy, IsTurnedIn, absent, asked_in, awaited, outcome_of}
-use Rattle.port_manager.specs.Readings.{IsJustRead, RestsIn}
+use Rattle.port_manager.specs.Ports.{outcome_of}
+use Rattle.port_manager.specs.Readings.{IsJustRead}
 use Rattle.port_manager.specs.Requests.{granted}
-use Rattle.port_manager.specs.Runs.{Becomes, Reaches, Runs}
-use Rattle.port_manager.specs.Standing.{IsAt, IsFounded, IsNamed, UnlessStale}
-use Rattle.port_manager.specs.Stories.{Event, Story, acknowledge, ask, demand, drop, hear, hold, make, plug, pull, reconsider, request_in, step_with, steps_of}
+use Rattle.port_manager.specs.Runs.{Reaches}
+use Rattle.port_manager.specs.Standing.{IsFounded, IsKnownOf, IsNamed}
+use Rattle.port_manager.specs.Stories.{Story, make, request_in, step_with, steps_of}
 use Rattle.port_manager.specs.Turns.{IsTurnOf, Turn, UnlessApplyRefused, decided, going, seen}
 use Rattle.port_manager.specs.Turns as turns
+use Rattle.port_manager.proofs.LookPages.{stands_on}
+use Rattle.port_manager.proofs.MadeOperationLaws.{IsTurnAfter, each_made}
 use Rattle.port_manager.proofs.PatientLaws.{asked_on, doubting_if, kept_within, never_waits, on_ends, paged_never, pausing_ends, trusting_if, within_ends}
-use Rattle.port_manager.proofs.StoryLaws.{reaches_at}
 use Rattle.port_manager.proofs.TurnCases.{Follows, IsAnyTurn, goes, later, look_never, pause_of, turn_all}
 use Rattle.port_manager.proofs.TurnLaws.{NamesNext, just_read, turn_names}
 
@@ -70,7 +63,7 @@ use Rattle.port_manager.proofs.TurnLaws.{NamesNext, just_read, turn_names}
 -- the look took the reply to its own operation, or is as it was
 module _ (on : OnPage Look) (inner op : Op) (reply : Reply) (is : op ≡ page_first BankAndPage on.selection (looks.needed on.conversation) inner) where
   abbrev pub IsOwn : Look → Type 0
-  IsOwn look = ((op ≡ inner) × (look ≡ looks.after on.conversation reply)) ⊎ (look ≡ on.conversation)
+  IsOwn look = ((op ≡ inner) × (missing_page on.selection (looks.needed on.conversation) ≡ None) × (look ≡ looks.after on.conversation reply)) ⊎ (look ≡ on.conversation)
 
   lacks_none : (found : Option ℕ) → told_lacked (λ (look : Look) number. look) found on.conversation ≡ on.conversation
   lacks_none None = refl
@@ -80,6 +73,7 @@ module _ (on : OnPage Look) (inner op : Op) (reply : Reply) (is : op ≡ page_fi
   own_missing None m closed =
       inl (
         is ∙ ap (λ (b : Bool). if b then read_selection BankAndPage else selecting_first BankAndPage inner (missing_page on.selection (looks.needed on.conversation))) closed ∙ ap (selecting_first BankAndPage inner) m,
+        m,
         refl,
       )
   own_missing (Some page) m closed = inr refl
@@ -102,18 +96,19 @@ not_seen true e = cc
 not_seen false e = cc
 
 -- a look ends so by page 11h alone
-seen_by : (goal : Goal) (at : LookStage) (op : Op) (reply : Reply) → looks.wants_at at ≡ Do op → looks.stage_after goal at reply ≡ looking.Seen true → IsLookedAt goal op reply
-seen_by goal looking.Lower op (Bytes bytes) wants e = absurd (not_seen (number_in_byte CModuleState (slice_index bytes.items 3) == 3) e)
-seen_by goal looking.Lower op Done wants e = absurd cc
-seen_by goal looking.Lower op Refused wants e = absurd cc
-seen_by goal looking.Lanes op (Bytes bytes) wants e =
+seen_by : (goal : Goal) (at : LookStage) (op : Op) (reply : Reply) (before : History) → ((page : ℕ) → looks.page_at at ≡ Some page → is_page_confirmed BankAndPage page before ≡ true) → looks.wants_at at ≡ Do op
+    → looks.stage_after goal at reply ≡ looking.Seen true → IsLookedAt goal op reply before
+seen_by goal looking.Lower op (Bytes bytes) before confirmed wants e = absurd (not_seen (number_in_byte CModuleState (slice_index bytes.items 3) == 3) e)
+seen_by goal looking.Lower op Done before confirmed wants e = absurd cc
+seen_by goal looking.Lower op Refused before confirmed wants e = absurd cc
+seen_by goal looking.Lanes op (Bytes bytes) before confirmed wants e =
     let same : looks.fetch_half 128 ≡ op = cc in
     let both : (has_all bytes.items goal.control && are_up bytes.items goal.control goal.lanes) ≡ true = cc in
     let parts = and_parts (has_all bytes.items goal.control) (are_up bytes.items goal.control goal.lanes) both in
-    (bytes.items, sym same, refl, record { has = parts.0; up = parts.1 })
-seen_by goal looking.Lanes op Done wants e = absurd cc
-seen_by goal looking.Lanes op Refused wants e = absurd cc
-seen_by goal (looking.Seen wanted) op reply wants e = absurd cc
+    (bytes.items, confirmed 0x11 refl, sym same, refl, record { has = parts.0; up = parts.1 })
+seen_by goal looking.Lanes op Done before confirmed wants e = absurd cc
+seen_by goal looking.Lanes op Refused before confirmed wants e = absurd cc
+seen_by goal (looking.Seen wanted) op reply before confirmed wants e = absurd cc
 
 end_seen : (at : LookStage) (end : Bool) → looks.wants_at at ≡ End end → at ≡ looking.Seen end
 end_seen looking.Lower end e = absurd cc
@@ -130,20 +125,20 @@ look_ended job spent e in_time =
     let paged = pausing_ends job.conversation.due job.conversation.idle job.conversation.patience (wants_on paged_look on) true pausing in
     end_seen on.conversation.stage true (on_ends BankAndPage on.selection (looks.needed on.conversation) (looks.wants on.conversation) true paged)
 
-found_by : (on : OnPage Look) (inner op : Op) (reply : Reply) (is : op ≡ page_first BankAndPage on.selection (looks.needed on.conversation) inner) (look : Look) → looks.wants on.conversation ≡ Do inner → look.stage ≡ looking.Seen true
-    → IsOwn on inner op reply is look → IsLookedAt look.goal op reply
-found_by on inner op reply is look wants ended (inr same) = absurd (wants_none on.conversation.stage inner (ap (λ (look : Look). look.stage) (sym same) ∙ ended) wants)
-found_by on inner op reply is look wants ended (inl (own, same)) =
-    subst (λ (goal : Goal). IsLookedAt goal op reply) (sym (ap (λ (look : Look). look.goal) same))
-    (subst (λ (op : Op). IsLookedAt on.conversation.goal op reply) (sym own)
-    (seen_by on.conversation.goal on.conversation.stage inner reply wants (ap (λ (look : Look). look.stage) (sym same) ∙ ended)))
+found_by : (on : OnPage Look) (inner op : Op) (reply : Reply) (is : op ≡ page_first BankAndPage on.selection (looks.needed on.conversation) inner) (look : Look) (before : History) → IsKnownOf before on.selection
+    → looks.wants on.conversation ≡ Do inner → look.stage ≡ looking.Seen true → IsOwn on inner op reply is look → IsLookedAt look.goal op reply before
+found_by on inner op reply is look before known wants ended (inr same) = absurd (wants_none on.conversation.stage inner (ap (λ (look : Look). look.stage) (sym same) ∙ ended) wants)
+found_by on inner op reply is look before known wants ended (inl (own, none, same)) =
+    subst (λ (goal : Goal). IsLookedAt goal op reply before) (sym (ap (λ (look : Look). look.goal) same))
+    (subst (λ (op : Op). IsLookedAt on.conversation.goal op reply before) (sym own)
+    (seen_by on.conversation.goal on.conversation.stage inner reply before (stands_on on.selection (looks.needed on.conversation) before known none) wants (ap (λ (look : Look). look.stage) (sym same) ∙ ended)))
 
-look_found : (job : Patient (OnPage Look)) (op : Op) (reply : Reply) (spent : Spent (Timed Bool)) → op_of (look_wants job) ≡ Some op → look_wants (look_after job reply) ≡ End spent → spent.end ≡ Some (InTime true)
-    → IsLookedAt (look_after job reply).conversation.conversation.conversation.goal op reply
-look_found job op reply spent asks e in_time =
+look_found : (job : Patient (OnPage Look)) (op : Op) (reply : Reply) (spent : Spent (Timed Bool)) (before : History) → IsKnownOf before job.conversation.conversation.selection → op_of (look_wants job) ≡ Some op
+    → look_wants (look_after job reply) ≡ End spent → spent.end ≡ Some (InTime true) → IsLookedAt (look_after job reply).conversation.conversation.conversation.goal op reply before
+look_found job op reply spent before known asks e in_time =
     let on = job.conversation.conversation in
     let a = asked_on paged_look job op asks in
-    found_by on a.inner op reply a.is (look_after job reply).conversation.conversation.conversation a.wants (look_ended (look_after job reply) spent e in_time)
+    found_by on a.inner op reply a.is (look_after job reply).conversation.conversation.conversation before known a.wants (look_ended (look_after job reply) spent e in_time)
     (kept_within (λ (after : OnPage Look). IsOwn on a.inner op reply a.is after.conversation) (wants_on paged_look) (after_on paged_look) job reply (own_or_same on a.inner op reply a.is))
 
 -- ---- what a reading has read
@@ -247,24 +242,24 @@ module _ (before : Story) (op : Op) (reply : Reply) (wanted : Wanted) where
   follows_up (jobs.Confirming job) other answers asks of = absurd (other job refl)
   follows_up (jobs.Watching job) other answers asks of = tt
 
-  seen_up : (goal : Goal) (patience : Patience) (end : Option (Timed Bool)) → (end ≡ Some (InTime true) → IsLookedAt goal op reply) → IsUpTurn (seen goal patience notes.CameUp end)
+  seen_up : (goal : Goal) (patience : Patience) (end : Option (Timed Bool)) → (end ≡ Some (InTime true) → IsLookedAt goal op reply (steps_of before)) → IsUpTurn (seen goal patience notes.CameUp end)
   seen_up goal patience None found = tt
   seen_up goal patience (Some Overdue) found = tt
   seen_up goal patience (Some (InTime true)) found = (goal, patience, refl, inl (found refl))
   seen_up goal patience (Some (InTime false)) found = tt
 
-  confirming_up : (job : Patient (OnPage Look)) (turn : Turn) → asked (jobs.Confirming job) ≡ Some op → IsTurnOf wanted (jobs.Confirming job) reply turn → IsUpTurn turn
-  confirming_up job turn asks is =
+  confirming_up : (job : Patient (OnPage Look)) (turn : Turn) → IsFounded (steps_of before) (jobs.Confirming job) → asked (jobs.Confirming job) ≡ Some op → IsTurnOf wanted (jobs.Confirming job) reply turn → IsUpTurn turn
+  confirming_up job turn of asks is =
       let after = look_after job reply in
       let goal = after.conversation.conversation.conversation.goal in
       goes (look_wants after) (pause_of (jobs.Confirming job) reply) (jobs.Confirming after) (λ end turn. turn ≡ seen goal after.conversation.patience notes.CameUp end) turn IsUpTurn is
       (λ op e. going_up (pause_of (jobs.Confirming job) reply) (jobs.Confirming after))
       (λ time e. never_waits (wants_on paged_look) (after_on paged_look) job reply time (paged_never paged_look look_never) e)
-      (λ spent e ended. subst IsUpTurn (sym ended) (seen_up goal after.conversation.patience spent.end (λ in_time. look_found job op reply spent asks e in_time)))
+      (λ spent e ended. subst IsUpTurn (sym ended) (seen_up goal after.conversation.patience spent.end (λ in_time. look_found job op reply spent (steps_of before) of asks e in_time)))
 
-  unless_up : (refused : Bool) (job : Patient (OnPage Look)) (turn : Turn) → asked (jobs.Confirming job) ≡ Some op → UnlessApplyRefused refused (IsTurnOf wanted (jobs.Confirming job) reply) turn → IsUpTurn turn
-  unless_up true job turn asks is = subst IsUpTurn (sym is) tt
-  unless_up false job turn asks is = confirming_up job turn asks is
+  unless_up : (refused : Bool) (job : Patient (OnPage Look)) (turn : Turn) → IsFounded (steps_of before) (jobs.Confirming job) → asked (jobs.Confirming job) ≡ Some op → UnlessApplyRefused refused (IsTurnOf wanted (jobs.Confirming job) reply) turn → IsUpTurn turn
+  unless_up true job turn of asks is = subst IsUpTurn (sym is) tt
+  unless_up false job turn of asks is = confirming_up job turn of asks is
 
   other_up : (job : Job) (turn : Turn) → ((look : Patient (OnPage Look)) → job ≡ jobs.Confirming look → ⊥) → Answers op reply → asked job ≡ Some op → IsFounded (steps_of before) job → IsAnyTurn wanted job reply turn → IsUpTurn turn
   other_up job turn other answers asks of is =
@@ -276,19 +271,16 @@ module _ (before : Story) (op : Op) (reply : Reply) (wanted : Wanted) where
   turn_up (jobs.Sleeping job) turn answers asks of is = other_up (jobs.Sleeping job) turn (λ look e. cc) answers asks of is
   turn_up (jobs.Provisioning job goal) turn answers asks of is = other_up (jobs.Provisioning job goal) turn (λ look e. cc) answers asks of is
   turn_up (jobs.Activating job goal) turn answers asks of is = other_up (jobs.Activating job goal) turn (λ look e. cc) answers asks of is
-  turn_up (jobs.Confirming job) turn answers asks of (again, is) = unless_up _ job turn asks is
+  turn_up (jobs.Confirming job) turn answers asks of (again, is) = unless_up _ job turn of asks is
   turn_up (jobs.Watching job) turn answers asks of is = other_up (jobs.Watching job) turn (λ look e. cc) answers asks of is
 
 -- ---- a story
-
-abbrev IsSaid : Story → Op → Reply → Wanted → ℕ → Outcome → Type 0
-IsSaid before op reply wanted now result = IfCameUp result ((goal : Goal) × RestsIn (make op reply wanted now result ∷ before) goal × IsFoundUp goal op reply before)
 
 module _ (before : Story) (op : Op) (reply : Reply) (wanted : Wanted) (now : ℕ) where
   abbrev wishes : Wanted
   wishes = granted (request_in before) wanted
 
-  turn_said : (port : Port) (turn : Turn) → IsUpTurn before op reply wishes turn → NamesNext before op reply wanted now turn → IsSaid before op reply wanted now (outcome_of port turn now)
+  turn_said : (port : Port) (turn : Turn) → IsUpTurn before op reply wishes turn → NamesNext before op reply wanted now turn → IsUpSo before op reply wanted now (outcome_of port turn now)
   turn_said port (turns.On job notes.Quiet) up named = tt
   turn_said port (turns.On job notes.Identified) up named = tt
   turn_said port (turns.On job notes.Woken) up named = tt
@@ -299,47 +291,9 @@ module _ (before : Story) (op : Op) (reply : Reply) (wanted : Wanted) (now : ℕ
   turn_said port (turns.Failed why) up named = tt
   turn_said port (turns.Left reason) up named = tt
 
-  dropped_said : (result : Outcome) → result ≡ outcome.Dropped → IsSaid before op reply wanted now result
-  dropped_said result is = subst (λ (result : Outcome). IsSaid before op reply wanted now result) (sym is) tt
-
-  restarted_said : (stage : Stage) (port after : Port) (result : Outcome) → IsRestartedIn stage port reply now result after → IsSaid before op reply wanted now result
-  restarted_said stages.Absent port after result is = dropped_said result is.0
-  restarted_said (stages.Left reason) port after result is = dropped_said result is.0
-  restarted_said (stages.Working job) port after result is = dropped_said result is.0
-
-  turned_said : (stage : Stage) (port after : Port) (result : Outcome) → port.request ≡ request_in before → asked_in stage ≡ Some op → IsReplyTo (asked_in stage) reply → IfWorking stage (IsFounded (steps_of before)) → IfWorking stage (IsNamed before)
-      → IsTurnedIn stage port reply wanted now result after → IsSaid before op reply wanted now result
-  turned_said stages.Absent port after result same asks answers of named is = dropped_said result is.0
-  turned_said (stages.Left reason) port after result same asks answers of named is = dropped_said result is.0
-  turned_said (stages.Working job) port after result same asks answers of named (turn, leads, gives, becomes) =
-      let answered : Answers op reply = subst (λ (found : Option Op). IsReplyTo found reply) asks answers in
-      let is : IsAnyTurn wishes job reply turn = subst (λ (request : Request). IsAnyTurn (granted request wanted) job reply turn) same (port.apply_refused, leads) in
-      subst (λ (result : Outcome). IsSaid before op reply wanted now result) (sym gives)
-      (turn_said port turn (turn_up before op reply wishes job turn answered asks of is) (turn_names before op reply wanted now job turn answered asks of named is))
-
-  taken_said : (o : Outstanding) (port after : Port) (result : Outcome) → port.request ≡ request_in before → awaited port ≡ Some op → IsAwaitedBy o port reply → IfWorking port.stage (IsFounded (steps_of before))
-      → UnlessStale o (IfWorking port.stage (IsNamed before)) → IsTakenBy o port reply wanted now result after → IsSaid before op reply wanted now result
-  taken_said outstanding.Nothing port after result same asks answers of named is = dropped_said result is.0
-  taken_said outstanding.Forsaken port after result same asks answers of named is = dropped_said result is.0
-  taken_said outstanding.Stale port after result same asks answers of named is = restarted_said port.stage port after result is
-  taken_said outstanding.Awaited port after result same asks answers of named is = turned_said port.stage port after result same asks answers of named is
-
-becomes_said : (port after : Port) (event : Event) (before : Story) → IsAt before port → CameUpAsWanted before → Becomes port event after → CameUpAsWanted (event ∷ before)
-becomes_said port after (plug now) before at said is = said
-becomes_said port after pull before at said is = said
-becomes_said port after reconsider before at said is = said
-becomes_said port after (hold held) before at said is = said
-becomes_said port after (demand request) before at said is = said
-becomes_said port after (acknowledge past) before at said is = said
-becomes_said port after (hear alive began) before at said is = said
-becomes_said port after (ask op moment) before at said is = said
-becomes_said port after (make op reply wanted now result) before at said (waited, asks, answers, is) =
-    (taken_said before op reply wanted now port.outstanding port after result at.request asks answers at.founded at.named is, said)
-becomes_said port after drop before at said is = said
-
-runs_said : (times : Times) (story : Story) (port : Port) → Runs (absent times outstanding.Nothing no_flags false) story port → CameUpAsWanted story
-runs_said times [] port is = tt
-runs_said times (event ∷ before) port (between, ran, is) = becomes_said between port event before (reaches_at before between (times, ran)) (runs_said times before between ran) is
+  turned_said : (port : Port) (job : Job) (turn : Turn) → IsTurnAfter before op reply wanted job turn → IsUpSo before op reply wanted now (outcome_of port turn now)
+  turned_said port job turn is =
+      turn_said port turn (turn_up before op reply wishes job turn is.answers is.asks is.founded is.leads) (turn_names before op reply wanted now job turn is.answers is.asks is.founded is.named is.leads)
 
 pub came_up_as_wanted : (story : Story) (port : Port) → Reaches story port → CameUpAsWanted story
-came_up_as_wanted story port (times, ran) = runs_said times story port ran
+came_up_as_wanted = each_made IsUpSo (λ before op reply wanted now. tt) turned_said

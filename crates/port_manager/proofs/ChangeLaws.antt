@@ -1,4 +1,4 @@
--- A change that nothing stands against names no lane that isn't down, unless that lane may be taken down.
+-- A change that nothing stands against names no lane that isn't down, unless that lane may be taken down; none names a lane that stays.
 use Rattle.std.proofs.Common.{◌≡◌, ◌⊎◌, ◌-◌, inl, inr, ℕ, Bool, true, false, not, ◌&&◌, ◌||◌, List, Option, Some, None, refl, sym, ap, ◌∙◌, nat_lt, nat_le, if◌then◌else◌, arith}
 use Rattle.std.proofs.lemmas.Bool.{eqb-true}
 use Rattle.std.proofs.lemmas.Bool.Decides.{nat_tests}
@@ -83,20 +83,39 @@ second_holds : (one other : Bool) → other ≡ true → (one || other) ≡ true
 second_holds true other is = refl
 second_holds false other is = is
 
-taken_spared : (change : Change) (state : ℕ) (page : List ℕ) (bits lane : ℕ) → first_hindrance change state page ≡ None → IsLane lane → bits ≡ byte_of (lanes_with role.Taken page change)
-    → set.contains (lanes_in bits) lane ≡ true → IsSpared page change lane
-taken_spared change state page bits lane none within is inside =
+taken_named : (change : Change) (page : List ℕ) (bits lane : ℕ) → IsLane lane → bits ≡ byte_of (lanes_with role.Taken page change) → set.contains (lanes_in bits) lane ≡ true
+    → (is_taken page change lane || is_held_down page change lane) ≡ true
+taken_named change page bits lane within is inside =
     let taken = sym (of_role role.Taken page change lane within) ∙ sym (in_byte_of (lanes_with role.Taken page change) lane within) ∙ sym (ap (λ (byte : ℕ). set.contains (lanes_in byte) lane) is) ∙ inside in
-    spared change state page lane none within (first_holds (is_taken page change lane) (is_held_down page change lane) taken)
+    first_holds (is_taken page change lane) (is_held_down page change lane) taken
+
+-- they name no lane but those that are taken or held down
+named : (page : List ℕ) (change : Change) (op : Op) (bits lane : ℕ) → IsStoreOfChange page change op → Sets bits op → IsLane lane → set.contains (lanes_in bits) lane ≡ true
+    → (is_taken page change lane || is_held_down page change lane) ≡ true
+named page change op bits lane (inl deinit) sets within inside = taken_named change page bits lane within (deinit_bits op bits (byte_of (lanes_with role.Taken page change)) deinit sets) inside
+named page change op bits lane (inr (inl staged)) sets within inside = absurd (staged_bits op bits change.goal.control staged sets)
+named page change op bits lane (inr (inr (inl applies))) sets within inside = taken_named change page bits lane within (apply_bits op bits (byte_of (lanes_with role.Taken page change)) applies sets) inside
+named page change op bits lane (inr (inr (inr (active, release)))) sets within inside =
+    let other = not_in_plan change.goal bits lane (deinit_bits op bits (255 - byte_of change.goal.lanes) release sets) within inside in
+    let held : is_held_down page change lane ≡ true = (λ i. active i && not (other i)) in
+    second_holds (is_taken page change lane) (is_held_down page change lane) held
 
 pub change_spares : (page : List ℕ) (change : Change) (state : ℕ) (op : Op) (bits lane : ℕ) → first_hindrance change state page ≡ None → IsStoreOfChange page change op → Sets bits op → IsLane lane
     → set.contains (lanes_in bits) lane ≡ true → (is_deactivated page lane ≡ true) ⊎ (set.contains change.may.take_down lane ≡ true)
-change_spares page change state op bits lane none (inl deinit) sets within inside =
-    taken_spared change state page bits lane none within (deinit_bits op bits (byte_of (lanes_with role.Taken page change)) deinit sets) inside
-change_spares page change state op bits lane none (inr (inl staged)) sets within inside = absurd (staged_bits op bits change.goal.control staged sets)
-change_spares page change state op bits lane none (inr (inr (inl applies))) sets within inside =
-    taken_spared change state page bits lane none within (apply_bits op bits (byte_of (lanes_with role.Taken page change)) applies sets) inside
-change_spares page change state op bits lane none (inr (inr (inr (active, release)))) sets within inside =
-    let other = not_in_plan change.goal bits lane (deinit_bits op bits (255 - byte_of change.goal.lanes) release sets) within inside in
-    let held : is_held_down page change lane ≡ true = (λ i. active i && not (other i)) in
-    spared change state page lane none within (second_holds (is_taken page change lane) (is_held_down page change lane) held)
+change_spares page change state op bits lane none store sets within inside = spared change state page lane none within (named page change op bits lane store sets within inside)
+
+-- ---- a lane that stays
+
+stays_unnamed : (named down : Bool) → named ≡ true → (not down && not (named && not down)) ≡ false
+stays_unnamed true true is = refl
+stays_unnamed true false is = refl
+stays_unnamed false down is = absurd (let same : false ≡ true = is in cc)
+
+pub change_leaves : (page : List ℕ) (change : Change) (op : Op) (bits lane : ℕ) → IsStoreOfChange page change op → Sets bits op → IsLane lane → set.contains (lanes_with role.Stays page change) lane ≡ true
+    → set.contains (lanes_in bits) lane ≡ false
+change_leaves page change op bits lane store sets within stays = by (set.contains (lanes_in bits) lane) refl where
+  by : (inside : Bool) → set.contains (lanes_in bits) lane ≡ inside → set.contains (lanes_in bits) lane ≡ false
+  by true inside =
+      let unnamed = stays_unnamed (is_taken page change lane || is_held_down page change lane) (is_deactivated page lane) (named page change op bits lane store sets within inside) in
+      absurd (let both : true ≡ false = sym stays ∙ of_role role.Stays page change lane within ∙ unnamed in cc)
+  by false inside = inside

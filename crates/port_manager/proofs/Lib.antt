@@ -3,12 +3,15 @@ pub mod KeptPaths
 pub mod PatientLaws
 pub mod TurnCases
 pub mod SinceLaws
+pub mod LookPages
 pub mod TurnLaws
 pub mod StoryLaws
 pub mod StoreLaws
 pub mod RefusedApplyLaws
 pub mod WakingLaws
+pub mod MadeOperationLaws
 pub mod CameUpLaws
+pub mod LeftReasonLaws
 pub mod IdleLaws
 pub mod Asking
 pub mod PageProgress

@@ -47,6 +47,7 @@ use Rattle.port_manager.specs.Stories.{Story, make, request_in, settled_note, st
 use Rattle.port_manager.specs.Readings.{GivesActivation, GivesGoal, GivesProvisioning, GivesSleep, GivesWaking, IsJustRead, IsWhole, RestsIn}
 use Rattle.port_manager.specs.Standing.{IfTrue, IsFounded, IsNamed, IsReadingOf, IsTame, IsWatching}
 use Rattle.port_manager.specs.Turns.{decided, going}
+use Rattle.port_manager.proofs.LookPages.{knows_nothing, look_known}
 use Rattle.port_manager.proofs.PatientLaws.{kept_on, kept_within}
 use Rattle.port_manager.proofs.SinceLaws.{activation_goal, provisioned_activates, since_map}
 use Rattle.port_manager.proofs.TurnCases.{Follows, IsAnyTurn, later, pause_of, turn_all}
@@ -77,15 +78,15 @@ module _ (history : History) (op : Op) (reply : Reply) (answers : Answers op rep
   later_founded (Sleeping job) asks of = tt
   later_founded (Provisioning job goal) asks of = tt
   later_founded (Activating job goal) asks of = tt
-  later_founded (Confirming job) asks of = tt
-  later_founded (Watching job) asks of = tt
+  later_founded (Confirming job) asks of = look_known job op reply history asks of
+  later_founded (Watching job) asks of = look_known job op reply history asks of
 
 decided_founded : (history : History) (woken requested : Bool) (patience : Patience) (decision : Decision) → IfOn (decided woken requested patience decision) (IsFounded history)
 decided_founded history woken requested patience (Leave reason) = tt
 decided_founded history true requested patience Wake = tt
 decided_founded history false requested patience Wake = tt
 decided_founded history woken requested patience Sleep = tt
-decided_founded history woken requested patience (Hold goal) = tt
+decided_founded history woken requested patience (Hold goal) = knows_nothing history
 decided_founded history woken requested patience (Activate goal) = tt
 decided_founded history woken requested patience (Provision goal) = tt
 
@@ -94,9 +95,9 @@ follows_founded history wanted (Reading job woken) reply = λ decision whole jud
 follows_founded history wanted (Waking job) reply = begun_founded history true
 follows_founded history wanted (Sleeping job) reply = tt
 follows_founded history wanted (Provisioning job goal) reply = tt
-follows_founded history wanted (Activating job goal) reply = tt
-follows_founded history wanted (Confirming job) reply = tt
-follows_founded history wanted (Watching job) reply = tt
+follows_founded history wanted (Activating job goal) reply = knows_nothing history
+follows_founded history wanted (Confirming job) reply = knows_nothing history
+follows_founded history wanted (Watching job) reply = knows_nothing history
 
 pub turn_founded : (history : History) (wanted : Wanted) (op : Op) (reply : Reply) (job : Job) (turn : Turn) → IsFounded history job → asked job ≡ Some op → Answers op reply → IsAnyTurn wanted job reply turn
     → IfOn turn (IsFounded (step_with op reply ∷ history))

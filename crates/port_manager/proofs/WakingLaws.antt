@@ -129,7 +129,7 @@ more_if : (b : Bool) (P Q : Type 0) → (P → Q) → IfTrue b P → IfTrue b Q
 more_if true P Q more p = more p
 more_if false P Q more p = tt
 
-ended_within : (job : PatientPower) (steps : ℕ) → waking_wants job ≡ End (record { steps = steps; end = Some (InTime None) }) → power_wants job.conversation.conversation ≡ End None
+pub ended_within : (job : PatientPower) (steps : ℕ) → waking_wants job ≡ End (record { steps = steps; end = Some (InTime None) }) → power_wants job.conversation.conversation ≡ End None
 ended_within job steps e =
     let wanted = power_wants job.conversation.conversation in
     let pausing = next_pausing job.conversation.due job.conversation.idle job.conversation.patience wanted in

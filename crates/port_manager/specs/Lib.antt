@@ -20,7 +20,9 @@ pub mod Runs
 pub mod Stores
 pub mod ReadAnew
 pub mod Wakings
+pub mod MadeOperations
 pub mod CameUp
+pub mod LeftReasons
 pub mod Idle
 pub mod KeptFlags
 pub mod Progress

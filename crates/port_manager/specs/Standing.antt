@@ -3,6 +3,9 @@ use Rattle.std.specs.Prelude.{◌≡◌, ◌≤◌, ℕ, Bool, true, false, [], 
 use Rattle.bus_model.specs.declared.operation.Op.{Op}
 use Rattle.conversations.specs.declared.on_page.OnPage.{OnPage}
 use Rattle.control_sets.specs.declared.procedures.power.Power.TheVariants.{Awake, Asleep}
+use Rattle.paged_memory.specs.declared.page_addressing.KnownPage.{KnownPage}
+use Rattle.paged_memory.specs.declared.page_addressing.PageAddressing.TheVariants.{BankAndPage}
+use Rattle.paged_memory.specs.KnownPages.{Tells}
 use Rattle.paged_memory.specs.PageAddressing.{History}
 use Rattle.module_reading.specs.declared.halves.Halves.{Halves}
 use Rattle.port_manager.specs.declared.job.Job.{Job}
@@ -42,14 +45,21 @@ pub record IsReadingOf (history : History) (reading : Patient (OnPage Halves)) :
   pub all : history ≡ recent ++ earlier
   pub took : TookSteps recent reading
 
+-- what is known of the page selection is what the newest of the steps say
+pub record IsKnownOf (history : History) (selected : KnownPage) : Type 0 where
+  pub recent : History
+  pub earlier : History
+  pub all : history ≡ recent ++ earlier
+  pub tells : Tells BankAndPage selected recent
+
 abbrev pub IsFounded : History → Job → Type 0
 IsFounded history (Reading job woken) = IsReadingOf history job
 IsFounded history (Waking job) = Unit {0}
 IsFounded history (Sleeping job) = Unit {0}
 IsFounded history (Provisioning job goal) = Unit {0}
 IsFounded history (Activating job goal) = Unit {0}
-IsFounded history (Confirming job) = Unit {0}
-IsFounded history (Watching job) = Unit {0}
+IsFounded history (Confirming job) = IsKnownOf history job.conversation.conversation.selection
+IsFounded history (Watching job) = IsKnownOf history job.conversation.conversation.selection
 
 -- it doesn't wake a module up, now or after a reading
 abbrev pub IsTame : Job → Type 0

@@ -15,12 +15,13 @@ ghost use Rattle.port_manager.specs.declared.deciding.Goal.{Goal};
 ghost use Rattle.port_manager.specs.declared.deciding.Wanted.{Wanted};
 ghost use Rattle.port_manager.specs.declared.port.Port.{Port};
 ghost use Rattle.port_manager.specs.CameUp.{CameUpAsWanted};
-ghost use Rattle.port_manager.specs.Changes.{IsStoreOfChange, first_hindrance};
+ghost use Rattle.port_manager.specs.Changes.{IsStoreOfChange, first_hindrance, judged_by};
 ghost use Rattle.port_manager.specs.Decisions.{IsDecision};
 ghost use Rattle.port_manager.specs.Goals.{IsGoalBy, is_deactivated, kept_of, wanted_of};
 ghost use Rattle.port_manager.specs.Idle.{LeavesWhatIsUp};
 ghost use Rattle.port_manager.specs.KeptFlags.{NoFlagIsLost};
 ghost use Rattle.port_manager.specs.LeftAlone.{IsReadAgain};
+ghost use Rattle.port_manager.specs.LeftReasons.{LeftAsFound};
 ghost use Rattle.port_manager.specs.Ports.{next_at};
 ghost use Rattle.port_manager.specs.Presences.{IsPulledBySilence};
 ghost use Rattle.port_manager.specs.Progress.{ComesUp, ComesUpAnew, NeverStops};
@@ -71,10 +72,16 @@ pub fn a_module_is_not_given_up_unasked()
     ensures again { MayBeToldAgain }
 {}
 
-/// After any story, each time that the port said that its module came up, page 11h as it had just fetched it, by a look or as the last of a
-/// reading, had the control bytes of the last reading's goal as active, and its lanes as up.
+/// After any story, each time that the port said that its module came up, page 11h as it had just fetched it, by a look on its confirmed
+/// page or as the last of a reading, had the control bytes of the last reading's goal as active, and its lanes as up.
 pub fn a_module_that_came_up_is_as_wanted()
     ensures { (story : Story) (port : Port) → Reaches story port → CameUpAsWanted story }
+{}
+
+/// After any story, each time that the port left its module alone, for whatever reason, a reading had just read the module, and by what was
+/// wanted and asked that was decided of it. Or the module was put to sleep by the last reading, and its state was just read as low power.
+pub fn a_module_is_left_alone_as_it_was_found()
+    ensures { (story : Story) (port : Port) → Reaches story port → LeftAsFound story }
 {}
 
 /// What the calls of a port give, one after the other, is a story of which all that is said of stories holds: one operation at a
@@ -154,4 +161,11 @@ pub fn a_change_takes_no_lane_down_unpermitted()
         first_hindrance change state page ≡ None → IsStoreOfChange page change op → Sets bits op → IsLane lane →
         set.contains (lanes_in bits) lane ≡ true →
         (is_deactivated page lane ≡ true) ⊎ (set.contains change.may.take_down lane ≡ true) }
+{}
+
+/// A change stores no bit of DPDeinit or ApplyDPInit of a lane that stays, by `judge`, also if something stands against it.
+pub fn a_change_leaves_what_stays()
+    ensures { (page : List ℕ) (change : Change) (state : ℕ) (op : Op) (bits lane : ℕ) →
+        IsStoreOfChange page change op → Sets bits op → IsLane lane →
+        set.contains (judged_by change state page).stays lane ≡ true → set.contains (lanes_in bits) lane ≡ false }
 {}
