@@ -1215,7 +1215,7 @@ enum dovecounter_link_loopback {
     DOVECOUNTER_HOST_SIDE_INPUT = 4
 };
 
-/* Which results page 14h shows: error ratios or signal to noise of all lanes, or counts of four lanes of a side. 0x10 more selects
+/* Which results page 14h shows: error ratios of all lanes, counts of four lanes of a side, or signal to noise of a side. 0x10 more selects
    those of the last gate time, but for signal to noise. */
 enum dovecounter_link_shown {
     DOVECOUNTER_ERROR_RATIOS = 1,
@@ -1223,7 +1223,8 @@ enum dovecounter_link_shown {
     DOVECOUNTER_COUNTS_OF_HOST_5_TO_8 = 3,
     DOVECOUNTER_COUNTS_OF_MEDIA_1_TO_4 = 4,
     DOVECOUNTER_COUNTS_OF_MEDIA_5_TO_8 = 5,
-    DOVECOUNTER_SIGNAL_TO_NOISE = 6,
+    DOVECOUNTER_SIGNAL_TO_NOISE_OF_HOST = 6,
+    DOVECOUNTER_SIGNAL_TO_NOISE_OF_MEDIA = 7,
     DOVECOUNTER_GATED_ERROR_RATIOS = 17, /* this and the following of the last gate time */
     DOVECOUNTER_GATED_COUNTS_OF_HOST_1_TO_4 = 18,
     DOVECOUNTER_GATED_COUNTS_OF_HOST_5_TO_8 = 19,

@@ -103,8 +103,9 @@ def test_counts_and_noise_are_exact() -> None:
     lane = run(looped(shown=Shown.COUNTS_OF_MEDIA_1_TO_4), links).results().media[0]
     assert (lane.errors, lane.bits, lane.ratio) == (3, 1 << 50, None)
     links.pages[0x14][64 + 48 : 64 + 50] = (5000).to_bytes(2, "big")
-    noise = run(looped(shown=Shown.SIGNAL_TO_NOISE), links).results(big_endian=True).media[0]
-    assert noise.signal_to_noise == Amount(5000, 0, 256)
+    noise = run(looped(shown=Shown.SIGNAL_TO_NOISE_OF_MEDIA), links).results(big_endian=True)
+    assert noise.media[0].signal_to_noise == Amount(5000, 0, 256)
+    assert noise.host[0].signal_to_noise is None
 
 
 def test_lost_lock_is_told() -> None:

@@ -184,6 +184,13 @@ static void try_ends(void) {
     plan = looped();
     pages[CONTROLS][130 - 128] = 0xFE;
     expect_end("no ratios", DOVECOUNTER_LINK_NO_RESULTS, 0, run_test(&plan, &test));
+    for (uint8_t media = 0; media < 2; media++) {
+        plan.shown = media ? DOVECOUNTER_SIGNAL_TO_NOISE_OF_MEDIA : DOVECOUNTER_SIGNAL_TO_NOISE_OF_HOST;
+        pages[CONTROLS][130 - 128] = media ? 0x10 : 0x20;
+        expect_end("noise of the other side", DOVECOUNTER_LINK_NO_RESULTS, 0, run_test(&plan, &test));
+        pages[CONTROLS][130 - 128] ^= 0x30;
+        expect_end("noise of its side", DOVECOUNTER_LINK_TESTED, 0, run_test(&plan, &test));
+    }
     plan = looped();
     pages[STATES][3] = 0x41;
     expect_end("not permitted", DOVECOUNTER_LINK_NOT_PERMITTED, 180, run_test(&plan, &test));
@@ -261,13 +268,24 @@ static void try_results(void) {
         expect("counts", 2, results.media[6].known);
         expect("other counts", 0, results.media[2].known + results.host[6].known + (unsigned)results.host[6].errors);
         plan = looped();
-        plan.shown = DOVECOUNTER_SIGNAL_TO_NOISE;
+        plan.shown = DOVECOUNTER_SIGNAL_TO_NOISE_OF_HOST;
         pages[RESULTS][SHOWN - 128 + 16 + (big ? 0 : 1)] = 0x14,
                                                      pages[RESULTS][SHOWN - 128 + 16 + (big ? 1 : 0)] = 0x80;
         run_test(&plan, &test);
         dovecounter_link_results(&test, (uint8_t)big, &results);
+        expect("its code", 6, pages[RESULTS][0]);
         expect("its noise", 0x1480, results.host[0].noise);
         expect("noise", 4, results.host[0].known);
+        expect("of no other side", 0, results.media[0].known + (unsigned)results.media[0].noise);
+        plan.shown = DOVECOUNTER_SIGNAL_TO_NOISE_OF_MEDIA;
+        pages[RESULTS][SHOWN - 128 + 48 + (big ? 0 : 1)] = 0x15;
+        pages[RESULTS][SHOWN - 128 + 48 + (big ? 1 : 0)] = 0;
+        run_test(&plan, &test);
+        dovecounter_link_results(&test, (uint8_t)big, &results);
+        expect("the same code", 6, pages[RESULTS][0]);
+        expect("its noise", 0x1500, results.media[0].noise);
+        expect("noise", 4, results.media[0].known);
+        expect("of no other side", 0, results.host[0].known + (unsigned)results.host[0].noise);
     }
 }
 
@@ -315,7 +333,7 @@ static void try_refusals(void) {
         plan = good;
         uint8_t *members[7] = {&plan.shown,     &plan.shown,   &plan.gate,    &plan.side,
                                &plan.generator, &plan.checker, &plan.loopback};
-        *members[i] = (uint8_t[]){0, 7, 8, 2, 16, 254, 5}[i];
+        *members[i] = (uint8_t[]){0, 8, 8, 2, 16, 254, 5}[i];
         expect("no plan", DOVECOUNTER_NO_CONVERSATION, dovecounter_link_test_begin(&plan, &patience, &test));
     }
     expect("nothing was begun", 0, test.magic);
@@ -365,7 +383,7 @@ static void try_forged(void) {
     dovecounter_link_test_begin(&plan, &patience, &begun);
     for (size_t at = 0; at < sizeof test; at++) all[at] = (uint8_t)(chance(3) ? chance(16) : chance(256));
     test.magic = begun.magic;
-    test.plan.shown = (uint8_t)(1 + chance(6));
+    test.plan.shown = (uint8_t)(1 + chance(7));
     test.plan.count %= 17, test.on_count %= 17, test.still_on_count %= 17, test.shown_count %= 129;
     test.stage %= 15, test.fault %= 10;
     for (unsigned i = 0; i < 16; i++) {
@@ -426,7 +444,7 @@ static void find_masks(const struct dovecounter_link_plan *plan, uint8_t masks[1
 static struct dovecounter_link_plan plan_by_chance(void) {
     struct dovecounter_link_plan plan = {.period = 1000,
                                          .rounds = (uint8_t)chance(4),
-                                         .shown = (uint8_t)(1 + chance(6) + 16 * chance(2)),
+                                         .shown = (uint8_t)(1 + chance(7) + 16 * chance(2)),
                                          .gate = (uint8_t)(chance(3) ? 0 : chance(8)),
                                          .side = (uint8_t)chance(2),
                                          .lanes = (uint8_t)chance(256),
@@ -436,7 +454,7 @@ static struct dovecounter_link_plan plan_by_chance(void) {
                                          .looped = (uint8_t)(chance(2) ? 0xFF : chance(256)),
                                          .permitted = (uint8_t)(chance(3) ? chance(256) : 0),
                                          .tries = (uint8_t)chance(4)};
-    if (plan.shown == 22) plan.shown = 21;
+    if (plan.shown > 21) plan.shown = 21;
     for (unsigned i = 0; i < 8; i++) plan.media_paths[i] = (uint8_t)(chance(2) ? 0xFF : chance(256));
     return plan;
 }

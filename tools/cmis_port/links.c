@@ -94,10 +94,14 @@ static uint8_t counts_of(const struct dovecounter_link_plan *plan) {
     return (uint8_t)(DOVECOUNTER_COUNTS_OF_HOST_1_TO_4 + 2 * plan->side + quad_of(plan->lanes));
 }
 
+static uint8_t noise_of(const struct dovecounter_link_plan *plan) {
+    return (uint8_t)(DOVECOUNTER_SIGNAL_TO_NOISE_OF_HOST + plan->side);
+}
+
 static bool read_shown(struct port *port) {
     int shown = port->words.shown != NULL ? find(port->words.shown, shows, 3) : 0;
     if (shown == 1) port->link.shown = counts_of(&port->link);
-    if (shown == 2) port->link.shown = DOVECOUNTER_SIGNAL_TO_NOISE;
+    if (shown == 2) port->link.shown = noise_of(&port->link);
     return shown == 0 || shown == 2 || (shown == 1 && quad_of(port->link.lanes) >= 0);
 }
 
@@ -276,9 +280,9 @@ static enum status end_test(struct testing *testing, bool ended, const struct do
 /* Results that a module may show in place of ratios, if those were not asked for. */
 static bool choose_other(struct port *port) {
     struct dovecounter_link_plan *plan = &port->link;
-    if (port->words.shown != NULL || plan->shown == DOVECOUNTER_SIGNAL_TO_NOISE) return false;
-    plan->shown = plan->shown == DOVECOUNTER_ERROR_RATIOS && quad_of(plan->lanes) >= 0 ? counts_of(plan)
-                                                                                       : DOVECOUNTER_SIGNAL_TO_NOISE;
+    if (port->words.shown != NULL || plan->shown == noise_of(plan)) return false;
+    plan->shown =
+        plan->shown == DOVECOUNTER_ERROR_RATIOS && quad_of(plan->lanes) >= 0 ? counts_of(plan) : noise_of(plan);
     return true;
 }
 

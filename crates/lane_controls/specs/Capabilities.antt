@@ -12,6 +12,7 @@ use Rattle.lane_controls.specs.declared.control.PatternUnit.{PatternUnit}
 use Rattle.lane_controls.specs.declared.control.PatternUnit.TheVariants.{HostGenerator, MediaGenerator, HostChecker, MediaChecker}
 use Rattle.lane_controls.specs.declared.result_set.ResultSet.{ResultSet}
 use Rattle.lane_controls.specs.declared.result_set.ResultSet.TheVariants.{ErrorRatio, Counters, SignalToNoise, GatedErrorRatio, GatedCounters}
+use Rattle.lane_controls.specs.declared.result_set.Side.TheVariants.{Host, Media}
 
 abbrev pub is_set : ℕ → ℕ → Bool
 is_set byte bit = bit_at byte bit == 1
@@ -86,7 +87,8 @@ has_gated_results capabilities = has_gates capabilities && has_bit capabilities 
 abbrev pub reports : List ℕ → ResultSet → Bool
 reports capabilities ErrorRatio = has_bit capabilities 2 0
 reports capabilities (Counters side quad) = has_bit capabilities 2 1
-reports capabilities SignalToNoise = has_bit capabilities 2 4 || has_bit capabilities 2 5
+reports capabilities (SignalToNoise Host) = has_bit capabilities 2 4
+reports capabilities (SignalToNoise Media) = has_bit capabilities 2 5
 reports capabilities GatedErrorRatio = has_gated_results capabilities && has_bit capabilities 2 0
 reports capabilities (GatedCounters side quad) = has_gated_results capabilities && has_bit capabilities 2 1
 

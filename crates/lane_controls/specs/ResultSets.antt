@@ -14,11 +14,11 @@ code_of_counters Host Upper = 3
 code_of_counters Media Lower = 4
 code_of_counters Media Upper = 5
 
--- those of the last gate time are 10h above those that run
+-- those of the last gate time are 10h above those that run; signal to noise ratios of both sides show at once
 abbrev pub code_of : ResultSet → ℕ
 code_of ErrorRatio = 1
 code_of (Counters side quad) = code_of_counters side quad
-code_of SignalToNoise = 6
+code_of (SignalToNoise side) = 6
 code_of GatedErrorRatio = 17
 code_of (GatedCounters side quad) = 16 + code_of_counters side quad
 

@@ -3,7 +3,7 @@ ghost use Rattle.std.specs.Prelude.{◌≡◌, ◌<◌, length};
 ghost use Rattle.lane_controls.specs.Capabilities as spec;
 
 use crate::control::{Control, Loopback, PatternUnit};
-use crate::result_set::ResultSet;
+use crate::result_set::{ResultSet, Side};
 
 /// Whether the module has pages 13h and 14h, by page 01h, byte 142.
 pub fn has_diagnostics(byte: u8) -> bool
@@ -42,7 +42,8 @@ pub fn reports(capabilities: &[u8], results: ResultSet) -> bool
     match results {
         ResultSet::ErrorRatio => is_set(reported, 0),
         ResultSet::Counters(_, _) => is_set(reported, 1),
-        ResultSet::SignalToNoise => is_set(reported, 4) || is_set(reported, 5),
+        ResultSet::SignalToNoise(Side::Host) => is_set(reported, 4),
+        ResultSet::SignalToNoise(Side::Media) => is_set(reported, 5),
         ResultSet::GatedErrorRatio => has_gated_results(capabilities) && is_set(reported, 0),
         ResultSet::GatedCounters(_, _) => has_gated_results(capabilities) && is_set(reported, 1),
     }

@@ -38,8 +38,8 @@ pub enum ResultSet {
     ErrorRatio,
     /// Errors and bits of four lanes.
     Counters(Side, LaneQuad),
-    /// The signal to noise ratio of each lane, of both sides.
-    SignalToNoise,
+    /// The signal to noise ratio of each lane of a side; they show with those of the other side, which a module may lack.
+    SignalToNoise(Side),
     /// The error ratios of the last gate time.
     GatedErrorRatio,
     /// Errors and bits of four lanes in the last gate time.
@@ -54,7 +54,7 @@ impl ResultSet {
         match self {
             ResultSet::ErrorRatio => 1,
             ResultSet::Counters(side, quad) => code_of_counters(side, quad),
-            ResultSet::SignalToNoise => 6,
+            ResultSet::SignalToNoise(_) => 6,
             ResultSet::GatedErrorRatio => 17,
             ResultSet::GatedCounters(side, quad) => 16 + code_of_counters(side, quad),
         }

@@ -39,7 +39,6 @@ counts_in bytes lane order = with_counts (counts_of order lane bytes)
 abbrev pub noise_in : List ℕ → Side → ℕ → Endian → LinkLane
 noise_in bytes side lane order = with_noise (number_at order 2 (place_of_noise side lane) bytes)
 
--- counters are those of four lanes of one side
 abbrev pub same_side : Side → Side → Bool
 same_side Host Host = true
 same_side Host Media = false
@@ -52,6 +51,7 @@ same_quad Lower Upper = false
 same_quad Upper Lower = false
 same_quad Upper Upper = true
 
+-- counters are those of four lanes of one side
 abbrev pub is_counted : Side → LaneQuad → Side → ℕ → Bool
 is_counted of quad side lane = same_quad quad (quad_of lane) && same_side of side
 
@@ -61,7 +61,7 @@ counters_in bytes of quad side lane order = if is_counted of quad side lane then
 abbrev pub lane_in : List ℕ → ResultSet → Side → ℕ → Endian → LinkLane
 lane_in bytes ErrorRatio side lane order = ratio_in bytes side lane
 lane_in bytes (Counters of quad) side lane order = counters_in bytes of quad side lane order
-lane_in bytes SignalToNoise side lane order = noise_in bytes side lane order
+lane_in bytes (SignalToNoise of) side lane order = if same_side of side then noise_in bytes side lane order else unknown
 lane_in bytes GatedErrorRatio side lane order = ratio_in bytes side lane
 lane_in bytes (GatedCounters of quad) side lane order = counters_in bytes of quad side lane order
 

@@ -91,7 +91,13 @@ fn lane_in(bytes: &[u8], results: ResultSet, side: Side, lane: u8, order: Endian
 {
     match results {
         ResultSet::ErrorRatio | ResultSet::GatedErrorRatio => ratio_in(bytes, side, lane),
-        ResultSet::SignalToNoise => noise_in(bytes, side, lane, order),
+        ResultSet::SignalToNoise(of) => {
+            if is_same_side(of, side) {
+                noise_in(bytes, side, lane, order)
+            } else {
+                UNKNOWN
+            }
+        }
         ResultSet::Counters(of, quad) | ResultSet::GatedCounters(of, quad) => {
             if is_counted(of, quad, side, lane) {
                 counts_in(bytes, lane, order)
@@ -110,11 +116,16 @@ fn is_counted(of: Side, quad: LaneQuad, side: Side, lane: u8) -> bool
         (quad, LaneQuad::of(lane)),
         (LaneQuad::Lower, LaneQuad::Lower) | (LaneQuad::Upper, LaneQuad::Upper)
     );
-    let sides = matches!(
+    lanes && is_same_side(of, side)
+}
+
+fn is_same_side(of: Side, side: Side) -> bool
+    ensures { result ≡ spec.same_side of side }
+{
+    matches!(
         (of, side),
         (Side::Host, Side::Host) | (Side::Media, Side::Media)
-    );
-    lanes && sides
+    )
 }
 
 fn ratio_in(bytes: &[u8], side: Side, lane: u8) -> LinkLane

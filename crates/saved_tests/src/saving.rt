@@ -11,6 +11,7 @@ use crate::lists::{
 };
 use crate::numbers::{SavedChange, SavedTest, SavedTestPlan};
 use crate::restoring::TEST;
+use crate::selections::code_for;
 use lane_controls::{
     Change, Control, LinkTest, PatientTestProcedure, Switch, TestFault, TestPlan, TestStage,
 };
@@ -93,7 +94,7 @@ fn numbers_of_plan(plan: &TestPlan) -> SavedTestPlan
     ensures same { spec.plan_in result ≡ plan.now }
     ensures known { spec.is_plan result ≡ true }
 {
-    let results = plan.results.code();
+    let results = code_for(plan.results);
     let switches = numbers_of_switches(&plan.switches);
     let each_switch = switches.1;
     SavedTestPlan {

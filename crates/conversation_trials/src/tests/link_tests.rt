@@ -4,7 +4,7 @@ use arrayvec::ArrayVec;
 use conversations::{Conversation, NeedsPages, Next, Patience, Timed, try_take};
 use lane_controls::{
     Control, LanePair, LinkTest, Loopback, PatientTestProcedure, PatternUnit, ResultSet, STOP,
-    Switch, TestEnd, TestFault, TestPlan, patient_test_procedure,
+    Side, Switch, TestEnd, TestFault, TestPlan, patient_test_procedure,
 };
 use std::test::Fail;
 
@@ -232,7 +232,7 @@ fn a_refused_plan_stores_nothing(rt: HostRuntime) -> Result<(), Fail> {
         match case {
             0 => board.set(0x11, 128, 0x41),
             1 => board.set(0x01, 142, 0xdf),
-            5 => plan.results = ResultSet::SignalToNoise,
+            5 => plan.results = ResultSet::SignalToNoise(Side::Host),
             6 => board.set(0x13, 128, 0x0f),
             _ => {}
         }
