@@ -1,5 +1,6 @@
 pub mod ByteLaws
 pub mod LaneChangeLaws
+pub mod LaneProgressLaws
 pub mod MergingLaws
 pub mod ControlLaws
 pub mod TestInvariants
@@ -29,3 +30,4 @@ pub mod SettingLaws
 pub mod SettingsTurns
 pub mod SettingsTold
 pub mod SettingsEnds
+pub mod SettingsProgressLaws

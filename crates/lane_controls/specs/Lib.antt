@@ -14,8 +14,10 @@ pub mod TestAccounts
 pub mod Results
 pub mod SignalSettings
 pub mod PathLanes
+pub mod LaneProgress
 pub mod Unconfirmed
 pub mod LaneRuns
 pub mod TestRuns
 pub mod SettingsChanges
 pub mod SettingsSteps
+pub mod SettingsProgress

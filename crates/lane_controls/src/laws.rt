@@ -1,23 +1,30 @@
 //! What holds of lanes, whatever a module answers. Each function is a theorem: its contract says it, and its body is empty.
-ghost use Rattle.std.specs.Prelude.{◌≡◌, ◌⊎◌, ◌-◌, ◌≤◌, ◌<◌, ℕ, Bool, List, Option, Ok, Some, None, true};
+ghost use Rattle.std.specs.Prelude.{◌≡◌, ◌⊎◌, ◌+◌, ◌-◌, ◌*◌, ◌≤◌, ◌<◌, ℕ, Bool, List, length, Option, Ok, Some, None, true};
 ghost use Rattle.std.specs.Int.{bit_at};
 ghost use Rattle.std.specs.FinSet as set;
 ghost use Rattle.bus_model.specs.declared.operation.Op.{Op};
 ghost use Rattle.conversations.specs.declared.pausing.Patience.{Patience};
+ghost use Rattle.conversations.specs.declared.next.Next.TheVariants.{Do, End};
 ghost use Rattle.conversations.specs.Events.{Events, steps_of};
 ghost use Rattle.lane_controls.specs.declared.lane_change.LaneChange.{LaneChange};
+ghost use Rattle.lane_controls.specs.declared.lane_change.LaneEnd.{LaneEnd};
 ghost use Rattle.lane_controls.specs.declared.link_test.LinkTest.{LinkTest};
 ghost use Rattle.lane_controls.specs.declared.link_test.TestStage.TheVariants.{Over};
 ghost use Rattle.paged_memory.specs.PageAddressing.{EachStep, History};
 ghost use Rattle.lane_controls.specs.declared.settings_change.ChangingSettings.{ChangingSettings};
 ghost use Rattle.lane_controls.specs.declared.settings_change.SettingsChange.{SettingsChange};
+ghost use Rattle.lane_controls.specs.declared.settings_change.SettingsEnd.{SettingsEnd};
+ghost use Rattle.lane_controls.specs.declared.settings_change.SettingsEnd.TheVariants.{Active};
+ghost use Rattle.lane_controls.specs.SettingsChanges as settings_change;
+ghost use Rattle.lane_controls.specs.SettingsProgress.{AreShown, Obeys, Shown};
 ghost use Rattle.lane_controls.specs.SettingsSteps as settings;
 ghost use Rattle.lane_controls.specs.declared.signal_settings.SignalLimits.{SignalLimits};
 ghost use Rattle.lane_controls.specs.declared.signal_settings.SignalTargets.{SignalTargets};
 ghost use Rattle.lane_controls.specs.declared.test_plan.Switch.{Switch};
 ghost use Rattle.lane_controls.specs.declared.test_plan.TestPlan.{TestPlan};
 ghost use Rattle.lane_controls.specs.Controls.{host_lanes};
-ghost use Rattle.lane_controls.specs.LaneChanges.{concerned, disturbed};
+ghost use Rattle.lane_controls.specs.LaneChanges.{concerned, disturbed, lane_after, wants};
+ghost use Rattle.lane_controls.specs.LaneProgress.{AreWanted, Keeps, answered, end_of};
 ghost use Rattle.lane_controls.specs.LinkTests.{test_after};
 ghost use Rattle.lane_controls.specs.Merging.{TakesBitsOfMask, merged};
 ghost use Rattle.lane_controls.specs.PathLanes.{is_up};
@@ -36,6 +43,17 @@ pub fn only_bits_of_the_mask_change()
 pub fn a_change_of_lanes_that_are_up_needs_permission()
     ensures { (change : LaneChange) (states : List ℕ) → change.permitted < 256 → disturbed change states ≡ 0 → (i : ℕ) → i < 8
         → bit_at (concerned change) i ≡ 1 → is_up states i ≡ true → bit_at change.permitted i ≡ 1 }
+{}
+
+/// A change of lanes ends: of the operations that it wants, three at most for each store that may be, and one more, are not refused. If the
+/// module refuses none, keeps what is stored, and may be stored to once, then it ends within four: the control is as it was if the lanes had
+/// their bits already, or if paths that are up would be disturbed without permission, and else has the bits of the lanes as wanted.
+pub fn a_change_of_lanes_ends()
+    ensures in_time { (change : LaneChange) (history : History) → AreWanted change history → answered history ≤ 3 * change.max_stores + 1 }
+    ensures soon { (change : LaneChange) (first : ℕ) (states : List ℕ) (history : History) (op : Op) → 0 < change.max_stores → AreWanted change history
+        → EachStep (Keeps change first states) history → wants (lane_after change history) ≡ Do op → length history < 4 }
+    ensures so { (change : LaneChange) (first : ℕ) (states : List ℕ) (history : History) (end : LaneEnd) → 0 < change.max_stores → AreWanted change history
+        → EachStep (Keeps change first states) history → wants (lane_after change history) ≡ End end → end ≡ end_of change first states }
 {}
 
 /// What a test may switch concerns no host lane of a path that is up, but for those that it may disturb.
@@ -84,4 +102,13 @@ pub fn settings_are_applied_to_lanes_that_are_up()
 pub fn settings_called_active_are_active()
     ensures { (change : SettingsChange) (history : History) → settings.AreActive change history → (lane : ℕ) → 1 ≤ lane → lane ≤ 8 → set.contains change.lanes lane ≡ true
         → (active : List ℕ) × (settings.bytes_read 214 history ≡ Some active) × (settings_of change.settings lane ≡ settings_of active lane) }
+{}
+
+/// Of a module that refuses nothing, whose lanes are up and under explicit control, which shows what is staged as it was stored, and then
+/// that the lanes were applied and have the settings, a change of settings ends within ten operations, with the settings active.
+pub fn a_change_of_settings_ends()
+    ensures soon { (change : SettingsChange) (shown : Shown) (events : Events) (op : Op) → Obeys change shown → AreShown change shown events
+        → settings_change.wants (settings_change.settings_after change events) ≡ Do op → length (steps_of events) < 10 }
+    ensures so { (change : SettingsChange) (shown : Shown) (events : Events) (end : SettingsEnd) → Obeys change shown → AreShown change shown events
+        → settings_change.wants (settings_change.settings_after change events) ≡ End end → end ≡ Active }
 {}
