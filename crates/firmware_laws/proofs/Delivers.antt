@@ -26,7 +26,7 @@ use Rattle.command_block.specs.Phases.{by_status, filling, judged, next_at, outc
 use Rattle.conversations.specs.declared.event.Event.TheVariants.{Made, Waited}
 use Rattle.conversations.specs.declared.next.Next.TheVariants.{Do}
 use Rattle.conversations.specs.Events.{Events, steps_of}
-use Rattle.firmware_laws.specs.AtTheBus.{ShowsItsOwn, StandsAfter}
+use Rattle.firmware_laws.specs.AtTheBus.{BeginsWithStatus, ShowsItsOwn, StandsAfter}
 use Rattle.firmware_laws.specs.Modules.{Conduct, Firmware}
 
 abbrev fetched_at : Op → ℕ
@@ -69,6 +69,9 @@ took op = record { op = op; reply = Done }
 abbrev empty : ArrayVec ℕ
 empty = record { items = [] }
 
+begun_more : (status : ℕ) (step : Step) (steps : List Step) → BeginsWithStatus status steps → BeginsWithStatus status (step ∷ steps)
+begun_more status step steps (later, first, split, gives) = (step ∷ later, first, ap (λ (steps : List Step). step ∷ steps) split, gives)
+
 module _ (sent : Message) (timing : Timing) where
   abbrev in_phase : Phase → Attempt
   in_phase phase = record { message = sent; timing = timing; phase = phase; outcome = None }
@@ -100,17 +103,20 @@ module _ (sent : Message) (timing : Timing) where
   head_op at less = ap (λ (b : Bool). cond b (piece sent at) (head sent)) (le-ltb at (length sent.body.items) less)
 
   -- each piece of the body is stored, from this byte on
-  fills : (fuel at : ℕ) (own : Events) → IsIn own (Filling at) → length sent.body.items ≤ at + fuel → (end : ℕ) × (later : Events) × IsIn later (Filling end) × (length sent.body.items ≤ end)
-  fills zero at own here few = (at, own, here, omega (arith, few))
-  fills (suc fuel) at own here few =
+  abbrev IsFilled : ℕ → Type 0
+  IsFilled status = (end : ℕ) × (later : Events) × IsIn later (Filling end) × BeginsWithStatus status (steps_of later) × (length sent.body.items ≤ end)
+
+  fills : (status fuel at : ℕ) (own : Events) → IsIn own (Filling at) → BeginsWithStatus status (steps_of own) → length sent.body.items ≤ at + fuel → IsFilled status
+  fills status zero at own here begun few = (at, own, here, begun, omega (arith, few))
+  fills status (suc fuel) at own here begun few =
       by (nat_lt at (length sent.body.items)) refl
-      (λ e. fills fuel (at + 8) (Made (took (piece sent at)) ∷ own)
-      (made own (Filling at) (Filling (at + 8)) (took (piece sent at)) here (ap (λ (o : Op). Do o) (piece_op at (ltb-true at (length sent.body.items) e))) tt (ap (λ (b : Bool). if b then On (Filling (at + 8)) else On Triggering) e)) (omega (arith, few)))
+      (λ e. fills status fuel (at + 8) (Made (took (piece sent at)) ∷ own)
+      (made own (Filling at) (Filling (at + 8)) (took (piece sent at)) here (ap (λ (o : Op). Do o) (piece_op at (ltb-true at (length sent.body.items) e))) tt (ap (λ (b : Bool). if b then On (Filling (at + 8)) else On Triggering) e))
+      (begun_more status (took (piece sent at)) (steps_of own) begun) (omega (arith, few)))
     where
-      by : (b : Bool) → nat_lt at (length sent.body.items) ≡ b → (nat_lt at (length sent.body.items) ≡ true → (end : ℕ) × (later : Events) × IsIn later (Filling end) × (length sent.body.items ≤ end))
-          → (end : ℕ) × (later : Events) × IsIn later (Filling end) × (length sent.body.items ≤ end)
+      by : (b : Bool) → nat_lt at (length sent.body.items) ≡ b → (nat_lt at (length sent.body.items) ≡ true → IsFilled status) → IsFilled status
       by true e next = next e
-      by false e next = (at, own, here, ltb-false at (length sent.body.items) e)
+      by false e next = (at, own, here, begun, ltb-false at (length sent.body.items) e)
 
   idle_judged : (status : ℕ) → status < 128 → judged sent Idle (shows status).reply ≡ On (Filling 0)
   idle_judged status few = ap (λ (b : Bool). if b then On (Filling 0) else Again) (lt-ltb status 128 few)
@@ -119,12 +125,16 @@ module _ (sent : Message) (timing : Timing) where
   done_judged at all = ap (λ (b : Bool). if b then On (Filling (at + 8)) else On Triggering) (le-ltb at (length sent.body.items) all)
 
   -- then the header and the id, and after the rest the status shows success
-  triggered : (status : ℕ) → status < 128 → (own : Events) × IsIn own Triggering
+  triggered : (status : ℕ) → status < 128 → (own : Events) × IsIn own Triggering × BeginsWithStatus status (steps_of own)
   triggered status few =
       let (first, idle, none) = begins in
       let full = made first Idle (Filling 0) (shows status) idle refl refl (idle_judged status few) in
-      let (end, later, here, all) = fills (length sent.body.items) 0 (Made (shows status) ∷ first) full (omega arith) in
-      (Made (took (head sent)) ∷ later, made later (Filling end) Triggering (took (head sent)) here (ap (λ (o : Op). Do o) (head_op end all)) tt (done_judged end all))
+      let begun : BeginsWithStatus status (shows status ∷ steps_of first) = ([], shows status, ap (λ (steps : List Step). shows status ∷ steps) none, (refl, refl)) in
+      let (end, later, here, so, all) = fills status (length sent.body.items) 0 (Made (shows status) ∷ first) full begun (omega arith) in (
+        Made (took (head sent)) ∷ later,
+        made later (Filling end) Triggering (took (head sent)) here (ap (λ (o : Op). Do o) (head_op end all)) tt (done_judged end all),
+        begun_more status (took (head sent)) (steps_of later) so,
+      )
 
   awaited : (own : Events) → IsIn own Triggering → IsIn (Waited timing.rest ∷ Made (took (trigger sent)) ∷ own) Awaiting
   awaited own here =
@@ -177,23 +187,26 @@ module _ (sent : Message) (timing : Timing) where
 
     -- whatever the status shows before
     pub delivers : (status : ℕ) → status < 128 → sent.replies ≡ false
-        → (own : Events) × EachIsWanted sent timing own × ((attempt_after sent timing own).outcome ≡ Some (Succeeded empty)) × StandsAfter conduct sent before (steps_of own) (conduct sent 0 before).after
+        → (own : Events) × EachIsWanted sent timing own × BeginsWithStatus status (steps_of own) × ((attempt_after sent timing own).outcome ≡ Some (Succeeded empty))
+        × StandsAfter conduct sent before (steps_of own) (conduct sent 0 before).after
     delivers status few silent =
-        let (earlier, here) = triggered status few in
+        let (earlier, here, begun) = triggered status few in
         let now = awaited earlier here in
         let own : Events = Waited timing.rest ∷ Made (took (trigger sent)) ∷ earlier in (
           Made (shows 1) ∷ own,
           (ap wants now.is, refl, now.each),
+          begun_more status (shows 1) (took (trigger sent) ∷ steps_of earlier) (begun_more status (took (trigger sent)) (steps_of earlier) begun),
           ap (λ (a : Attempt). (taken a (shows 1).reply).outcome) now.is ∙ ap (λ (j : Judgement). outcome_after None j) (success_judged silent),
           inr (before, conduct sent 0 before, inl refl, inr (own_status, inl (refl, (0, refl))), inl (Succeeded reply, e, inl refl)),
         )
 
     pub delivers_reply : (status : ℕ) → status < 128 → sent.replies ≡ true → 0 < length reply.items → length reply.items ≤ 120
-        → (own : Events) × EachIsWanted sent timing own × ((attempt_after sent timing own).outcome ≡ Some (Succeeded reply)) × StandsAfter conduct sent before (steps_of own) (conduct sent 0 before).after
+        → (own : Events) × EachIsWanted sent timing own × BeginsWithStatus status (steps_of own) × ((attempt_after sent timing own).outcome ≡ Some (Succeeded reply))
+        × StandsAfter conduct sent before (steps_of own) (conduct sent 0 before).after
     delivers_reply status few must some most =
         let count = length reply.items in
         let check = complement (sum reply.items) in
-        let (earlier, here) = triggered status few in
+        let (earlier, here, begun) = triggered status few in
         let now = awaited earlier here in
         let first : Events = Waited timing.rest ∷ Made (took (trigger sent)) ∷ earlier in
         let counting = made first Awaiting Counting (shows 1) now refl refl (reply_judged must) in
@@ -201,6 +214,9 @@ module _ (sent : Message) (timing : Timing) where
         let own : Events = Made (counts count check) ∷ Made (shows 1) ∷ first in (
           Made (replies reply) ∷ own,
           (ap wants reading.is, reply_fits count some most, reading.each),
+          begun_more status (replies reply) (counts count check ∷ shows 1 ∷ took (trigger sent) ∷ steps_of earlier)
+              (begun_more status (counts count check) (shows 1 ∷ took (trigger sent) ∷ steps_of earlier)
+              (begun_more status (shows 1) (took (trigger sent) ∷ steps_of earlier) (begun_more status (took (trigger sent)) (steps_of earlier) begun))),
           ap (λ (a : Attempt). (taken a (Bytes reply)).outcome) reading.is ∙ ap (λ (j : Judgement). outcome_after None j) (bytes_judged reply most),
           inr (before, conduct sent 0 before, inl refl, inr (own_reply, inr (own_count, inr (own_status, inl (refl, (0, refl))))), inl (Succeeded reply, e, inl refl)),
         )

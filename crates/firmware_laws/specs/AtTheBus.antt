@@ -17,6 +17,10 @@ use Rattle.firmware_laws.specs.Modules.{Answer, Conduct, CutsShort, Endures, Fir
 
 -- ---- what a module shows
 
+-- the first of these steps read this status
+abbrev pub BeginsWithStatus : ℕ → List Step → Type 0
+BeginsWithStatus status steps = (later : List Step) × (step : Step) × (steps ≡ later ++ step ∷ []) × Gives read_status (status ∷ []) step
+
 -- the status says that a command has succeeded or failed
 abbrev pub IsFinal : ℕ → Type 0
 IsFinal status = (status ≡ 1) ⊎ ((64 ≤ status) × (status < 128))

@@ -21,7 +21,7 @@ ghost use Rattle.firmware_update.specs.Progress.{IsAt, next};
 ghost use Rattle.firmware_update.specs.Runs.{IsShort};
 ghost use Rattle.firmware_update.specs.Safety.{IsSafe};
 ghost use Rattle.firmware_laws.specs.Again.{HasRunNothing};
-ghost use Rattle.firmware_laws.specs.AtTheBus.{ComesOnBus, StandsAfter};
+ghost use Rattle.firmware_laws.specs.AtTheBus.{BeginsWithStatus, ComesOnBus, StandsAfter};
 ghost use Rattle.firmware_laws.specs.Contents.{IsOldOrNew, StoresContents};
 ghost use Rattle.firmware_laws.specs.Heard.{heard};
 ghost use Rattle.firmware_laws.specs.Modules.{Conduct, Endures, Firmware, HasImage, HasTwoBanks, IsImage, IsQuiet, IsStanding, Loses, Passes, held};
@@ -73,12 +73,12 @@ pub fn transactions_are_few()
 pub fn each_message_can_be_delivered()
     ensures silent { (conduct : Conduct) (sent : Message) (timing : Timing) (before : Firmware) (reply : ArrayVec ℕ) (status : ℕ) →
         status < 128 → sent.replies ≡ false → (conduct sent 0 before).outcome ≡ Some (Succeeded reply) →
-        (own : Events) × EachIsWanted sent timing own × ((attempt_after sent timing own).outcome ≡ Some (Succeeded (record { items = [] }))) ×
+        (own : Events) × EachIsWanted sent timing own × BeginsWithStatus status (steps_of own) × ((attempt_after sent timing own).outcome ≡ Some (Succeeded (record { items = [] }))) ×
         StandsAfter conduct sent before (steps_of own) (conduct sent 0 before).after }
     ensures replied { (conduct : Conduct) (sent : Message) (timing : Timing) (before : Firmware) (reply : ArrayVec ℕ) (status : ℕ) →
         status < 128 → sent.replies ≡ true → (conduct sent 0 before).outcome ≡ Some (Succeeded reply) →
         0 < length reply.items → length reply.items ≤ 120 →
-        (own : Events) × EachIsWanted sent timing own × ((attempt_after sent timing own).outcome ≡ Some (Succeeded reply)) ×
+        (own : Events) × EachIsWanted sent timing own × BeginsWithStatus status (steps_of own) × ((attempt_after sent timing own).outcome ≡ Some (Succeeded reply)) ×
         StandsAfter conduct sent before (steps_of own) (conduct sent 0 before).after }
 {}
 
