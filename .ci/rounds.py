@@ -1,24 +1,47 @@
 """The edits of a crate, tried in rounds, and what is said of them."""
 import re
 import time
+from threading import Lock
 from functions import BadEdit, constants_of, edit_of, functions_of, read, twin_of
 
 REFUSED, PROVED, WAITS, UNREADABLE, NAMES = "refused", "proved", "waits", "does not compile", "refused for a name alone"
 SHAPE = "(a term of another shape)"
+# how many edits of a crate are tried one after the other: a check reads for ten seconds first, and then takes three to seventeen for each
+MOST_TOGETHER = 60
 # the crates in which an answer whose two types differ is no word on the contract either: their proofs rest on facts, not on how a body's
 # terms look. In the others a wrong meaning and another shape of the right one can't be told apart by that yet
 STRICT = {"external_calibration"}
 
 
-class Tried:
-    """A crate, the names of its edits that are judged, how many of them an earlier run did, the sum of its sources as this
-    began, and what is said of each edit."""
+class Shared:
+    """What the parts of a crate have in common: the first of them that needs it finds it, and the others wait for that."""
 
-    def __init__(self, name, files):
-        self.name, self.files, self.copy, self.began, self.kept, self.first, self.verdicts = name, files, None, 0, 0, "", {}
+    def __init__(self):
+        self.lock, self.found = Lock(), None
+
+    def get(self, find):
+        with self.lock:
+            if self.found is None:
+                self.found = find()
+            return self.found
+
+
+class Tried:
+    """A crate, or a part of it that is tried beside its other parts, and how it is called; the names of its edits that are judged, how many
+    of them an earlier run did, the sum of its sources as this began, and what is said of each edit; and the functions of the crate."""
+
+    def __init__(self, name, files, label=None, functions=None):
+        self.name, self.files, self.label, self.functions = name, files, label or name, functions or Shared()
+        self.copy, self.began, self.kept, self.first, self.verdicts = None, 0, 0, "", {}
 
     def say(self, words):
-        print(f"{self.name}: {words}, {time.monotonic() - self.began:.0f} s", flush=True)
+        print(f"{self.label}: {words}, {time.monotonic() - self.began:.0f} s", flush=True)
+
+
+def parts_of(name, files):
+    """The edits of a crate in parts that take about as long as each other, few if there are few."""
+    functions, count = Shared(), -(-len(files) // MOST_TOGETHER)
+    return [Tried(name, files[it::count], f"{name}.{it + 1}" if count > 1 else name, functions) for it in range(count)]
 
 
 def path_of(functions, path, function):
