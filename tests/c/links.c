@@ -267,25 +267,20 @@ static void try_results(void) {
         expect("bits", 1, results.media[6].bits == 1ULL << 40);
         expect("counts", 2, results.media[6].known);
         expect("other counts", 0, results.media[2].known + results.host[6].known + (unsigned)results.host[6].errors);
-        plan = looped();
-        plan.shown = DOVECOUNTER_SIGNAL_TO_NOISE_OF_HOST;
-        pages[RESULTS][SHOWN - 128 + 16 + (big ? 0 : 1)] = 0x14,
-                                                     pages[RESULTS][SHOWN - 128 + 16 + (big ? 1 : 0)] = 0x80;
-        run_test(&plan, &test);
-        dovecounter_link_results(&test, (uint8_t)big, &results);
-        expect("its code", 6, pages[RESULTS][0]);
-        expect("its noise", 0x1480, results.host[0].noise);
-        expect("noise", 4, results.host[0].known);
-        expect("of no other side", 0, results.media[0].known + (unsigned)results.media[0].noise);
-        plan.shown = DOVECOUNTER_SIGNAL_TO_NOISE_OF_MEDIA;
-        pages[RESULTS][SHOWN - 128 + 48 + (big ? 0 : 1)] = 0x15;
-        pages[RESULTS][SHOWN - 128 + 48 + (big ? 1 : 0)] = 0;
-        run_test(&plan, &test);
-        dovecounter_link_results(&test, (uint8_t)big, &results);
-        expect("the same code", 6, pages[RESULTS][0]);
-        expect("its noise", 0x1500, results.media[0].noise);
-        expect("noise", 4, results.media[0].known);
-        expect("of no other side", 0, results.host[0].known + (unsigned)results.host[0].noise);
+        for (unsigned media = 0; media < 2; media++) {
+            uint8_t *noise = &pages[RESULTS][SHOWN - 128 + 16 + 32 * media];
+            plan = looped();
+            plan.shown = media ? DOVECOUNTER_SIGNAL_TO_NOISE_OF_MEDIA : DOVECOUNTER_SIGNAL_TO_NOISE_OF_HOST;
+            noise[!big] = 0x14, noise[big] = 0x80;
+            run_test(&plan, &test);
+            dovecounter_link_results(&test, (uint8_t)big, &results);
+            const struct dovecounter_link_lane *shown = media ? results.media : results.host;
+            const struct dovecounter_link_lane *other = media ? results.host : results.media;
+            expect("the code of both", 6, pages[RESULTS][0]);
+            expect("its noise", 0x1480, shown->noise);
+            expect("noise", 4, shown->known);
+            expect("of no other side", 0, other->known + (unsigned)other->noise);
+        }
     }
 }
 
