@@ -29,6 +29,7 @@ int read_pin(struct port *port, const char *pin) {
     char name[TEXT_SIZE], text[16] = "";
     bool is_low = leave_state(port, pin, name);
     int file = open(name, O_RDONLY | O_CLOEXEC);
+    if (file >= 0) errno = ENODATA; /* if it is empty */
     bool is_read = file >= 0 && read(file, text, sizeof text - 1) > 0;
     if (file >= 0) close(file);
     take_state(port);
