@@ -95,6 +95,7 @@ static void read_statistics_word(const char *word, unsigned value) {
     if (strncmp(word, "freeze=", 7) == 0) shim.statistics.lasts = value;
     if (strcmp(word, "moves") == 0) shim.statistics.moves = true;
     if (strcmp(word, "stuck-statistics") == 0) shim.statistics.stuck = true;
+    if (strcmp(word, "stay-frozen") == 0) shim.statistics.stays = true;
 }
 
 /* Words of the firmware. */

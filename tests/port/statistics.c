@@ -9,7 +9,7 @@ static bool is_asked(const struct statistics *it) { return it->pages[GROUPS][CON
 
 uint8_t fetch_statistics(struct statistics *it, uint8_t page, uint8_t address) {
     uint8_t *place = &it->pages[page][address - 128], byte = *place;
-    bool is_done = !it->stuck && it->left == 0 && it->is_frozen == is_asked(it);
+    bool is_done = !it->stuck && it->left == 0 && it->is_frozen == is_asked(it) && !(it->stays && !it->is_frozen);
     if (page == GROUPS && address - 128 == DONE) return !is_done ? 0 : it->is_frozen ? 0x80 : 0x40;
     if (page == FLAGS) *place = 0;
     return byte;

@@ -13,6 +13,7 @@ struct statistics {
     bool is_frozen;
     bool moves;      /* the samples change */
     bool stuck;      /* neither is ever done */
+    bool stays;      /* once frozen, they are shown as that */
     unsigned stores; /* of the control byte */
     unsigned astray; /* bytes that were stored elsewhere, or other bits of that one */
 };
