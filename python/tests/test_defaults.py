@@ -3,11 +3,12 @@
 from __future__ import annotations
 
 import inspect
-from dataclasses import astuple
+from dataclasses import astuple, is_dataclass
 from typing import Any, Callable, Dict
 
 import pytest
 
+import dovecounter
 from dovecounter import (
     Delays,
     ExplicitProvisioning,
@@ -63,3 +64,16 @@ def test_records_have_theirs() -> None:
     assert Wanted({}) == Wanted({}, 0, True, False, 255, 0)
     assert Delays() == Delays(4, 4, 4, 4, 4, 4, 4)
     assert Patience() == FOREVER
+
+
+RECORDS = [it for it in vars(dovecounter).values() if isinstance(it, type) and is_dataclass(it)]
+
+
+@pytest.mark.parametrize("record", RECORDS, ids=lambda record: str(record.__name__))
+def test_a_record_never_changes(record: Any) -> None:
+    """So it may stand in a set, or under a key."""
+    assert record.__dataclass_params__.frozen and record.__hash__ is not None
+
+
+def test_there_are_records() -> None:
+    assert len(RECORDS) > 40

@@ -104,5 +104,9 @@ def test_a_file_too_long_or_that_can_t_be_read(tmp_path: pathlib.Path) -> None:
     file.write_bytes(bytes((1 << 22) + 1))
     with pytest.raises(ValueError, match="longer than 4194304 bytes"):
         Image.from_file(file)
+    image = example("qsfp28_100g_sr4.txt")
+    row = b"".join(image.halves.get(key, bytes(128)) for key in (LOWER, *map(page, range(4))))
+    file.write_bytes(row.ljust(1 << 22, b"\0"))
+    assert Image.from_file(file) == image
     pytest.raises(OSError, Image.from_file, tmp_path / "none")
     pytest.raises(IsADirectoryError, Image.from_file, tmp_path)

@@ -127,6 +127,15 @@ def test_two_halves_of_a_paged_module_are_page_00h_unless_another_is_selected(
     assert image.to_text() == by_tool(dump, tmp_path / "eeprom")
 
 
+def test_two_halves_of_flat_memory_are_page_00h_whatever_is_selected(
+    tmp_path: pathlib.Path,
+) -> None:
+    flat = DR4.changed(LOWER, 2, b"\x80").changed(LOWER, 127, b"\x11")
+    dump = flat.halves[LOWER] + flat.halves[page(0x00)]
+    assert pages_of(Image.from_dump(dump)) == ["lower A0", "upper A0 00 00"]
+    assert Image.from_dump(dump).to_text() == by_tool(dump, tmp_path / "eeprom")
+
+
 def test_a_port_leaves_out_what_can_t_be_read(tmp_path: pathlib.Path) -> None:
     dump, file = DR4.halves[LOWER] + DR4.halves[page(0x00)], tmp_path / "eeprom"
     file.write_bytes(dump + bytes(64))

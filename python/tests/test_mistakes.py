@@ -175,25 +175,44 @@ def test_texts_may_be_bytes_that_change() -> None:
     assert Image.from_text(bytearray(DR4.to_text().encode())) == DR4
 
 
-def imported(file: pathlib.Path) -> List[str]:
-    """What Python says when it imports the package over a library."""
-    run = subprocess.run(
+def import_over(file: pathlib.Path) -> "subprocess.CompletedProcess[str]":
+    return subprocess.run(
         [sys.executable, "-c", "import dovecounter"],
         capture_output=True,
         text=True,
         check=False,
         env={**os.environ, "PYTHONPATH": str(ROOT / "python"), "DOVECOUNTER_LIBRARY": str(file)},
     )
+
+
+def imported(file: pathlib.Path) -> List[str]:
+    """What Python says when it imports the package over a library that it refuses."""
+    run = import_over(file)
     assert run.returncode == 1
     return run.stderr.splitlines()
+
+
+def test_a_library_may_be_named_by_a_link(tmp_path: pathlib.Path) -> None:
+    link = tmp_path / "libdovecounter.so"
+    link.symlink_to(pathlib.Path(library._SHARED._name).resolve())
+    run = import_over(link)
+    assert (run.returncode, run.stderr) == (0, "")
 
 
 def test_a_library_of_another_version_or_none_is_refused_with_a_sentence(
     tmp_path: pathlib.Path,
 ) -> None:
     file = tmp_path / library.FILE
-    assert imported(file)[-1].startswith("ImportError: ")
-    assert imported(tmp_path / "libdovecounter.so")[-1].startswith("ImportError: ")
+    told, what_to_do = imported(file)[-1], (
+        "build the library by tools/build-shared-library, install it by tools/install, or name its"
+        " file in DOVECOUNTER_LIBRARY"
+    )
+    assert told.startswith("ImportError: ") and told.endswith(f": {what_to_do}")
+    other = tmp_path / "libdovecounter.so"
+    assert imported(other)[-1].startswith("ImportError: ")
+    shutil.copy(library._SHARED._name, other)
+    needed = f"DOVECOUNTER_LIBRARY names {other}, and this package needs {library.FILE}"
+    assert imported(other)[-1] == f"ImportError: {needed}"
     compiler = os.environ.get("CC", "cc")
     if shutil.which(compiler) is None:
         pytest.skip("there is no C compiler")

@@ -205,6 +205,42 @@ def test_a_failure_has_its_fault_and_moment(status: int, fault: str) -> None:
     assert failed.to_dict()["moment"] == failed.moment
 
 
+def test_a_pause_has_its_moment() -> None:
+    port = Port(Times(20, 100, 50, 400))
+    port.plug(0)
+    assert isinstance(port.next(20), Operation)
+    paused = port.take(False, WANTED, 20)
+    assert paused == PortOutcome(Kind.PAUSED, None, None, None, None, port.due)
+    assert port.next(20) == Until(port.due) and port.due > 20
+
+
+def test_a_port_has_a_goal_while_it_works_for_it() -> None:
+    machine, goals = Machine(SimulatedModule(DR4)), dict[Stage, bool]()
+
+    def is_still_up(outcome: PortOutcome) -> bool:
+        goals[machine.port.stage] = machine.port.goal is not None
+        return outcome.note is Note.STILL_UP
+
+    machine.port.plug(0)
+    assert machine.drive(is_still_up, 4) is not None
+    working = (Stage.PROVISIONING, Stage.ACTIVATING, Stage.CONFIRMING, Stage.WATCHING)
+    assert goals == {Stage.READING: False, **dict.fromkeys(working, True)}
+
+
+class Placed(Machine):
+    """One whose port says where each whole half lies, and nothing of other operations."""
+
+    def reply(self, operation: Operation) -> Reply:
+        assert (self.port.place is not None) == (operation.count == 128)
+        return super().reply(operation)
+
+
+def test_an_operation_on_less_than_a_half_has_no_place() -> None:
+    machine = Placed(SimulatedModule(DR4))
+    machine.port.plug(0)
+    machine.comes_up()
+
+
 class Still(Machine):
     """One whose memory never changes, but for the selection."""
 
@@ -354,6 +390,41 @@ def test_wrong_replies_and_numbers_are_refused() -> None:
     with pytest.raises(TypeError):
         port.take(None, WANTED, 0)  # type: ignore[arg-type]
     assert port.take(bytes(128), WANTED, 2000).kind in (Kind.WENT, Kind.LEAVES, Kind.PAUSED)
+
+
+def test_what_is_said_to_a_port_is_not_cut() -> None:
+    port, most = Port(), 2**64 - 1
+    for call in (
+        lambda: port.request(PortRequest.SLEEP, 256),
+        lambda: port.request(PortRequest.SLEEP, -1),
+        lambda: port.plug(most + 1),
+        lambda: port.acknowledge(most + 1),
+        lambda: port.hear(True, 0, most + 1),
+    ):
+        pytest.raises(ValueError, call)
+    for wrong in (
+        lambda: port.hold(1),  # type: ignore[arg-type]
+        lambda: port.hear(1, 0, 0),  # type: ignore[arg-type]
+    ):
+        pytest.raises(TypeError, wrong)
+    assert (port.stage, port.held, port.requested) == (Stage.ABSENT, False, (PortRequest.WAKE, 0))
+
+
+@pytest.mark.parametrize(
+    "members, error, what",
+    [
+        ({"most_power": 256}, ValueError, "the most power"),
+        ({"may_take_down": 256}, ValueError, "the lanes that may be taken down"),
+        ({"may_take_down": -1}, ValueError, "the lanes that may be taken down"),
+        ({"paired": 1}, TypeError, "first lanes are paired"),
+        ({"counts_by_id": 256}, TypeError, "lanes are counted by ID"),
+    ],
+)
+def test_what_is_wanted_is_not_cut(
+    members: Dict[str, Any], error: Type[Exception], what: str
+) -> None:
+    with pytest.raises(error, match=what):
+        Port().take(False, dataclasses.replace(WANTED, **members), 0)
 
 
 def test_why_a_module_is_left_alone() -> None:

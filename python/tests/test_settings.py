@@ -155,6 +155,9 @@ def test_numbers_and_types_are_looked_at() -> None:
         SettingsChange(1, LaneSignal(adaptive=1), LIMITS)  # type: ignore[arg-type]
     with pytest.raises(ValueError):
         SettingsChange(1, TARGET, SignalLimits((4,), 0, 0, 0))
+    for numbers in ((16, 0, 0), (0, 16, 0), (0, 0, 16), (-1, 0, 0)):
+        with pytest.raises(ValueError, match="the greatest "):
+            SettingsChange(1, TARGET, SignalLimits((1,), *numbers))
 
 
 # ---- with provisioning
@@ -378,6 +381,12 @@ def test_settings_of_any_port_go_for_a_port_without_its_own(tmp_path: pathlib.Pa
     assert found is not None and found[7] == LaneSignal(amplitude=2)
 
 
+def test_ports_may_have_spaces_between_them(tmp_path: pathlib.Path) -> None:
+    file = {"GLOBAL_MEDIA_SETTINGS": {"1, 3-4 , 9": {"Default": {"CDREnableRx": EACH}}}}
+    found = [written(tmp_path, file).of(of("GOOD", "PART1"), "100G", port) for port in range(11)]
+    assert [port for port, lanes in enumerate(found) if lanes] == [1, 3, 4, 9]
+
+
 def test_what_a_file_leaves_open_stays(tmp_path: pathlib.Path) -> None:
     found = written(tmp_path, FILE).of(of("GOOD", "PART1"), "100G", 4, (TARGET,) * 8)
     assert found == (TARGET,) * 8
@@ -417,6 +426,9 @@ def test_what_is_no_file_of_settings_is_refused(tmp_path: pathlib.Path) -> None:
     for identity, base in (("GOOD", (TARGET,) * 8), (of("GOOD", "PART1"), ({},) * 8)):
         with pytest.raises(TypeError):
             written(tmp_path, FILE).of(identity, "100G", 0, base)  # type: ignore[arg-type]
+    for port, error in ((-1, ValueError), (2**32, ValueError), ("4", TypeError), (True, TypeError)):
+        with pytest.raises(error, match="the port is"):
+            written(tmp_path, FILE).of(of("GOOD", "PART1"), "100G", port)  # type: ignore[arg-type]
     for count in (0, 7, 9):
         with pytest.raises(ValueError, match=f"{count} lanes, and not 8"):
             written(tmp_path, FILE).of(of("GOOD", "PART1"), "100G", 0, (TARGET,) * count)

@@ -129,6 +129,8 @@ def shapes_of(svg: str) -> Dict[str, Any]:
 def test_a_plan_is_a_picture() -> None:
     shapes = shapes_of(plan(DR4, WEIGHTS)._repr_svg_())
     assert len(shapes) == 12
+    frame = ElementTree.fromstring(plan(DR4, WEIGHTS)._repr_svg_())
+    assert (frame.get("viewBox"), frame.get("width")) == ("-1 -1 514 74", "514")
     assert shapes["1: 20"] == (0, 36, 64) and shapes["8: 2c"] == (448, 36, 64)
     assert shapes["app 2, media 1"] == (0, 0, 128)
     assert shapes["app 2, media 4"] == (384, 0, 128)

@@ -156,9 +156,11 @@ def test_a_reading_under_way_names_a_freeze_and_can_be_copied() -> None:
 
 def test_replies_are_looked_at() -> None:
     reading = VdmReading()
+    assert isinstance(next(reading), Operation)
     with pytest.raises(ValueError):
         reading.reply(b"\0")
     with pytest.raises(ValueError):
         reading.waited()
+    assert repr(reading) == "<VdmReading after 0 operations>"
     with pytest.raises(TypeError):
         reading.observables("no image")  # type: ignore[arg-type]
