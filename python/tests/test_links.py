@@ -98,7 +98,8 @@ def test_each_lane_has_its_error_ratio() -> None:
 
 def test_counts_and_noise_are_exact() -> None:
     links = Links()
-    links.pages[0x14][192 - 128 :][:16] = bytes(16)
+    lane = run(looped(shown=Shown.COUNTS_OF_MEDIA_1_TO_4), links).results().media[0]
+    assert (lane.errors, lane.bits) == (0, 0)
     links.pages[0x14][64 : 64 + 16] = (3).to_bytes(8, "little") + (1 << 50).to_bytes(8, "little")
     lane = run(looped(shown=Shown.COUNTS_OF_MEDIA_1_TO_4), links).results().media[0]
     assert (lane.errors, lane.bits, lane.ratio) == (3, 1 << 50, None)

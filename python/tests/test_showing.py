@@ -103,7 +103,9 @@ def test_a_notebook_shows_a_table() -> None:
     advertised = cells_of(DR4.advertisement()._repr_html_())
     assert advertised["applications 2, number"] == "2"
     assert advertised["unsupported"] == str(DR4.advertisement().unsupported)
-    assert not [name for name in cells_of(DR8.flags()._repr_html_()) if "None" in name]
+    flags = cells_of(DR8.flags()._repr_html_())
+    assert not [name for name in flags if "None" in name]
+    assert (flags["vcc, low alarm"], flags["tx los"], cells["is flat"]) == ("0", "0", "False")
     assert "path states" not in cells_of(example("sfp_10g_lr.txt").flags()._repr_html_())
 
 
