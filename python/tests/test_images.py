@@ -200,4 +200,8 @@ def test_an_image_is_changed_and_reduced_at_places_that_it_has() -> None:
     ]
     again = Image.from_text(DR4.to_text())
     assert hash(again) == hash(DR4) and again == DR4
+    again.halves.clear()  # which is a copy
+    assert again == DR4
+    turned = Image(dict(reversed(DR4.halves.items())))
+    assert (turned, hash(turned), turned.to_text()) == (DR4, hash(DR4), DR4.to_text())
     assert repr(DR4.without(*list(DR4.halves)[2:])) == "<Image of lower A0, upper A0 00 00>"

@@ -103,8 +103,11 @@ def test_numbers_out_of_range_are_refused_and_not_cut() -> None:
         lambda: Image({LOWER: bytes(127)}),
         lambda: Key(0xA1),
         lambda: Key(0xA0, page=1),
+        lambda: Key(0xA0, bank=1),
         lambda: page(256),
         lambda: page(-1),
+        lambda: page(0, bank=256),
+        lambda: page(0, bank=-1),
         lambda: Image({page(number): bytes(128) for number in range(17)}),
     ):
         pytest.raises(ValueError, call)
