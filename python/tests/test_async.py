@@ -95,6 +95,19 @@ def test_an_operation_of_a_cancelled_task_counts_as_refused() -> None:
     assert (procedure.steps, len(port.said) + 1) == (other.steps, len(bus.operations))
 
 
+def test_a_wait_of_a_cancelled_task_is_asked_for_again() -> None:
+    port, procedure = Port("one", []), Provisioning(BEST)
+
+    async def cut_short(_: float) -> None:
+        raise asyncio.CancelledError
+
+    with pytest.raises(asyncio.CancelledError):
+        asyncio.run(procedure.run_async(port.transact, cut_short))
+    assert isinstance(next(procedure), Wait)
+    asyncio.run(procedure.run_async(port.transact, port.pause))
+    assert port.module.active == BEST.control
+
+
 def test_what_a_bus_raises_reaches_the_caller() -> None:
     procedure = Provisioning(BEST)
 

@@ -72,6 +72,10 @@ def test_details_are_a_mapping_that_notebooks_show() -> None:
     assert pickle.loads(pickle.dumps(found)) == found
     assert repr(Details({"family": "CMIS"})) == "Details({'family': 'CMIS'})"
     assert len(Details({"family": "CMIS"})) == 1
+    members: Dict[str, Any] = {"family": "CMIS"}
+    of_members = Details(members)
+    members["family"] = "SFF-8636"
+    assert of_members["family"] == "CMIS"
     assert "<th>connector name</th><td>MPO 1x12</td>" in found._repr_html_()
     with pytest.raises(KeyError):
         found["fibre"]
@@ -133,6 +137,8 @@ def test_what_the_library_never_answers_is_said(monkeypatch: pytest.MonkeyPatch)
         DR4.metrics()
     with pytest.raises(AssertionError, match="another form"):
         details_of(b'{"dovecounter": 2, "family": "CMIS"}')
+    with pytest.raises(AssertionError, match="another form"):
+        details_of(b'{"family": "CMIS"}')
 
 
 def test_calls_of_c_write_nothing_beyond_their_texts() -> None:

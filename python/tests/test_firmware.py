@@ -134,6 +134,18 @@ def test_banks_are_read() -> None:
     assert banks.a.version == (1, 2, 3)
     assert (banks.b.runs, banks.b.committed, banks.b.valid) == (False, False, False)
     assert banks.b.version is None
+    module, reading = TwoBanks(), BanksReading()
+    module.images[0] = bytes([0, 0, 0, 7])
+    reading.run(module.transact, lambda seconds: None)
+    assert reading.banks.a.version == (0, 0, 7)
+
+
+def test_a_file_that_changes_meanwhile_is_sent_as_it_was_given() -> None:
+    module, file = TwoBanks(), bytearray(FILE)
+    update = FirmwareUpdate(file)
+    file[:] = bytes(len(file))
+    update.run(module.transact, lambda seconds: None)
+    assert module.images[1] == FILE
 
 
 def test_a_refusal_has_its_status() -> None:
@@ -220,6 +232,10 @@ def test_what_is_given_is_looked_at() -> None:
         FirmwareUpdate(FILE, hold=1)  # type: ignore[arg-type]
     with pytest.raises(ValueError):
         FirmwarePassword(2**32)
+    module = TwoBanks()
+    module.password = bytes([0xFF] * 4)
+    FirmwarePassword(2**32 - 1).run(module.transact, lambda seconds: None)
+    assert module.password == b""
 
 
 def test_a_command_data_block_is_advertised() -> None:

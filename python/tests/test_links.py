@@ -278,12 +278,20 @@ def test_a_control_is_stored_again(tries: int) -> None:
         {"permitted": 256},
         {"tries": 256},
         {"media_paths": [0] * 7},
+        {"media_paths": [0] * 9},
         {"media_paths": [256] * 8},
     ],
 )
 def test_numbers_are_looked_at(wrong: Dict[str, Optional[object]]) -> None:
     with pytest.raises(ValueError):
         looped(**wrong)
+
+
+def test_bytes_of_lanes_are_looked_at() -> None:
+    with pytest.raises(ValueError):
+        LinkTest(Side.HOST, 256)
+    with pytest.raises(ValueError):
+        LinkTest(Side.HOST, loopback=Loopback.HOST_SIDE_INPUT, looped=256)
 
 
 def test_types_are_looked_at() -> None:

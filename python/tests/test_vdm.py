@@ -116,6 +116,12 @@ def test_what_is_not_whole_is_a_fault() -> None:
     end = VdmEnd(VdmStatistics.PENDING, VdmRelease.ACCEPTED, (0x28,))
     assert fault.value.end == end
     assert str(fault.value) == "statistics pending, release accepted, without 28h"
+    module, reading = Module(), VdmReading()
+    del module.pages[0x28]
+    with pytest.raises(VdmFault, match="^statistics frozen, release released, without 28h$"):
+        reading.run(module.transact, lambda seconds: None)
+    bare = IMAGE.without(*(page(number) for number in (0x20, 0x24, 0x28, 0x2C)))
+    assert reading.observables(IMAGE) == reading.observables(bare)
     module = Module()
     module.takes = False
     with pytest.raises(VdmFault, match="^statistics not taken, release may be frozen$"):
