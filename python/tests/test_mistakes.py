@@ -3,6 +3,7 @@ from __future__ import annotations
 
 import array
 import copy
+import dataclasses
 import os
 import pathlib
 import pickle
@@ -70,6 +71,7 @@ def test_numbers_out_of_range_are_refused_and_not_cut() -> None:
 
     for call in (
         lambda: plan(DR4, {0x111: 1}),
+        lambda: plan(DR4, {256: 1}),
         lambda: plan(DR4, {-1: 1}),
         lambda: plan(DR4, {0x11: 2**32}),
         lambda: plan(DR4, {0x11: -1}),
@@ -176,6 +178,10 @@ def test_texts_may_be_bytes_that_change() -> None:
     text = "[host]\n0Dh = 1\n"
     assert read_weights(bytearray(text.encode())) == read_weights(text) == {0x0D: 1}
     assert Image.from_text(bytearray(DR4.to_text().encode())) == DR4
+    module, best = SimulatedModule(DR4), plan(DR4, WEIGHTS)
+    assert module.store(0xA0, 26, bytearray(b"\x10")) and module.fetch(0xA0, 26, 1) == b"\x10"
+    of_array = dataclasses.replace(best, control=bytearray(best.control))
+    assert judge(DR4, of_array) == judge(DR4, best)
 
 
 def import_over(file: pathlib.Path) -> "subprocess.CompletedProcess[str]":
@@ -303,6 +309,7 @@ def test_a_plan_s_members_are_looked_at() -> None:
     pytest.raises(TypeError, lambda: judge(DR4, changed(control=[0] * 8)))
     pytest.raises(TypeError, lambda: judge(DR4, changed(lanes=None)))
     pytest.raises(ValueError, lambda: judge(DR4, changed(outside=256)))
+    pytest.raises(ValueError, lambda: judge(DR4, changed(lanes=256)))
     pytest.raises(ValueError, lambda: judge(DR4, best, may_take_down=256))
     pytest.raises(ValueError, lambda: judge(DR4, best, may_bring_up=-1))
     for choice in ("activates", "wakes", "spares", "may_have_no_path"):
@@ -326,3 +333,8 @@ def test_a_kept_path_is_compared_up_to_lane_8() -> None:
     with pytest.warns(KeptPathNotActive) as told:
         plan(image, WEIGHTS, [best.paths[-1]])
     assert [it.filename for it in told] == [__file__]
+    dr8, first = example("osfp_800g_dr8.txt"), DataPath(5, 1, 1)
+    control = plan(dr8.without(page(0x11)), {0x4B: 1}, [first]).control
+    with warnings.catch_warnings():
+        warnings.simplefilter("error")
+        plan(dr8.changed(page(0x11), 206, control[:1] + bytes(7)), {0x4B: 1}, [first])

@@ -1,6 +1,7 @@
 """What a module measures against what the program prints of it."""
 from __future__ import annotations
 
+import dataclasses
 import json
 from decimal import Decimal
 from fractions import Fraction
@@ -84,6 +85,8 @@ def test_an_observable_of_the_module_and_one_of_a_data_path() -> None:
         None,
     )
     assert first.amount == Amount(4550000000, -8, 1) and first.value == 45.5
+    assert dataclasses.replace(first, amount=Amount(0, -8, 1)).value == 0.0
+    assert dataclasses.replace(first, amount=None).value is None
     assert float(first.amount) == 45.5 and first.amount.fraction == Fraction(91, 2)
     assert first.limits.low_alarm == Amount(-500000000, -8, 1)
     assert first.to_dict()["side"] == "MEDIA"

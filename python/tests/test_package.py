@@ -284,6 +284,8 @@ def test_a_change_is_judged_before_it_is_made() -> None:
     halves = dict(image.halves)
     del halves[page(0x11)]
     assert fault_of(judge, Image(halves), best) == "AD4 upper A0 00 11"
+    of_lower = Image({LOWER: image.halves[LOWER]})
+    assert fault_of(judge, of_lower, best) == "AD4 upper A0 00 11"
 
 
 def test_a_change_is_judged_by_what_is_asked() -> None:

@@ -488,6 +488,9 @@ def test_time_passes_while_a_bus_refuses() -> None:
     bus = RefusingBus(module, range(1, 11))
     assert [bus(Operation(0xA0, 3, 1, None)) for _ in range(10)] == [False] * 10
     assert module.state is ModuleState.ModuleLowPwr
+    module.store(0xA0, 26, b"\x00")
+    replies = [module.transact(Operation(0xA2, 0, 1, None)) for _ in range(10)]
+    assert (replies, module.state) == ([False] * 10, ModuleState.ModuleReady)
 
 
 def test_pauses_are_as_long_as_was_said() -> None:
