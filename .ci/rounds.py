@@ -8,6 +8,8 @@ REFUSED, PROVED, WAITS, UNREADABLE, NAMES = "refused", "proved", "waits", "does 
 SHAPE = "(a term of another shape)"
 # how many edits of a crate are tried one after the other: a check reads for ten seconds first, and then takes three to seventeen for each
 MOST_TOGETHER = 60
+# how a check calls the constants of a type in a method's path
+CONSTANTS = r"\b\+\w+(?=::)"
 # the crates in which an answer whose two types differ is no word on the contract either: their proofs rest on facts, not on how a body's
 # terms look. In the others a wrong meaning and another shape of the right one can't be told apart by that yet
 STRICT = {"external_calibration"}
@@ -52,8 +54,9 @@ def path_of(functions, path, function):
         return exact if exact in functions else None
     last = f"{function.owner[0].upper()}{function.owner[1:]}{function.trait}::{function.name}"
     exact = "::".join([*modules, last])
-    # a method stands under its type's module, which may be another file's, and the types of its trait after that's name, as PageFromU8
-    found = [exact] if exact in functions else [it for it in functions if f"::{it}".endswith(f"::{last}")]
+    # a method stands under its type's module, which may be another file's, the constants of its type after that's name, as Image+LARGE, and
+    # the types of its trait after that's name, as PageFromU8
+    found = [exact] if exact in functions else [it for it in functions if f"::{re.sub(CONSTANTS, '', it)}".endswith(f"::{last}")]
     if not found and function.trait:
         owner, name = last.split("::")
         found = [it for it in functions if re.search(rf"(^|::){owner}[A-Z]\w*::{name}$", it)]
@@ -76,7 +79,7 @@ def is_own(path, function):
 
 def errors_of(said, function, path, lines):
     """The errors in the function's answers, and the errors and open goals at its lines."""
-    answers = re.findall(r"^\./proofs/([\w/]+)/\w+\.antt:\d+:\d+: (error.*)$", said, re.M)
+    answers = re.findall(r"^\./proofs/([\w/+]+)/\w+\.antt:\d+:\d+: (error.*)$", said, re.M)
     at = re.findall(rf"^(?:note: )?(?:\./)?{re.escape(path)}:(\d+):\d+: (error.*|it is not proved.*)$", said, re.M)
     return [words for it, words in answers if is_own(it.replace("/", "::"), function)] + [words for it, words in at if int(it) in lines]
 
@@ -98,7 +101,7 @@ def with_shapes(said, folder_of):
         text = read(f"{folder_of(folder)}/{name}").split("\n")[int(line) - 1][int(column) - 1:]
         return error[0] if re.match(r"refl\b", text) else f"{error[0]} {SHAPE}"
 
-    place = r"^\./proofs/([\w/]+)/((?:Answers|Invariants)\.antt):(\d+):(\d+): error: "
+    place = r"^\./proofs/([\w/+]+)/((?:Answers|Invariants)\.antt):(\d+):(\d+): error: "
     differ = r"(?:\bthe two types (?:first )?differ\b|\bexpected type\b.*\bbut this has type\b)"
     return re.sub(rf"{place}.*{differ}.*$", marked, said, flags=re.M)
 
