@@ -1,9 +1,8 @@
 -- A change of lanes ends, and as it should if the module refuses nothing and keeps what is stored.
-use Rattle.std.proofs.Common.{◌≡◌, ◌⊎◌, ℕ, suc, ◌+◌, ◌-◌, ◌*◌, ◌<◌, ◌≤◌, ◌==◌, min, max, Bool, true, false, cond, if◌then◌else◌, nat_eq, nat_lt, List, [], ◌∷◌, length, Option, Some, None, slice_index, arith, refl, sym, ap, subst, inl, inr, ◌∙◌, bit_and}
+use Rattle.std.proofs.Common.{◌≡◌, ◌⊎◌, ℕ, suc, ◌+◌, ◌-◌, ◌*◌, ◌<◌, ◌≤◌, ◌==◌, min, max, Bool, true, false, if◌then◌else◌, nat_lt, List, [], ◌∷◌, length, Option, Some, None, slice_index, arith, refl, sym, ap, subst, inl, inr, ◌∙◌, bit_and}
 use Rattle.std.proofs.lemmas.Bool.{eq-eqb, ltb-true, ltb-false, ne_eqb}
 use Rattle.std.proofs.lemmas.Nat.Bits.{bit_at_and, bit_at_or, same_from_bits}
 use Rattle.std.specs.Int.{bit_at}
-use Rattle.arrayvec.specs.ArrayVec.{ArrayVec}
 use Rattle.bus_model.specs.declared.operation.Op.{Op}
 use Rattle.bus_model.specs.declared.operation.Reply.{Reply}
 use Rattle.bus_model.specs.declared.operation.Reply.TheVariants.{Bytes, Refused}
@@ -34,7 +33,7 @@ shown_bit mask bits byte i = bit_at_or (bit_and byte (255 - mask)) (bit_and bits
 twice : (x n b m : ℕ) → max (min (max (min x n) (min b m)) n) (min b m) ≡ max (min x n) (min b m)
 twice x n b m = omega arith
 
-merged_again : (mask bits byte : ℕ) → merged mask bits (merged mask bits byte) ≡ merged mask bits byte
+pub merged_again : (mask bits byte : ℕ) → merged mask bits (merged mask bits byte) ≡ merged mask bits byte
 merged_again mask bits byte =
     same_from_bits (merged mask bits (merged mask bits byte)) (merged mask bits byte) (λ i.
     shown_bit mask bits (merged mask bits byte) i

@@ -23,6 +23,8 @@ pub mod TestMeasuring
 pub mod LinkTestTold
 pub mod ChangeLaws
 pub mod StopLaws
+pub mod TestProgressLaws
+pub mod TestEndLaws
 pub mod RunLaws
 pub mod PathLaneLaws
 pub mod Beginnings

@@ -15,6 +15,7 @@ pub mod Results
 pub mod SignalSettings
 pub mod PathLanes
 pub mod LaneProgress
+pub mod TestProgress
 pub mod Unconfirmed
 pub mod LaneRuns
 pub mod TestRuns

@@ -1,5 +1,5 @@
 //! What holds of lanes, whatever a module answers. Each function is a theorem: its contract says it, and its body is empty.
-ghost use Rattle.std.specs.Prelude.{◌≡◌, ◌⊎◌, ◌+◌, ◌-◌, ◌*◌, ◌≤◌, ◌<◌, ℕ, Bool, List, length, Option, Ok, Some, None, true};
+ghost use Rattle.std.specs.Prelude.{◌≡◌, ◌⊎◌, ◌+◌, ◌-◌, ◌*◌, ◌≤◌, ◌<◌, ℕ, Bool, List, length, Option, Ok, Some, None, [], false, true};
 ghost use Rattle.std.specs.Int.{bit_at};
 ghost use Rattle.std.specs.FinSet as set;
 ghost use Rattle.bus_model.specs.declared.operation.Op.{Op};
@@ -30,7 +30,10 @@ ghost use Rattle.lane_controls.specs.Merging.{TakesBitsOfMask, merged};
 ghost use Rattle.lane_controls.specs.PathLanes.{is_up};
 ghost use Rattle.lane_controls.specs.SignalSettings.{AreBytes, half_of, settings_of, staged, target_of};
 ghost use Rattle.lane_controls.specs.TestAccounts.{IsEnding, IsTold, LeavesNothing, WereOn, is_named, measurements, wanted_measurements, was_stopped};
-ghost use Rattle.lane_controls.specs.TestPlans.{allows, up_lanes};
+ghost use Rattle.lane_controls.specs.TestPlans.{allows, repeated, up_lanes};
+ghost use Rattle.lane_controls.specs.TestProgress as progress;
+ghost use Rattle.lane_controls.specs.declared.link_test.TestEnd.{TestEnd};
+ghost use Rattle.lane_controls.specs.TestOperations as test_operations;
 ghost use Rattle.lane_controls.specs.TestRuns.{OnRealBus, OnTestPages};
 
 /// A byte that is stored has the bits of its mask from others, and each other bit as it was.
@@ -83,6 +86,19 @@ pub fn results_are_of_what_was_on()
 /// Once the caller has said that a test is to stop, it only switches off what is on.
 pub fn a_stopped_test_switches_nothing_on()
     ensures { (plan : TestPlan) (events : Events) → was_stopped events ≡ true → IsEnding (test_after plan events).stage }
+{}
+
+/// A link test ends, whatever the bus refuses and whenever its caller stops it: of the operations that it wants, only so many are not
+/// refused, and time passes no more often than results are wanted. If nobody stops it, and the module can do what the plan wants, refuses
+/// nothing and keeps what is stored, then it ends without a fault, and no control is left on.
+pub fn a_link_test_ends()
+    ensures in_time { (plan : TestPlan) (events : Events) → length plan.switches.items ≤ 16 → progress.AreWanted plan events
+        → answered (steps_of events) ≤ progress.most_answered plan }
+    ensures seldom { (plan : TestPlan) (events : Events) → length plan.switches.items ≤ 16 → progress.AreWanted plan events
+        → progress.pauses events ≤ wanted_measurements plan }
+    ensures so { (plan : TestPlan) (first : ℕ → ℕ) (events : Events) (end : TestEnd) → length plan.switches.items ≤ 16 → 0 < plan.tries
+        → repeated plan.switches.items ≡ None → progress.AreWanted plan events → was_stopped events ≡ false → EachStep (progress.Serves plan first) (steps_of events)
+        → test_operations.wants (test_after plan events) ≡ End end → (end.fault ≡ None) × (end.still_on.items ≡ []) }
 {}
 
 /// What is staged for targets shows them, lane by lane.
