@@ -7,3 +7,4 @@ pub mod ShownLaws
 pub mod StoreLaws
 pub mod SetLaws
 pub mod LostLaws
+pub mod WindowLaws

@@ -42,7 +42,7 @@ is_equal Less e = cc
 is_equal Equal e = refl
 is_equal Greater e = cc
 
-same_page : (page other : ℕ) → eq_by_cmp key_cmp (key_of other) (key_of page) ≡ true → other ≡ page
+pub same_page : (page other : ℕ) → eq_by_cmp key_cmp (key_of other) (key_of page) ≡ true → other ≡ page
 same_page page other e = ap (λ (key : Key). key.page) (keys_apart (key_of other) (key_of page) (is_equal (key_cmp (key_of other) (key_of page)) e))
 
 module _ (image : Memory) (page : ℕ) (bytes : List ℕ) (other : ℕ) (found : List ℕ) where

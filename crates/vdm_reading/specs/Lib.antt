@@ -1,3 +1,4 @@
 pub mod FrozenSteps
 pub mod VdmStages
 pub mod VdmAccounts
+pub mod WindowStatistics

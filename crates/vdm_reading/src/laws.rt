@@ -2,13 +2,18 @@
 //! empty.
 ghost use Rattle.std.specs.Prelude.{◌≡◌, ◌≤◌, ◌+◌, ℕ, List, Some, length};
 ghost use Rattle.std.specs.FinMap as map;
+ghost use Rattle.bus_model.specs.declared.script.Directive.{Directive};
+ghost use Rattle.bus_model.specs.Runs.{Seen};
+ghost use Rattle.paged_memory.specs.Images.{Memory};
+ghost use Rattle.paged_memory.specs.Windows.{Windowed};
 ghost use Rattle.paged_memory.specs.PageAddressing.{EachStep};
 ghost use Rattle.conversations.specs.Events.{Events, steps_of};
 ghost use Rattle.vdm_reading.specs.declared.reading.VdmReading.{VdmReading};
 ghost use Rattle.vdm_reading.specs.declared.reading.VdmStage.TheVariants.{Over};
 ghost use Rattle.vdm_reading.specs.FrozenSteps as steps;
-ghost use Rattle.vdm_reading.specs.VdmAccounts.{IsLostAlone, IsTold, IsWhole, is_frozen};
+ghost use Rattle.vdm_reading.specs.VdmAccounts.{IsAmong, IsLostAlone, IsTold, IsWhole, is_frozen};
 ghost use Rattle.vdm_reading.specs.VdmStages.{key_of, may_be_frozen, most_polls, most_retries, most_transactions};
+ghost use Rattle.vdm_reading.specs.WindowStatistics.{AreOverWindow, NoneRefused};
 
 /// However far a reading has come: it names exactly where a request to freeze was made, taken or refused, and no release was accepted
 /// since.
@@ -46,4 +51,14 @@ pub fn a_refusal_loses_its_page_alone()
 pub fn readings_that_are_little_hindered_are_whole()
     ensures { (events : Events) (reading : VdmReading) → IsTold events reading → reading.stage ≡ Over →
         steps.hindrances (steps_of events) ≤ most_retries → steps.hindrances (steps_of events) + steps.polls (steps_of events) ≤ most_polls → IsWhole reading }
+{}
+
+/// Over a scripted bus with a window of a memory, whatever the script refuses or cuts short: each page that was read is the memory's. If
+/// nothing was refused, each page that is advertised is as in the memory, or absent if it is there.
+pub fn what_is_read_of_a_window_is_its_memory()
+    ensures same { (old new : Seen (List Directive × Windowed)) (memory : Memory) (events : Events) (reading : VdmReading) → AreOverWindow old new memory events
+        → IsTold events reading → (page : ℕ) (bytes : List ℕ) → map.get reading.image (key_of page) ≡ Some bytes → map.get memory (key_of page) ≡ Some bytes }
+    ensures whole { (old new : Seen (List Directive × Windowed)) (memory : Memory) (events : Events) (reading : VdmReading) → AreOverWindow old new memory events
+        → IsTold events reading → reading.stage ≡ Over → NoneRefused (steps_of events) → (page : ℕ) → IsAmong page reading.pages.items
+        → map.get reading.image (key_of page) ≡ map.get memory (key_of page) }
 {}

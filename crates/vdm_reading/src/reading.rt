@@ -12,7 +12,7 @@ use crate::end::{MAX_PAGES, Release, Statistics, VdmEnd};
 use arrayvec::ArrayVec;
 use bus_model::{Dev, Op};
 use conversations::Next;
-use paged_memory::{Image, Key, KnownPage, PageAddressing};
+use paged_memory::{Image, Key, KnownPage, PageAddressing, SmallImage};
 
 /// How many transactions of a stage may be refused, or show another page; one more, and the stage is lost.
 pub const MOST_RETRIES: u16 = 2;
@@ -48,7 +48,7 @@ pub struct VdmReading {
     pub pause: u32,
     pub stage: VdmStage,
     /// The pages that were read.
-    pub image: Image,
+    pub image: SmallImage,
     pub selection: KnownPage,
     /// How many transactions may still be fruitless at this stage.
     pub left: u16,
@@ -97,7 +97,7 @@ impl VdmReading {
         VdmReading {
             pause,
             stage: VdmStage::Advertised,
-            image: Image::new(),
+            image: SmallImage::new(),
             selection: KnownPage::Unknown,
             left: MOST_RETRIES,
             due: false,
@@ -143,7 +143,7 @@ impl VdmReading {
         VdmEnd {
             statistics: self.statistics,
             release: self.release,
-            missing: missing(&self.pages, &self.image),
+            missing: missing(&self.pages, &self.image.view()),
         }
     }
 }

@@ -195,7 +195,7 @@ impl VdmReading {
         ensures { self.new ≡ spec.advertised (spec.kept 0x01 bytes.now self.old) }
     {
         self.keep(0x01, bytes);
-        if has_observables(&self.image) {
+        if has_observables(&self.image.view()) {
             self.enter(VdmStage::Groups);
         } else {
             self.statistics = Statistics::Unsupported;
@@ -208,8 +208,8 @@ impl VdmReading {
         ensures { self.new ≡ spec.grouped (slice_index bytes.now 16) (spec.kept 0x2F bytes.now self.old) }
     {
         self.keep(0x2F, bytes);
-        self.pages = advertised(&self.image);
-        self.todo = advertised(&self.image);
+        self.pages = advertised(&self.image.view());
+        self.todo = advertised(&self.image.view());
         self.control = bytes[16];
         self.enter(VdmStage::Freeze);
     }
