@@ -569,8 +569,13 @@ def test_an_operation_of_a_cancelled_task_counts_as_refused() -> None:
     machine.port.plug(0)
 
     async def cancelled() -> None:
-        with pytest.raises(asyncio.TimeoutError):
-            await asyncio.wait_for(machine.notes(Note.CAME_UP), 0.2)
+        task = asyncio.ensure_future(machine.notes(Note.CAME_UP))
+        while machine.made < 5:
+            await asyncio.sleep(0.01)
+        await asyncio.sleep(0.1)
+        task.cancel()
+        with pytest.raises(asyncio.CancelledError):
+            await task
         assert machine.made == 5
         machine.is_stuck = False
         assert (await machine.notes(Note.CAME_UP))[-1] is Note.CAME_UP

@@ -47,6 +47,7 @@ struct adapter {
     uint32_t silent;                              /* in how many milliseconds at most four in a row were refused */
     uint32_t steps, waits; /* asked for: no more transactions than so many, if it isn't 0; whether one waits for that */
     /* not the test's */
+    uint32_t judged[8]; /* what was wanted as a transaction began */
     uint64_t random;
     int64_t ticked, silent_since;
     uint32_t refused_in_a_row;
@@ -67,7 +68,7 @@ static unsigned below(struct adapter *it, unsigned limit) {
 
 static bool is_up(const struct adapter *it, unsigned lane) {
     const struct dovecounter_lane *is = &it->simulated.module.lanes[lane];
-    return is->path == ACTIVATED && it->wanted[lane] != 0 && is->active == it->wanted[lane];
+    return is->path == ACTIVATED && it->judged[lane] != 0 && is->active == it->judged[lane];
 }
 
 /* The pages of what a module lists, as its image has them. */
@@ -254,6 +255,7 @@ static bool transact(struct adapter *it, const struct i2c_rdwr_ioctl_data *data)
     if (it->refuses_power && data->msgs[0].buf[0] == 26) return false;
     if (it->serial != it->seen_serial || it->resets != it->seen_resets) begin(it);
     let_time_pass(it);
+    memcpy(it->judged, it->wanted, sizeof it->judged); /* the test may want something else meanwhile */
     for (unsigned lane = 0; lane < 8; lane++) was_up[lane] = is_up(it, lane);
     if (data->nmsgs == 1) judge_store(it, &data->msgs[0]);
     bool is_answered = !refuses_apply(it, data) && is_done(it, data) && below(it, 100) >= it->late;

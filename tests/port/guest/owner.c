@@ -12,7 +12,7 @@ static void plug_in(struct owner *owner) {
 void obey(struct owner *owner, const char *line) {
     unsigned value;
     load_line(&owner->module, line);
-    if (strcmp(line, "module-image 1") == 0) begin_emulator(&owner->module, 1);
+    if (strncmp(line, "module-image ", 13) == 0) begin_emulator(&owner->module, 1);
     if (strcmp(line, "end") == 0) plug_in(owner);
     if (strcmp(line, "out") == 0) owner->plugged = false;
     if (sscanf(line, "unplug %u", &value) == 1) owner->unplug = value;
