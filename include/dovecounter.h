@@ -109,7 +109,7 @@ enum dovecounter_status {
     DOVECOUNTER_DONE = 0,
 
     /* halves */
-    DOVECOUNTER_TOO_MANY_HALVES = 1, /* more than 16 */
+    DOVECOUNTER_TOO_MANY_HALVES = 1, /* more than 16, or of a simulated module more than 64 */
     DOVECOUNTER_NO_PLACE = 2,        /* a device other than 0xA0 and 0xA2, upper above 1, or upper 0 with a bank or a page */
 
     /* texts */
@@ -232,8 +232,8 @@ uint32_t dovecounter_media_name(uint8_t media_type, uint8_t code, uint8_t *buffe
 
 /* ---- What a module is ----
 
-   Pass a module's memory as an array of halves, in any order. Of two halves for one place the first counts; halves
-   that a function doesn't need are ignored. Pages are in bank 0. */
+   Pass a module's memory as an array of at most 16 halves, in any order. Of two halves for one place the first counts;
+   halves that a function doesn't need are ignored. Pages are in bank 0; dovecounter_observables reads other banks too. */
 
 /* 128 bytes of a module's memory, and their place. */
 struct dovecounter_half {
@@ -1667,7 +1667,7 @@ static inline uint32_t dovecounter_explicit_run(struct dovecounter_explicit *pro
 #define DOVECOUNTER_MOST_VDM 15
 
 /* The first place of dovecounter_observables at which isn't a monitor, but what a module lists itself. */
-#define DOVECOUNTER_FIRST_INSTANCE 128
+#define DOVECOUNTER_FIRST_INSTANCE 512
 
 enum dovecounter_vdm_statistics {
     DOVECOUNTER_VDM_UNKNOWN = 0,     /* page 01h or 2Fh couldn't be read: whether there are any isn't known */
@@ -2019,7 +2019,7 @@ uint32_t dovecounter_port_take(struct dovecounter_port *port, uint8_t reply, con
 /* ---- A simulated module ----
 
    For tests without hardware (docs/module.md). Time passes only by dovecounter_module_tick. Pass each call the
-   halves that the module began with. */
+   halves that the module began with, 64 at most. */
 
 /* Ticks that each kind of work takes, 1 to 1000. */
 struct dovecounter_delays {

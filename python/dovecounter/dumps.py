@@ -23,8 +23,11 @@ MOST_BYTES = (
     1 << 22
 )  # of a dump; that of all pages of eight banks by hexdump -C has a third of them
 MOST_CHARACTERS = 1000  # of a line; one of Intel hex has 521
-MOST_HALVES = 16  # of an image
-MOST_GROUPS = 2  # of observables: with six other halves there is room for page 2Fh, three pages of each group, and page 2Ch
+MOST_HALVES = 64  # of an image
+VERSIONS = {"module-image 1": 16, "module-image 2": MOST_HALVES}
+"""how many halves an image's text has at most, by its first line"""
+BANKS = (1, 2, 4, 1)
+"""how many banks of eight lanes a module has, by the code on page 01h, of which the last one is reserved"""
 
 # Identifiers of SFF-8024, by the standard that says what is where.
 DETAILS_ALONE = (0x1B, *range(0x1F, 0x26))  # of CMIS, and no other command reads them
@@ -135,19 +138,24 @@ def with_observables(halves: Mapping[str, bytes]) -> List[str]:
         return []
     if control is None:
         return [upper(0x2F)]
-    groups = range(min(control[0] % 4 + 1, MOST_GROUPS))
+    groups = range(control[0] % 4 + 1)
     described = [upper(first + group) for first in (0x20, 0x28, 0x24) for group in groups]
     return [upper(0x2F), *described, upper(0x2C)]
 
 
-def remark_groups(halves: Mapping[str, bytes], remark: Remark) -> None:
-    """Remarks if there are more groups of observables than an image has room for."""
-    if upper(0x2F) in with_observables(halves) and upper(0x2F) in halves:
-        groups = halves[upper(0x2F)][0] % 4 + 1
-        if groups > MOST_GROUPS:
-            remark(
-                f"of {groups} groups of observables (VDM) the first {MOST_GROUPS} are taken: an image has no room for more"
-            )
+def of_further_banks(halves: Mapping[str, bytes]) -> List[str]:
+    """The halves of the lanes above 8, as far as those tell that are known already: page 01h how many banks a CMIS module has."""
+    lower, advert = halves["lower A0"], halves.get(upper(0x01))
+    if lower[0] not in CMIS or is_flat(lower) or advert is None:
+        return []
+    return [upper(0x11, bank) for bank in range(1, BANKS[advert[142 - HALF] & 3])]
+
+
+def image_text(halves: Mapping[str, bytes]) -> str:
+    """The text of an image with these halves, in the first version that has room for them."""
+    header = next(line for line, most in VERSIONS.items() if len(halves) <= most)
+    lines = [f"{key} {halves[key].hex()}" for key in sorted(halves, key=order)]
+    return "\n".join([header, *lines, "end", ""])
 
 
 # Bytes in a row: what dumps have that name no pages.
@@ -472,15 +480,16 @@ def _image(lines: Lines) -> Halves:
         halves[key] = bytes.fromhex(found.group(2))
     if lines[-1][1] != "end" or len(lines) < 2:
         raise Refused("its last line is not 'end': it is cut off, or more than an image")
-    if len(halves) > MOST_HALVES:
-        raise Refused(f"it has {len(halves)} page lines, and an image {MOST_HALVES} at most")
+    header = lines[0][1]
+    if len(halves) > VERSIONS[header]:
+        raise Refused(f"it has {len(halves)} page lines, and '{header}' {VERSIONS[header]} at most")
     return halves
 
 
 EEPROM, IMAGE, I2CDUMP = "an eeprom file", "an image text", "the output of i2cdump"
 # By the beginning of the first line: what the form is called, and its parser.
 _FORMS: List[Tuple[str, str, Callable[[Lines], Content]]] = [
-    (IMAGE, "module-image 1$", _image),
+    (IMAGE, "module-image [12]$", _image),
     ("Intel hex", ":", _intel_hex),
     ("the hex dump of ethtool", r"Offset\s+Values", _ethtool_hex),
     (I2CDUMP, r"0( +[1-9a-f]){15} +0123456789abcdef", _i2cdump),
@@ -595,14 +604,12 @@ def image_halves(form: str, halves: Mapping[str, bytes], remark: Remark) -> Halv
     """Those of a dump's halves that an image has, of which A0's lower one is there; with a remark for each that is absent."""
     lower = halves["lower A0"]
     needed = wanted(lower)
-    needed.update({key: ["observables"] for key in with_observables(halves)})
+    needed.update({key: ["observables"] for key in [*of_further_banks(halves), *with_observables(halves)]})
     copy = halves.get(upper(0x00), lower)[0]
     if lower[0] not in SFF_8472 and copy != lower[0]:
         remark(
             f"page 00h begins with {copy:02x}h, and should with the identifier, {lower[0]:02x}h: are all bytes in their places?"
         )
-    if form != IMAGE:
-        remark_groups(halves, remark)
     kept = {
         key: half
         for key, half in halves.items()

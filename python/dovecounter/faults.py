@@ -62,6 +62,10 @@ _OF_IMAGES = {
         "a line stands after 'end': delete it, or put a line '---' before it if another part of "
         "the input begins there"
     ),
+    "IM7": (
+        "a 65th page line stands there, and an image has at most 64: leave out pages that the "
+        "command does not need"
+    ),
 }
 
 

@@ -4,7 +4,7 @@ from __future__ import annotations
 import os
 import re
 import warnings
-from ctypes import Array, byref, c_uint8, c_uint16
+from ctypes import Array, byref, c_uint16
 from dataclasses import dataclass
 from typing import Callable, Dict, Iterable, List, Mapping, Tuple, Union
 
@@ -40,7 +40,9 @@ from .signals import ModuleSignals, SignalLimits, limits_of, signals_of
 
 HALF, MOST_HALVES = dumps.HALF, dumps.MOST_HALVES
 
-_HEADER, _END = b"module-image 1", b"end"
+_FULL = {"module-image 1": "IM4", "module-image 2": "IM7"}
+"""the fault of one page line too many, by the first line of a text"""
+_END = b"end"
 _PAGE_LINE = re.compile(
     rb"(?:lower A([02])|upper A([02]) ([0-9a-f]{2}) ([0-9a-f]{2})) ([0-9a-f]{256})"
 )
@@ -107,11 +109,18 @@ _OF_FLAGS: _Needed = {"RP6": (LOWER, page(0x11)), "SF3": (LOWER_A2,)}
 _OF_MONITORS: _Needed = {"RP6": (LOWER, page(0x01), page(0x02), page(0x11)), "SF3": (LOWER_A2,)}
 _OF_OBSERVABLES: _Needed = {"RP6": (LOWER,)}
 _DIAGNOSTICS = 0x20  # of byte 142 of page 01h: it has pages 13h and 14h
+# What calls that take halves need, besides what a module lists itself (VDM) and what a simulated
+# one shows.
+_OF_CALLS = (
+    *(LOWER, *map(page, (0x00, 0x01, 0x02, 0x03, 0x10, 0x11)), LOWER_A2),
+    *(page(0x11, bank) for bank in (1, 2, 3)),  # lanes from 9 on
+)
+_DESCRIPTORS = range(0x20, 0x24)  # pages of what a module lists itself, one of each group
 _OF_QSFP_MONITORS: _Needed = {"SF3": (page(0x03),)}
 
 
 class Image:
-    """At most 16 halves of 128 bytes, each under its key. An image never changes."""
+    """At most 64 halves of 128 bytes, each under its key. An image never changes."""
 
     def __init__(self, halves: Mapping[Key, bytes]) -> None:
         for key in look_at_mapping("the halves", halves):
@@ -151,11 +160,12 @@ class Image:
 
     @classmethod
     def from_text(cls, text: Union[str, bytes]) -> Image:
-        """Reads the text of an image. Raises a Fault of IM1 to IM6."""
+        """Reads the text of an image. Raises a Fault of IM1 to IM7."""
         lines = look_at_text("the text of an image", text).split(b"\n")
         if lines[-1] == b"":
             lines.pop()
-        if lines[:1] != [_HEADER]:
+        header = lines[0].decode("latin-1") if lines else ""
+        if header not in dumps.VERSIONS:
             raise Fault("IM1")
         halves: Dict[Key, bytes] = {}
         for number, line in enumerate(lines[1:], 2):
@@ -163,13 +173,12 @@ class Image:
                 if number < len(lines):
                     raise Fault("IM6")
                 return cls(halves)
-            _take_page_line(halves, number, line)
+            _take_page_line(header, halves, number, line)
         raise Fault("IM5")
 
     def to_text(self) -> str:
         """The text of the image, which reads back as this image."""
-        lines = [f"{key} {half.hex()}" for key, half in self._halves.items()]
-        return "\n".join([_HEADER.decode(), *lines, _END.decode(), ""])
+        return dumps.image_text({str(key): half for key, half in self._halves.items()})
 
     @classmethod
     def from_file(
@@ -295,11 +304,26 @@ class Image:
         `cmisctl observables`; of CMIS also what it lists itself (VDM). Needs the lower half of 0xA0
         alone; what is in another half that is missing is left out, or None. Raises a Fault of RP1, RP4
         or RP6."""
-        return self.observed(0)
+        return self.monitored() + self.listed()
 
-    def observed(self, first: int, end: int = 2**16) -> Tuple[Observable, ...]:
-        """Those from a place of the library's list on, and before another one."""
-        halves, count = self.arguments()
+    def monitored(self) -> Tuple[Observable, ...]:
+        """The first of them: those at fixed places."""
+        return self._observed(0, library.FIRST_INSTANCE)
+
+    def listed(self) -> Tuple[Observable, ...]:
+        """The others, which a module lists itself (VDM). Each group is observed on its own."""
+        listed: List[Observable] = []
+        for key in self._halves:
+            if key.device == LOWER.device and key.page in _DESCRIPTORS:
+                pages = (key.page, key.page + 4, key.page + 8, 0x2C)  # samples, limits, flags
+                group = (page(number, key.bank) for number in pages)
+                listed += self._observed(library.FIRST_INSTANCE, 2**16, *group)
+        return tuple(listed)
+
+    def _observed(self, first: int, end: int, *others: Key) -> Tuple[Observable, ...]:
+        """Those from a place of the library's list on, and before another one, by the halves that
+        each call needs and these others."""
+        halves, count = self.arguments(*others)
         observed: List[Observable] = []
         place, found = c_uint16(first), library.Observable()
         while True:
@@ -353,13 +377,15 @@ class Image:
             raise AssertionError(f"the library answered status {status}")
         return text
 
-    def arguments(self) -> Tuple[Array[library.Half], int]:
-        """The halves as the library takes them, and their number."""
-        halves = (
-            library.Half(key.device, key.upper, key.bank, key.page, (c_uint8 * HALF)(*half))
-            for key, half in self._halves.items()
-        )
-        return (library.Half * len(self._halves))(*halves), len(self._halves)
+    def arguments(self, *others: Key) -> Tuple[Array[library.Half], int]:
+        """Those halves that the library's calls need, and these others, as it takes them, and their
+        number: it takes fewer at once than an image may have."""
+        halves = [
+            bytes([key.device, key.upper, key.bank, key.page]) + self._halves[key]
+            for key in dict.fromkeys((*_OF_CALLS, *others))
+            if key in self._halves
+        ]
+        return (library.Half * len(halves)).from_buffer_copy(b"".join(halves)), len(halves)
 
     def take(self, status: int, needed: _Needed = _OF_APPLICATIONS) -> None:
         """Raises what a status says of these halves."""
@@ -379,8 +405,8 @@ class Image:
         raise Fault(code)
 
 
-def _take_page_line(halves: Dict[Key, bytes], number: int, line: bytes) -> None:
-    """Takes one more half; raises IM2 to IM4 if the line of this number gives none."""
+def _take_page_line(header: str, halves: Dict[Key, bytes], number: int, line: bytes) -> None:
+    """Takes one more half; raises IM2 to IM4 or IM7 if the line of this number gives none."""
     found = _PAGE_LINE.fullmatch(line)
     if found is None:
         raise Fault("IM2", number)
@@ -389,8 +415,8 @@ def _take_page_line(halves: Dict[Key, bytes], number: int, line: bytes) -> None:
     key = Key(device) if lower else page(int(number_of_page, 16), int(bank, 16), device)
     if halves and key <= max(halves):
         raise Fault("IM3", number)
-    if len(halves) == MOST_HALVES:
-        raise Fault("IM4")
+    if len(halves) == dumps.VERSIONS[header]:
+        raise Fault(_FULL[header])
     halves[key] = bytes.fromhex(digits.decode())
 
 

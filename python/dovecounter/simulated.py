@@ -45,12 +45,12 @@ class SimulatedModule:
         for name, delay in vars(look_at_type("the record of delays", delays, Delays)).items():
             look_at(f"the delay {name}", delay, 2**16 - 1)
         self._image = image
-        self._halves = image.arguments()
+        self._halves = image.arguments(*image.halves)
         self._saved = library.Module()
         numbers = library.Delays(*astuple(delays))
 
         def status(of: Image) -> int:
-            return int(_begin(*of.arguments(), byref(numbers), byref(self._saved)))
+            return int(_begin(*of.arguments(*of.halves), byref(numbers), byref(self._saved)))
 
         def is_wrong(lanes: int) -> bool:
             """Whether the active bytes of the first lanes alone are no paths."""
@@ -82,7 +82,7 @@ class SimulatedModule:
 
     def __setstate__(self, state: Tuple[Image, bytes]) -> None:
         self._image, saved = state
-        self._halves = self._image.arguments()
+        self._halves = self._image.arguments(*self._image.halves)
         self._saved = library.Module.from_buffer_copy(saved)
 
     def fetch(self, device: int, offset: int, count: int) -> Optional[bytes]:

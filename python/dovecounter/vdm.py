@@ -102,9 +102,9 @@ class VdmReading(Procedure):
         of 0xA0, and after them what this reading has read. Raises a Fault as `Image.observables`.
         """
         look_at_type("the image", image, Image)
-        monitors = image.observed(0, library.FIRST_INSTANCE)
+        monitored = image.monitored()
         listed = Image({LOWER: image.halves[LOWER], **self.image.halves})
-        return monitors + listed.observed(library.FIRST_INSTANCE)
+        return monitored + listed.listed()
 
     def _made(self) -> int:
         return self._operations

@@ -26,7 +26,10 @@ from dovecounter import (
 
 ROOT = pathlib.Path(__file__).parents[2]
 PROGRAM = pathlib.Path(os.environ.get("CMISCTL", ROOT / "crates/cmisctl/out/cmisctl"))
-IMAGES = sorted([*ROOT.glob("examples/*.txt"), *ROOT.glob("tests/lib/inputs/*sfp*.txt")])
+FOUR_GROUPS = ROOT / "tests/lib/inputs/vdm_of_four_groups.txt"  # which has more than 16 halves
+IMAGES = sorted(
+    [*ROOT.glob("examples/*.txt"), *ROOT.glob("tests/lib/inputs/*sfp*.txt"), FOUR_GROUPS]
+)
 WEIGHTS = {0x0D: 101, 0x11: 400, 0x4F: 400}
 
 Script = List[Tuple[str, int]]

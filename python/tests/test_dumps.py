@@ -99,6 +99,21 @@ def test_what_is_absent_is_warned_of(tmp_path: pathlib.Path) -> None:
         assert Image.from_file(file) == SFP.without(LOWER_A2)
 
 
+def test_an_image_may_have_64_halves(tmp_path: pathlib.Path) -> None:
+    file = tmp_path / "image.txt"
+    halves = example("qsfp28_100g_sr4.txt").halves
+    for version, most in ((1, 16), (2, 64)):
+        numbers = range(0x20, 0x20 + most - len(halves))
+        image = Image({**halves, **{page(number): bytes(128) for number in numbers}})
+        file.write_text(image.to_text())
+        assert image.to_text().startswith(f"module-image {version}\n")
+        assert Image.from_file(file) == image
+        line = f"upper A0 01 00 {'0' * 256}\nend\n"
+        file.write_text(image.to_text().replace("end\n", line))
+        with pytest.raises(ValueError, match=f"has {most + 1} page lines, and 'module-image"):
+            Image.from_file(file)
+
+
 def test_a_file_too_long_or_that_can_t_be_read(tmp_path: pathlib.Path) -> None:
     file = tmp_path / "long"
     file.write_bytes(bytes((1 << 22) + 1))

@@ -6,14 +6,20 @@ import os
 import pathlib
 import subprocess
 import sys
-from typing import List
+from typing import Iterable, List
 
 import pytest
 
-from shared import IMAGES, ROOT, cmisctl, example, fault_of, image_of
-from dovecounter import LOWER, Image, Key, SimulatedModule, page
+from shared import IMAGES, ROOT, WEIGHTS, cmisctl, example, fault_of, image_of
+from dovecounter import LOWER, Image, Key, SimulatedModule, page, plan
 
 DR4 = example("qsfp_dd_400g_dr4.txt")
+
+
+def text_of_pages(version: int, numbers: Iterable[int], *more: str) -> str:
+    """The text of an image of these pages, and of more lines after them."""
+    pages = (f"upper A0 00 {number:02x} {'0' * 256}" for number in numbers)
+    return "\n".join([f"module-image {version}", *pages, *more, "end", ""])
 
 
 def test_texts_that_are_no_image() -> None:
@@ -22,16 +28,18 @@ def test_texts_that_are_no_image() -> None:
         "",
         "x\n",
         "module-image 1\nx\n",
+        "module-image 2\nx\n",
+        "module-image 2\n",
+        "module-image 3\nend\n",
         "\n".join(lines[:-1]),
         "\n".join([*lines, ""]) + "\n",
         "\n".join([*lines[:3], lines[1]]),
-        "\n".join(
-            [
-                "module-image 1",
-                *(f"upper A0 00 {number:02x} {'0' * 256}" for number in range(17)),
-                "end",
-            ]
-        ),
+        text_of_pages(1, range(17)),
+        text_of_pages(2, range(65)),
+        text_of_pages(1, [*range(16), 15]),
+        text_of_pages(2, [*range(64), 63]),
+        text_of_pages(1, range(16), "x"),
+        text_of_pages(2, range(64), "x"),
         DR4.to_text().upper(),
         DR4.to_text().replace("\n", "\r\n"),
         "module-image 1\n\udcff\n",
@@ -41,7 +49,35 @@ def test_texts_that_are_no_image() -> None:
             assert [f"fault {fault_of(Image.from_text, text)}"] == cmisctl("inventory", text)
         else:
             assert fault_of(Image.from_text, text) == "IM2 2"
+    assert fault_of(Image.from_text, "module-image\udcff1\nend\n") == "IM1"
+    assert fault_of(Image.from_text, text_of_pages(1, range(17))) == "IM4"
+    assert fault_of(Image.from_text, text_of_pages(2, range(65))) == "IM7"
     assert Image.from_text(DR4.to_text().rstrip("\n")) == DR4
+
+
+def test_an_image_is_written_in_the_first_version_that_has_room_for_it() -> None:
+    for count in (1, 16, 17, 64):
+        text = text_of_pages(1 if count <= 16 else 2, range(count))
+        image = Image({page(number): bytes(128) for number in range(count)})
+        assert image.to_text() == text and Image.from_text(text) == image
+        assert Image.from_text(text.replace("image 1", "image 2")) == image
+    places = [(device, bank) for device in (0xA0, 0xA2) for bank in (0, 1, 0xFE)]
+    wide = Image({page(0x1F, bank, device): bytes([bank]) * 128 for device, bank in places})
+    assert Image.from_text(wide.to_text()) == wide and len(wide.halves) == 6
+    with pytest.raises(ValueError, match="there are 65 halves, and an image has at most 64"):
+        Image({page(number): bytes(128) for number in range(65)})
+
+
+def test_what_an_image_says_is_in_few_of_its_halves() -> None:
+    others = {page(number, bank=1): bytes(128) for number in range(64 - len(DR4.halves))}
+    image = Image({**DR4.halves, **others})
+    assert len(image.halves) == 64
+    assert image.applications() == DR4.applications()
+    assert (image.inventory(), image.flags()) == (DR4.inventory(), DR4.flags())
+    assert (image.monitors(), image.observables()) == (DR4.monitors(), DR4.observables())
+    assert image.details() == DR4.details() and image.metrics() == DR4.metrics()
+    assert image.signal_settings() == DR4.signal_settings()
+    assert plan(image, WEIGHTS) == plan(DR4, WEIGHTS)
 
 
 @pytest.mark.parametrize("path", IMAGES, ids=operator.attrgetter("name"))

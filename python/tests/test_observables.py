@@ -10,7 +10,7 @@ from typing import Any, Dict, Optional
 import pytest
 
 from dovecounter import LOWER, Amount, Fault, Image, Observable, Side, page
-from shared import IMAGES, cmisctl, example, image_of
+from shared import FOUR_GROUPS, IMAGES, cmisctl, example, image_of
 
 VDM = example("osfp_800g_vdm.txt")
 
@@ -64,6 +64,34 @@ def test_observables_are_what_the_program_prints(path: Any) -> None:
         assert cmisctl("observables", image.to_text()) == [f"fault {fault}"]
     else:
         compare_all(image)
+
+
+def test_each_group_of_each_bank_is_listed() -> None:
+    four = image_of(FOUR_GROUPS)
+    assert len(four.halves) > 16 and compare_all(four) == 26 + 4 * 57
+    assert four.observables() == four.monitored() + four.listed()
+    first = four.without(*(page(number + group) for number in (0x20, 0x24) for group in (1, 2, 3)))
+    assert four.listed()[:57] == first.listed() and four.monitored() == VDM.monitored()
+    lacking = four.without(page(0x22), page(0x25), page(0x2B))
+    assert compare_all(lacking) == 26 + 3 * 57
+    halves = four.without(page(0x24), page(0x2F)).halves
+    listing = {key.page: half for key, half in halves.items() if key.page >= 0x20}
+    for bank in (1, 3, 4):  # of which the last is none
+        halves.update({page(number, bank): half for number, half in listing.items()})
+    assert compare_all(Image(halves)) == 26 + 3 * 4 * 57
+    of_a2 = {page(key.page, 0, 0xA2): half for key, half in four.halves.items() if key.upper}
+    assert Image({**four.halves, **of_a2}).observables() == four.observables()
+
+
+def test_lanes_of_each_advertised_bank_are_listed() -> None:
+    for code, banks in enumerate((1, 2, 4, 1)):
+        wide = VDM.changed(page(0x01), 142, bytes([0x40 | code]))
+        further = {page(0x11, bank): bytes([bank] * 128) for bank in (1, 2, 3)}
+        image = Image({**wide.halves, **further})
+        assert compare_all(image) == 83 + 24 * (banks - 1)
+        lanes = [found.lane for found in image.monitored() if found.quantity == "rx-power"]
+        assert lanes == list(range(1, 8 * banks + 1))
+        assert compare_all(image.without(page(0x11, 1))) == 83 + 24 * max(banks - 2, 0)
 
 
 def test_what_is_missing_is_not_known() -> None:

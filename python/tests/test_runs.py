@@ -14,7 +14,16 @@ from typing import Any, Callable, Dict, List, Optional, Type
 
 import pytest
 
-from shared import IMAGES, ROOT, WEIGHTS, compare_with_trace, example, fault_of, image_of
+from shared import (
+    FOUR_GROUPS,
+    IMAGES,
+    ROOT,
+    WEIGHTS,
+    compare_with_trace,
+    example,
+    fault_of,
+    image_of,
+)
 from dovecounter import (
     LOWER,
     Activation,
@@ -105,6 +114,29 @@ def test_a_reading_gives_the_halves_that_are_read(most: int) -> None:
         for key in (page(0x00), page(0x01), page(0x02)):
             assert reading.image.halves[key] == image.halves[key]
         assert reading.image.applications() == image.applications()
+
+
+def test_a_module_shows_all_of_its_halves() -> None:
+    others = {page(number, bank=1): bytes([number]) * 128 for number in range(40)}
+    image = Image({**image_of(FOUR_GROUPS).halves, **others})
+    module = SimulatedModule(image)
+    for key in [key for key in image.halves if key.upper]:
+        assert module.store(0xA0, 126, bytes([key.bank, key.page]))
+        assert module.fetch(0xA0, 126, 2) == bytes([key.bank, key.page])
+        if key not in (page(0x10), page(0x11)):  # which are the module's own
+            assert module.fetch(0xA0, 128, 128) == image.halves[key]
+    for address, data, shown in (
+        (127, b"\x05", b"\x01\x05"),  # of the bank that was shown
+        (126, b"\x00", b"\x01\x05"),
+        (127, b"\x2b", b"\x00\x2b"),
+        (127, b"\x2d", b"\x00\x00"),  # the image has no such page
+    ):
+        assert module.store(0xA0, address, data)
+        assert module.fetch(0xA0, 126, 2) == shown
+    for again in (copy.copy(module), module.copy(), pickle.loads(pickle.dumps(module))):
+        assert again.store(0xA0, 126, b"\x01\x27")
+        assert again.fetch(0xA0, 126, 2) == b"\x01\x27"
+        assert again.fetch(0xA0, 128, 128) == others[page(0x27, bank=1)]
 
 
 def window(image: Image) -> Callable[[Operation], Reply]:

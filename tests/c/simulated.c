@@ -4,7 +4,7 @@
 
 /* ---- a module with one Application ---- */
 
-enum { LOWER, PAGE_00, PAGE_01, PAGE_10, PAGE_11, HALVES, TOO_MANY = 17 };
+enum { LOWER, PAGE_00, PAGE_01, PAGE_10, PAGE_11, HALVES, TOO_MANY = 65 };
 
 static struct dovecounter_half halves[TOO_MANY];
 static const struct dovecounter_delays delays = {4, 4, 4, 4, 4, 4, 4};
@@ -12,10 +12,11 @@ static const struct dovecounter_patience patience = {.pause = 7, .limit = 7000};
 
 static void make_halves(void) {
     static const uint8_t pages[HALVES] = {0, 0x00, 0x01, 0x10, 0x11};
-    for (int i = 0; i < HALVES; i++) {
+    for (int i = 0; i < TOO_MANY; i++) {
         halves[i].device = 0xA0;
         halves[i].upper = i != LOWER;
-        halves[i].page = pages[i];
+        halves[i].bank = i >= HALVES;
+        halves[i].page = i < HALVES ? pages[i] : (uint8_t)i;
     }
     advertise_one(&halves[LOWER], &halves[PAGE_00], &halves[PAGE_01]);
 }
@@ -34,7 +35,9 @@ static void try_begin(void) {
     struct dovecounter_delays none = delays, most = delays;
     none.deinit = 0;
     most.power_up = 1001;
-    refuse_begin("17 halves", DOVECOUNTER_TOO_MANY_HALVES, TOO_MANY, &delays);
+    refuse_begin("65 halves", DOVECOUNTER_TOO_MANY_HALVES, TOO_MANY, &delays);
+    struct dovecounter_module whole;
+    expect("64 halves", DOVECOUNTER_DONE, dovecounter_module_begin(halves, TOO_MANY - 1, &delays, &whole));
     refuse_begin("no page 11h", DOVECOUNTER_NEEDED_HALF, PAGE_11, &none);
     refuse_begin("a delay of 0", DOVECOUNTER_BAD_DELAY, HALVES, &none);
     refuse_begin("a delay of 1001", DOVECOUNTER_BAD_DELAY, HALVES, &most);

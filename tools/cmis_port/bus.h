@@ -12,8 +12,10 @@ struct directive {
     unsigned number;
 };
 
+enum { MOST_SIMULATED = 64 }; /* halves */
+
 struct simulated {
-    struct dovecounter_half halves[16];
+    struct dovecounter_half halves[MOST_SIMULATED];
     size_t count;
     struct dovecounter_module module;
     struct directive script[1024];

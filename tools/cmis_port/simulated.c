@@ -5,6 +5,8 @@
 #include <errno.h>
 #include <string.h>
 
+enum { MOST_LINES = 128 }; /* of an image's text that are looked at */
+
 static bool read_digits(const char *digits, uint8_t bytes[128]) {
     for (size_t i = 0; i < 128; i++)
         if (sscanf(digits + 2 * i, "%2hhx", &bytes[i]) != 1) return false;
@@ -24,7 +26,7 @@ static bool read_half(const char *line, struct dovecounter_half *half) {
 size_t read_halves(FILE *file, struct dovecounter_half *halves, size_t most) {
     char line[400];
     size_t count = 0;
-    for (int lines = 0; lines < 64 && count < most; lines++) {
+    for (int lines = 0; lines < MOST_LINES && count < most; lines++) {
         if (fgets(line, sizeof line, file) == NULL || strcmp(line, "end\n") == 0) break;
         if (read_half(line, &halves[count])) count++;
     }
@@ -34,7 +36,7 @@ size_t read_halves(FILE *file, struct dovecounter_half *halves, size_t most) {
 static bool read_image(const char *name, struct simulated *simulated) {
     FILE *file = fopen(name, "r");
     if (file == NULL) return warn("%s", name), false;
-    simulated->count = read_halves(file, simulated->halves, 16);
+    simulated->count = read_halves(file, simulated->halves, MOST_SIMULATED);
     fclose(file);
     return true;
 }

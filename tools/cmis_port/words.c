@@ -99,24 +99,28 @@ static const struct dovecounter_half *lowest_from(unsigned place, const struct d
     return lowest;
 }
 
-/* Pages 23h, 27h and 2Bh: what a module lists in a fourth group, for which an image of 16 halves has no room. */
-static bool has_no_room(const struct dovecounter_half *half) {
-    return half->upper && half->page >= 0x20 && half->page <= 0x2B && half->page % 4 == 3;
+/* The same of two lists; of two halves for one place the one of the first list. */
+static const struct dovecounter_half *next_from(unsigned place, const struct dovecounter_half *halves, size_t count,
+                                                const struct dovecounter_half *listed, size_t listed_count) {
+    const struct dovecounter_half *own = lowest_from(place, halves, count);
+    const struct dovecounter_half *other = lowest_from(place, listed, listed_count);
+    return own == NULL || (other != NULL && place_of(other) < place_of(own)) ? other : own;
 }
 
-/* The image of a module's halves and of those that it lists itself, among which one has no place twice, with this end of each line; none
- * of no halves. */
+enum { MOST_OF_FIRST = 16 }; /* halves of an image in the first version of its text */
+
+/* The image of a module's halves and of those that it lists itself, each place once, with this end of each line; none of no halves. */
 void print_image(FILE *out, const struct dovecounter_half *halves, size_t count, const struct dovecounter_half *listed,
                  size_t listed_count, const char *end) {
+    const struct dovecounter_half *next;
+    unsigned printed = 0;
     if (count == 0) return;
-    fprintf(out, "module-image 1%s", end);
-    for (unsigned place = 0;; place++) {
-        const struct dovecounter_half *own = lowest_from(place, halves, count);
-        const struct dovecounter_half *other = lowest_from(place, listed, listed_count), *next = own;
-        if (own == NULL || (other != NULL && place_of(other) < place_of(own))) next = other;
-        if (next == NULL) break;
-        place = place_of(next);
-        if (!has_no_room(next)) print_half(out, next, end);
+    for (unsigned from = 0; (next = next_from(from, halves, count, listed, listed_count)) != NULL; printed++)
+        from = place_of(next) + 1;
+    fprintf(out, "module-image %d%s", printed > MOST_OF_FIRST ? 2 : 1, end);
+    for (unsigned from = 0; (next = next_from(from, halves, count, listed, listed_count)) != NULL;) {
+        print_half(out, next, end);
+        from = place_of(next) + 1;
     }
     fprintf(out, "end%s", end);
 }

@@ -50,10 +50,16 @@ pub fn refusal_under(conventions: Conventions, image: &Image) -> Option<AdvertFa
 pub fn page_refusal(image: &Image) -> Option<AdvertFault>
     ensures { result ≡ page_fault image.now }
 {
-    absent(image, Key::upper(Dev::A0, 0, 0x00))
-        .or_else(|| absent(image, Key::upper(Dev::A0, 0, 0x01)))
-        .or_else(|| bad_sum(image, Sum::CSum00, 0x00))
-        .or_else(|| bad_sum(image, Sum::CSum01, 0x01))
+    if let Some(fault) = absent(image, Key::upper(Dev::A0, 0, 0x00)) {
+        return Some(fault);
+    }
+    if let Some(fault) = absent(image, Key::upper(Dev::A0, 0, 0x01)) {
+        return Some(fault);
+    }
+    if let Some(fault) = bad_sum(image, Sum::CSum00, 0x00) {
+        return Some(fault);
+    }
+    bad_sum(image, Sum::CSum01, 0x01)
 }
 
 fn absent(image: &Image, key: Key) -> Option<AdvertFault>

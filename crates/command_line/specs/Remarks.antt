@@ -31,6 +31,10 @@ begins text first = starts_with (λ x y. x == y) text first
 abbrev pub has_mark : List ℕ → Bool
 has_mark text = begins text (239 ∷ 187 ∷ 191 ∷ []) || begins text (255 ∷ 254 ∷ []) || begins text (254 ∷ 255 ∷ [])
 
+-- an image's first line in either version, and a CR
+abbrev pub has_returns : List ℕ → Bool
+has_returns text = begins text (codes "module-image 1" ++ 13 ∷ []) || begins text (codes "module-image 2" ++ 13 ∷ [])
+
 -- a character of ASCII that is printed, or a tab, an LF or a CR
 abbrev pub is_text : ℕ → Bool
 is_text byte = (nat_le 32 byte && nat_le byte 126) || byte == 9 || byte == 10 || byte == 13
@@ -43,7 +47,7 @@ is_binary text = list_any (λ byte. not (is_text byte)) (take 128 text)
 abbrev pub opening_of : List ℕ → Opening
 opening_of text = if length text == 0 then Empty
     else if has_mark text then Mark
-    else if begins text (codes "module-image 1" ++ 13 ∷ []) then Returns
+    else if has_returns text then Returns
     else if is_binary text then Binary
     else Other
 

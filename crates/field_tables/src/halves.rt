@@ -18,7 +18,7 @@ pub fn key_of(dev: Dev, half: Half, page: u8) -> Key
 }
 
 /// The bytes of a half.
-pub fn half_of(image: &Image, key: Key) -> Result<&Page, FieldFault>
+pub fn half_of<'a>(image: &Image<'a>, key: Key) -> Result<&'a Page, FieldFault>
     ensures found { IfOk result (λ page. map.get image.now key ≡ Some page.now) }
     ensures missing { OnErr result (map.get image.now key ≡ None) }
     ensures fault { IfErr result (λ fault. fault ≡ absent key) }

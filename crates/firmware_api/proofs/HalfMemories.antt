@@ -36,8 +36,8 @@ unfolding memory_of
 no_halves halves = ap memory_of (drop-length halves)
 
 -- there is room for one half more
-pub has_room : (halves : List HalfBytes) (place : ℕ) → 0 < place → place ≤ length halves → length halves ≤ 16 → finmap.len (memory_of (drop place halves)) < 16
-has_room halves place some within few =
+pub has_room : (halves : List HalfBytes) (place room : ℕ) → 0 < place → place ≤ length halves → length halves ≤ room → finmap.len (memory_of (drop place halves)) < room
+has_room halves place room some within few =
     let most = memory_has_few (drop place halves) in
     omega (arith, some, within, few, most, length-drop place halves)
 

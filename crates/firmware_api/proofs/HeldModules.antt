@@ -22,7 +22,7 @@ use Rattle.firmware_api.specs.declared.half.HalfBytes.{HalfBytes}
 use Rattle.firmware_api.specs.declared.status.Refusal.{Refusal}
 use Rattle.firmware_api.specs.declared.status.Refusal.TheVariants.{NoStart, NoModule}
 use Rattle.firmware_api.specs.Halves.{memory_of}
-use Rattle.firmware_api.specs.SimulatedModules.{begun, half_refusal, held, held_by, module_in, unless_refused}
+use Rattle.firmware_api.specs.SimulatedModules.{begun, simulated_refusal, held, held_by, module_in, unless_refused}
 use Rattle.firmware_api.proofs.SavedLaws.{same_some}
 use Rattle.firmware_api.proofs.StatusLaws.{same_ok}
 
@@ -45,10 +45,10 @@ passes (Some refusal) fault made sim none is = cc
 abbrev IsNew : Memory → Delays → Result SimModule SimFault → Type 0
 IsNew memory delays made = MatchOption (start_fault memory delays) (made ≡ Ok (start memory delays)) (λ fault. made ≡ Err fault)
 
-pub begun_is : (halves : List HalfBytes) (delays : Delays) (image : Memory) (made : Result SimModule SimFault) → half_refusal halves ≡ None →
+pub begun_is : (halves : List HalfBytes) (delays : Delays) (image : Memory) (made : Result SimModule SimFault) → simulated_refusal halves ≡ None →
     image ≡ memory_of halves → IsNew image delays made → begun halves delays ≡ passed made
 begun_is halves delays image made none same new =
-    passes (half_refusal halves) (start_fault (memory_of halves) delays) made (start (memory_of halves) delays) none (subst (λ (memory : Memory). IsNew memory delays made) same new)
+    passes (simulated_refusal halves) (start_fault (memory_of halves) delays) made (start (memory_of halves) delays) none (subst (λ (memory : Memory). IsNew memory delays made) same new)
 
 -- ---- a module with its numbers
 
@@ -71,10 +71,10 @@ abbrev IsRead : Memory → Result Advertised AdvertFault → Type 0
 IsRead memory read = MatchOption (advert_fault memory) (read ≡ Ok (own_advert memory)) (λ fault. read ≡ Err fault)
 
 pub held_is : (halves : List HalfBytes) (numbers : SavedModule) (image : Memory) (read : Result Advertised AdvertFault) (advert : Advertised)
-    (sim : Option SimModule) → half_refusal halves ≡ None → image ≡ memory_of halves → IsRead image read → read ≡ Ok advert →
+    (sim : Option SimModule) → simulated_refusal halves ≡ None → image ≡ memory_of halves → IsRead image read → read ≡ Ok advert →
     sim ≡ module_in (record { image = image; advert = advert }) numbers → held halves numbers ≡ module_or sim
 held_is halves numbers image read advert sim none same advertises is made =
-    held_with (half_refusal halves) (advert_fault (memory_of halves)) read (own_advert (memory_of halves)) advert
+    held_with (simulated_refusal halves) (advert_fault (memory_of halves)) read (own_advert (memory_of halves)) advert
     (λ a. module_in (record { image = memory_of halves; advert = a }) numbers) none (subst (λ (memory : Memory). IsRead memory read) same advertises) is
     ∙ ap (λ (memory : Memory). module_or (module_in (record { image = memory; advert = advert }) numbers)) (sym same)
     ∙ ap module_or (sym made)

@@ -20,14 +20,22 @@ use Rattle.firmware_api.specs.declared.half.HalfBytes.{HalfBytes}
 use Rattle.firmware_api.specs.declared.status.Refusal.{Refusal}
 use Rattle.firmware_api.specs.declared.status.Refusal.TheVariants.{TooManyHalves, NoPlace, Advert, NoStart, NoModule, NoRange, NotTaken}
 use Rattle.firmware_api.specs.Halves.{device_of, has_place, is_device, memory_of}
-use Rattle.paged_memory.specs.Images.{most_pages}
+use Rattle.paged_memory.specs.Images.{most_large, most_pages}
 
--- of the halves themselves
-abbrev pub half_refusal : List HalfBytes → Option Refusal
-half_refusal halves =
-    if nat_lt most_pages (length halves) then Some TooManyHalves
+-- of the halves themselves, of which there may be so many
+abbrev pub refusal_over : ℕ → List HalfBytes → Option Refusal
+refusal_over most halves =
+    if nat_lt most (length halves) then Some TooManyHalves
     else (if not (list_all has_place halves) then Some NoPlace
     else None)
+
+-- of those that a small image has room for
+abbrev pub half_refusal : List HalfBytes → Option Refusal
+half_refusal halves = refusal_over most_pages halves
+
+-- a simulated module may have as many as a large image
+abbrev pub simulated_refusal : List HalfBytes → Option Refusal
+simulated_refusal halves = refusal_over most_large halves
 
 abbrev pub unless_refused : {A : Type 0} → Option Refusal → A → Result A Refusal
 unless_refused None value = Ok value
@@ -36,7 +44,7 @@ unless_refused (Some refusal) value = Err refusal
 -- the module of the halves at the start, or why there is none
 abbrev pub begun : List HalfBytes → Delays → Result SimModule Refusal
 begun halves delays =
-    unless_refused (option_or (half_refusal halves) (option_map NoStart (start_fault (memory_of halves) delays))) (start (memory_of halves) delays)
+    unless_refused (option_or (simulated_refusal halves) (option_map NoStart (start_fault (memory_of halves) delays))) (start (memory_of halves) delays)
 
 -- the numbers are those that a module has when it is saved, for C may read each
 abbrev pub AreSaved : SavedModule → Type 0
@@ -54,7 +62,7 @@ held_by None None (Some sim) = Ok sim
 
 -- the module that has these halves and these numbers, or why there is none
 abbrev pub held : List HalfBytes → SavedModule → Result SimModule Refusal
-held halves numbers = held_by (half_refusal halves) (advert_fault (memory_of halves)) (module_in (record { image = memory_of halves; advert = own_advert (memory_of halves) }) numbers)
+held halves numbers = held_by (simulated_refusal halves) (advert_fault (memory_of halves)) (module_in (record { image = memory_of halves; advert = own_advert (memory_of halves) }) numbers)
 
 -- why numbers alone are not those of a module
 abbrev pub refusal_in : {A : Type 0} → Option A → Option Refusal

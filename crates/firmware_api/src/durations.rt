@@ -30,7 +30,7 @@ pub extern "C" fn dovecounter_durations(halves: &[HalfBytes], durations: &mut Du
 {
     match read_advert(halves) {
         Ok(_advert) => {
-            put_durations(&image_of(halves), durations);
+            put_durations(&image_of(halves).view(), durations);
             DONE
         }
         Err(status) => status,

@@ -62,7 +62,7 @@ pub extern "C" fn dovecounter_flags(halves: &[HalfBytes], flags: &mut ModuleFlag
     if status != DONE {
         return status;
     }
-    put_flags(&image_of(halves), flags)
+    put_flags(&image_of(halves).view(), flags)
 }
 
 #[tactic(auto, unfolding(crate::specs::Halves::report_refusal, crate::specs::RaisedFlags::flags_in))]

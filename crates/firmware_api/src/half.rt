@@ -2,13 +2,13 @@ ghost use Rattle.std.specs.Prelude.{◌≡◌, ◌≤◌, length, MatchOption, N
 ghost use Rattle.std.specs.List.{list_all};
 ghost use Rattle.applications.specs.Advertised.{advertised_by};
 ghost use Rattle.firmware_api.specs.Halves.{advert_of, conventions_of, has_place, key_of, memory_of, module_refusal, refusal_under};
-ghost use Rattle.firmware_api.specs.SimulatedModules.{half_refusal};
+ghost use Rattle.firmware_api.specs.SimulatedModules.{half_refusal, refusal_over, simulated_refusal};
 ghost use Rattle.firmware_api.specs.Statuses.{done, status_by, status_of};
-ghost use Rattle.paged_memory.specs.Images.{most_pages};
+ghost use Rattle.paged_memory.specs.Images.{most_large, most_pages};
 
 use crate::status::{DONE, NO_PLACE, TOO_MANY_HALVES, advert_status};
 use applications::{Advert, Conventions};
-use paged_memory::{Dev, Image, Key, MAX_PAGES, PAGE_LEN, Page};
+use paged_memory::{Dev, Key, LARGE, LargeImage, OwnedImage, PAGE_LEN, Page, SMALL, SmallImage};
 
 /// 128 bytes of a module's memory, and where they stand.
 #[repr(C)]
@@ -81,13 +81,13 @@ pub fn read_advert_under(conventions: Conventions, halves: &[HalfBytes]) -> Resu
     ensures { MatchOption (refusal_under conventions halves.now) (result ≡ Ok (advert_of halves.now conventions))
         (λ refusal. result ≡ Err (status_of refusal)) }
 {
-    if halves.len() > MAX_PAGES {
+    if halves.len() > SMALL {
         return Err(TOO_MANY_HALVES);
     }
     if !all_have_places(halves) {
         return Err(NO_PLACE);
     }
-    match Advert::under(conventions, &image_of(halves)) {
+    match Advert::under(conventions, &image_of(halves).view()) {
         Ok(advert) => Ok(advert),
         Err(fault) => Err(advert_status(fault)),
     }
@@ -99,12 +99,28 @@ pub fn all_have_places(halves: &[HalfBytes]) -> bool
     halves.iter().all(|half| half.has_place())
 }
 
-/// The memory that has these halves. Of several halves at one place the first counts, so the last is put first.
-pub fn image_of(halves: &[HalfBytes]) -> Image
+/// The memory that has these halves. Of several halves at one place the first counts.
+pub fn image_of(halves: &[HalfBytes]) -> SmallImage
     requires { length halves.now ≤ most_pages }
     ensures { result ≡ memory_of halves.now }
 {
-    let mut image = Image::new();
+    owned_image_of(halves)
+}
+
+/// The same of as many halves as a large image has room for.
+pub fn large_image_of(halves: &[HalfBytes]) -> LargeImage
+    requires { length halves.now ≤ most_large }
+    ensures { result ≡ memory_of halves.now }
+{
+    owned_image_of(halves)
+}
+
+// Since the first of several halves at one place counts, the last is put first.
+fn owned_image_of<const MOST: usize>(halves: &[HalfBytes]) -> OwnedImage<MOST>
+    requires { length halves.now ≤ MOST }
+    ensures { result ≡ memory_of halves.now }
+{
+    let mut image = OwnedImage::new();
     for place in (0..halves.len()).rev() {
         let half = halves[place];
         image.put(half.key(), Page::from(half.bytes)).unwrap();
@@ -118,7 +134,25 @@ pub fn half_status(halves: &[HalfBytes]) -> u32
     ensures sound { result ≡ done → half_refusal halves.now ≡ None }
     ensures few { result ≡ done → length halves.now ≤ most_pages }
 {
-    if halves.len() > MAX_PAGES {
+    status_over(SMALL, halves)
+}
+
+/// The same of the halves of a simulated module.
+pub fn simulated_status(halves: &[HalfBytes]) -> u32
+    ensures status { result ≡ status_by (simulated_refusal halves.now) }
+    ensures sound { result ≡ done → simulated_refusal halves.now ≡ None }
+    ensures few { result ≡ done → length halves.now ≤ most_large }
+{
+    status_over(LARGE, halves)
+}
+
+// The same of halves of which there may be so many.
+fn status_over(most: usize, halves: &[HalfBytes]) -> u32
+    ensures status { result ≡ status_by (refusal_over most halves.now) }
+    ensures sound { result ≡ done → refusal_over most halves.now ≡ None }
+    ensures few { result ≡ done → length halves.now ≤ most }
+{
+    if halves.len() > most {
         TOO_MANY_HALVES
     } else if !all_have_places(halves) {
         NO_PLACE

@@ -53,7 +53,7 @@ pub extern "C" fn dovecounter_identity(halves: &[HalfBytes], identity: &mut Modu
     if status != DONE {
         return status;
     }
-    put_identity(&image_of(halves), identity)
+    put_identity(&image_of(halves).view(), identity)
 }
 
 #[tactic(auto, unfolding(crate::specs::Halves::report_refusal, crate::specs::Identities::identity_in))]

@@ -91,7 +91,7 @@ pub extern "C" fn dovecounter_judge(
     if status != DONE {
         return status;
     }
-    match judge(&image_of(halves), &change.change()) {
+    match judge(&image_of(halves).view(), &change.change()) {
         Ok(judged) => {
             *effect = effect_of(&judged);
             DONE

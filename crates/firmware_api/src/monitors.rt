@@ -61,7 +61,7 @@ pub extern "C" fn dovecounter_monitors(halves: &[HalfBytes], monitors: &mut Modu
     if status != DONE {
         return status;
     }
-    put_monitors(&image_of(halves), monitors)
+    put_monitors(&image_of(halves).view(), monitors)
 }
 
 #[tactic(auto, unfolding(crate::specs::Halves::report_refusal, crate::specs::Monitors::monitors_in))]

@@ -77,7 +77,7 @@ pub extern "C" fn dovecounter_observables(
     if status != DONE {
         return status;
     }
-    put_decoded(&image_of(halves), place, observable)
+    put_decoded(&image_of(halves).view(), place, observable)
 }
 
 #[tactic(auto, unfolding(crate::specs::ObservableNumbers::observables_refusal))]

@@ -45,7 +45,7 @@ pub extern "C" fn dovecounter_patience(halves: &[HalfBytes], patience: &mut Pati
 {
     match read_advert(halves) {
         Ok(_advert) => {
-            let given = control_sets::patience_for(&image_of(halves));
+            let given = control_sets::patience_for(&image_of(halves).view());
             *patience = Patience {
                 pause: given.pause,
                 limit: given.limit,

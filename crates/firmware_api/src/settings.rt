@@ -56,7 +56,7 @@ pub extern "C" fn dovecounter_settings(halves: &[HalfBytes], settings: &mut Modu
     if status != DONE {
         return status;
     }
-    put_settings(&image_of(halves), settings)
+    put_settings(&image_of(halves).view(), settings)
 }
 
 fn put_settings(image: &Image, settings: &mut ModuleSettings) -> u32
@@ -141,7 +141,7 @@ pub extern "C" fn dovecounter_settings_limits(halves: &[HalfBytes], limits: &mut
     if status != DONE {
         return status;
     }
-    put_limits(&image_of(halves), limits)
+    put_limits(&image_of(halves).view(), limits)
 }
 
 fn put_limits(image: &Image, limits: &mut SavedLimits) -> u32

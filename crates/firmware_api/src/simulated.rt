@@ -9,7 +9,7 @@ ghost use Rattle.firmware_api.specs.Halves.{device_of};
 ghost use Rattle.firmware_api.specs.SimulatedModules as spec;
 ghost use Rattle.firmware_api.specs.Statuses.{by_status, done, status_by, status_in};
 
-use crate::half::{HalfBytes, half_status, image_of};
+use crate::half::{HalfBytes, large_image_of, simulated_status};
 use crate::status::{DONE, NO_MODULE, NO_RANGE, NOT_TAKEN, advert_status, start_status};
 use bus_model::{Dev, Device, MAX_STORE};
 use control_sets::ControlSet;
@@ -27,11 +27,11 @@ pub extern "C" fn dovecounter_module_begin(
     ensures numbers { result ≡ done → spec.AreSaved simulated.new }
     ensures refused { result ≢ done → simulated.new ≡ simulated.old }
 {
-    let status = half_status(halves);
+    let status = simulated_status(halves);
     if status != DONE {
         return status;
     }
-    match SimModule::new(&image_of(halves), *delays) {
+    match SimModule::new(large_image_of(halves), *delays) {
         Ok(begun) => {
             *simulated = begun.save();
             DONE
@@ -158,12 +158,12 @@ pub extern "C" fn dovecounter_module_active(simulated: &SavedModule, active: &mu
 fn held(halves: &[HalfBytes], saved: &SavedModule) -> Result<SimModule, u32>
     ensures { result ≡ by_status (spec.held halves.now saved.now) }
 {
-    let status = half_status(halves);
+    let status = simulated_status(halves);
     if status != DONE {
         return Err(status);
     }
-    let image = image_of(halves);
-    match own_advert(&image) {
+    let image = large_image_of(halves);
+    match own_advert(&image.view()) {
         Ok(advert) => match SimModule::restore(image, advert, saved) {
             Some(held) => Ok(held),
             None => Err(NO_MODULE),

@@ -10,7 +10,7 @@ use crate::request::Request;
 use bus_model::Reply;
 use control_sets::MAX_STEPS;
 use conversations::{Conversation, InPieces, NeedsPages, Next, OnPage, Pausing, Within};
-use paged_memory::{Image, Key, KnownPage, PAGE_LEN, Page, PageAddressing};
+use paged_memory::{Key, KnownPage, PAGE_LEN, Page, PageAddressing, SmallImage};
 
 /// What was read of a module so far: a conversation that ends when each half was read, or left out since the module lacks it.
 #[derive(Drop)]
@@ -18,7 +18,7 @@ pub struct Halves {
     /// Which ones are read.
     pub request: Request,
     /// The halves that were read.
-    pub image: Image,
+    pub image: SmallImage,
     /// How many were read or left out.
     pub settled: usize,
 }
@@ -39,7 +39,7 @@ impl Halves {
     {
         let halves = Halves {
             request,
-            image: Image::new(),
+            image: SmallImage::new(),
             settled: 0,
         };
         let on_page = OnPage {
@@ -55,7 +55,7 @@ impl Halves {
     fn region(&self) -> Option<Region>
         ensures { result ≡ spec.in_hand self.now }
     {
-        region(self.request, &self.image, self.settled)
+        region(self.request, &self.image.view(), self.settled)
     }
 
     /// Where an image has the half in hand.
@@ -155,7 +155,7 @@ impl NeedsPages for Halves {
     fn addressing(&self) -> Option<PageAddressing> {
         match self.settled {
             0 => None,
-            _ => Some(addressing(&self.image)),
+            _ => Some(addressing(&self.image.view())),
         }
     }
 

@@ -28,6 +28,7 @@ sentences =
     ∷ record { code = codes "IM4"; text = codes "a 17th page line stands there, and an image has at most 16: leave out pages that the command does not need" }
     ∷ record { code = codes "IM5"; text = codes "the text ends before a line 'end', so it was cut off: make the image anew" }
     ∷ record { code = codes "IM6"; text = codes "a line stands after 'end': delete it, or put a line '---' before it if another part of the input begins there" }
+    ∷ record { code = codes "IM7"; text = codes "a 65th page line stands there, and an image has at most 64: leave out pages that the command does not need" }
     ∷ record { code = codes "RP1"; text = codes "modules of this identifier (byte 0 of lower A0) are not read: docs/formats.md lists those that are" }
     ∷ record { code = codes "RP2"; text = codes "the list of transactions was full while the module was read: give it room for more" }
     ∷ record { code = codes "RP3"; text = codes "4096 transactions did not read the module: without --bus the same command names the half that the image lacks" }

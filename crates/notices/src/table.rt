@@ -37,6 +37,7 @@ pub fn sentences() -> &'static [Sentence]
         "IM4" "a 17th page line stands there, and an image has at most 16: leave out pages that the command does not need";
         "IM5" "the text ends before a line 'end', so it was cut off: make the image anew";
         "IM6" "a line stands after 'end': delete it, or put a line '---' before it if another part of the input begins there";
+        "IM7" "a 65th page line stands there, and an image has at most 64: leave out pages that the command does not need";
         "RP1" "modules of this identifier (byte 0 of lower A0) are not read: docs/formats.md lists those that are";
         "RP2" "the list of transactions was full while the module was read: give it room for more";
         "RP3" "4096 transactions did not read the module: without --bus the same command names the half that the image lacks";

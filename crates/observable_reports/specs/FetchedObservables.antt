@@ -15,13 +15,13 @@ use Rattle.reports.specs.declared.fault.ReportFault.TheVariants.{Bus}
 use Rattle.vdm_reading.specs.declared.reading.VdmReading.{VdmReading}
 use Rattle.vdm_reading.specs.declared.reading.VdmStage.TheVariants.{Over}
 use Rattle.vdm_reading.specs.VdmAccounts.{EachIsWanted, reading_after}
-use Rattle.vdm_reading.specs.VdmStages.{key_of, put_in}
+use Rattle.vdm_reading.specs.VdmStages.{key_of}
 
 -- ---- the memory with the statistics
 
--- a page of another memory that has it, where there is room
+-- a page of another memory, if that has it
 abbrev pub with_page : Memory → ℕ → Memory → Memory
-with_page from page memory = option_map_or (λ bytes. put_in memory page bytes) (map.get from (key_of page)) memory
+with_page from page memory = option_map_or (λ bytes. map.insert memory (key_of page) bytes) (map.get from (key_of page)) memory
 
 unfoldable pub with_pages : Memory → List ℕ → Memory → Memory
 with_pages from [] memory = memory

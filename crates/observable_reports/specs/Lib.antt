@@ -4,3 +4,4 @@ pub mod ObservationJson
 pub mod Answered
 pub mod WrittenAmounts
 pub mod FetchedObservables
+pub mod SameStatistics

@@ -1,4 +1,5 @@
-//! What holds of the amounts that reports show. Each function is a theorem: its contract says it, and its body is empty.
+//! What holds of the amounts that reports show, and of statistics that are read over a bus. Each function is a theorem: its contract says it, and its body is empty.
+ghost use Rattle.observable_reports.specs.SameStatistics.{StatisticsSame};
 ghost use Rattle.observable_reports.specs.WrittenAmounts.{EachAmountIsWritten, EachWordIsANumber};
 
 /// The text of an amount writes exactly that number, or, if it has no end in decimal, that number rounded down to thousandths.
@@ -11,4 +12,10 @@ pub fn each_amount_is_written()
 #[tactic(auto, using(crate::proofs::WordNumbers::each_is_a_number))]
 pub fn each_word_is_a_number()
     ensures { EachWordIsANumber }
+{}
+
+/// Over a scripted bus with a new window of an image, whatever the script refuses or cuts short: each page of statistics that
+/// `fetch_observables` answers is as in the window's image.
+pub fn statistics_are_read_as_the_module_has_them()
+    ensures { StatisticsSame }
 {}

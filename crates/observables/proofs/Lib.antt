@@ -11,3 +11,4 @@ pub mod DescribedPlaces
 pub mod Times
 pub mod PlacesOfList
 pub mod Floors
+pub mod BankLanes

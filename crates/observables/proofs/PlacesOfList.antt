@@ -6,7 +6,7 @@ use Rattle.paged_memory.specs.Images.{Memory}
 use Rattle.observables.specs.declared.monitor.Monitor.{Monitor}
 use Rattle.observables.specs.Observations.{EachInstanceHasAPlace, EachMonitorHasAPlace, all_places, measured, monitor_of, monitor_places, monitored, observation_at, observed}
 
-at_monitor : (memory : Memory) (place n lane : ℕ) → nat_lt place monitor_places ≡ true → place / 8 ≡ n → place % 8 + 1 ≡ lane
+at_monitor : (memory : Memory) (place n lane : ℕ) → nat_lt place monitor_places ≡ true → place / 32 ≡ n → place % 32 + 1 ≡ lane
     → observation_at memory place ≡ monitored memory n lane
 unfolding observation_at
 at_monitor memory place n lane within number of_lane = rw (within, number, of_lane) refl
@@ -24,7 +24,7 @@ not_below place least more = grind (arith, nat_tests)
 
 pub each_monitor : EachMonitorHasAPlace
 each_monitor memory n lane few from to =
-    at_monitor memory (8 * n + (lane - 1)) n lane (below (8 * n + (lane - 1)) monitor_places (omega (arith, few, from, to))) (omega (arith, from, to)) (omega (arith, from, to))
+    at_monitor memory (32 * n + (lane - 1)) n lane (below (32 * n + (lane - 1)) monitor_places (omega (arith, few, from, to))) (omega (arith, from, to)) (omega (arith, from, to))
 
 pub each_instance : EachInstanceHasAPlace
 each_instance memory bank n few within =
@@ -33,16 +33,16 @@ each_instance memory bank n few within =
 
 -- ---- those of one monitor
 
-found_there : (memory : Memory) (n place : ℕ) (found : Option Monitor) → 8 * n < monitor_places → 8 * n ≤ place → place < 8 * (n + 1) → monitor_of memory n ≡ found
-    → observation_at memory place ≡ option_and_then (λ monitor. measured memory monitor (place % 8 + 1)) found
+found_there : (memory : Memory) (n place : ℕ) (found : Option Monitor) → 32 * n < monitor_places → 32 * n ≤ place → place < 32 * (n + 1) → monitor_of memory n ≡ found
+    → observation_at memory place ≡ option_and_then (λ monitor. measured memory monitor (place % 32 + 1)) found
 found_there memory n place found few from to is =
-    at_monitor memory place n (place % 8 + 1) (below place monitor_places (omega (arith, few, to))) (omega (arith, from, to)) refl
-    ∙ ap (λ (those : Option Monitor). option_and_then (λ monitor. measured memory monitor (place % 8 + 1)) those) is
+    at_monitor memory place n (place % 32 + 1) (below place monitor_places (omega (arith, few, to))) (omega (arith, from, to)) refl
+    ∙ ap (λ (those : Option Monitor). option_and_then (λ monitor. measured memory monitor (place % 32 + 1)) those) is
 
-pub of_monitor : (memory : Memory) (n place : ℕ) (monitor : Monitor) → 8 * n < monitor_places → 8 * n ≤ place → place < 8 * (n + 1)
-    → monitor_of memory n ≡ Some monitor → observation_at memory place ≡ measured memory monitor (place % 8 + 1)
+pub of_monitor : (memory : Memory) (n place : ℕ) (monitor : Monitor) → 32 * n < monitor_places → 32 * n ≤ place → place < 32 * (n + 1)
+    → monitor_of memory n ≡ Some monitor → observation_at memory place ≡ measured memory monitor (place % 32 + 1)
 of_monitor memory n place monitor few from to is = found_there memory n place (Some monitor) few from to is
 
-pub of_no_monitor : (memory : Memory) (n place : ℕ) → 8 * n < monitor_places → 8 * n ≤ place → place < 8 * (n + 1) → monitor_of memory n ≡ None
+pub of_no_monitor : (memory : Memory) (n place : ℕ) → 32 * n < monitor_places → 32 * n ≤ place → place < 32 * (n + 1) → monitor_of memory n ≡ None
     → observation_at memory place ≡ None
 of_no_monitor memory n place few from to is = found_there memory n place None few from to is

@@ -1,4 +1,5 @@
 pub mod Words
+pub mod Banks
 pub mod Descriptors
 pub mod Quantities
 pub mod Observables

@@ -1,4 +1,4 @@
--- What a module measures, as one list: the monitors of its family at fixed places, lane by lane, then the instances of four banks.
+-- What a module measures, as one list: the monitors of its family at fixed places, lane by lane, then the instances, both of four banks.
 -- (OIF-CMIS-05.0, "Versatile Diagnostics Monitoring" and "Management Memory Map": bank b has lanes 8 * b + 1 and on; this project's own
 -- order)
 use Rattle.std.specs.Prelude.{◌≡◌, ℕ, zero, suc, ◌+◌, ◌-◌, ◌*◌, ◌/◌, ◌%◌, ◌<◌, ◌≤◌, ◌==◌, ◌&&◌, nat_le, nat_lt, Bool, false, if◌then◌else◌, List, [], ◌++◌, Option, Some, None, option_map, option_and_then, option_to_list}
@@ -25,6 +25,7 @@ use Rattle.observables.specs.declared.quantity.Quantity.TheVariants.{LevelTransi
 use Rattle.observables.specs.declared.quantity.Scope.{Scope}
 use Rattle.observables.specs.declared.quantity.Scope.TheVariants.{Module, Lane, DataPath}
 use Rattle.observables.specs.Amounts.{amount_of}
+use Rattle.observables.specs.Banks.{bank_count, lanes_of_bank}
 use Rattle.observables.specs.CmisMonitors.{cmis_monitor}
 use Rattle.observables.specs.Instances.{instance_at}
 use Rattle.observables.specs.Monitored.{amount_at, flags_in_lane, is_advertised, is_present, limit_amounts, no_limits}
@@ -52,10 +53,10 @@ monitor_by memory n families.Sff8472 = sfp_monitor n
 abbrev pub monitor_of : Memory → ℕ → Option Monitor
 monitor_of memory n = option_and_then (monitor_by memory n) (managed_by (number memory CIdentifier))
 
-abbrev pub monitor_observation : Memory → Monitor → ℕ → Observation
-monitor_observation memory monitor lane = record {
+abbrev pub monitor_observation : Memory → Monitor → ℕ → ℕ → Observation
+monitor_observation memory monitor bank lane = record {
   observable = record { quantity = monitor.quantity; figure = Now; side = Media };
-  subject = subject_of monitor.scope Media lane;
+  subject = subject_of monitor.scope Media (8 * bank + lane);
   unit = (quantity_row monitor.quantity).unit;
   amount = amount_at memory monitor monitor.values lane;
   limits = limit_amounts memory monitor;
@@ -63,10 +64,17 @@ monitor_observation memory monitor lane = record {
   advertised = is_advertised memory monitor.advert;
 }
 
--- if the monitor has that lane and its half is there
+-- in a lane of a bank, if the monitor has that lane and its half is there
+abbrev pub measured_in_bank : Memory → Monitor → ℕ → ℕ → Option Observation
+measured_in_bank memory monitor bank lane =
+    if nat_le lane (row_of monitor.values).count && is_present memory monitor.values then Some (monitor_observation memory monitor bank lane) else None
+
+-- a lane above 8 is of a further bank, if the module has that
 abbrev pub measured : Memory → Monitor → ℕ → Option Observation
 measured memory monitor lane =
-    if nat_le lane (row_of monitor.values).count && is_present memory monitor.values then Some (monitor_observation memory monitor lane) else None
+    if nat_le lane 8 then measured_in_bank memory monitor 0 lane
+    else if nat_lt ((lane - 1) / 8) (bank_count memory) then measured_in_bank (lanes_of_bank memory ((lane - 1) / 8)) monitor ((lane - 1) / 8) ((lane - 1) % 8 + 1)
+    else None
 
 abbrev pub monitored : Memory → ℕ → ℕ → Option Observation
 monitored memory n lane = option_and_then (λ monitor. measured memory monitor lane) (monitor_of memory n)
@@ -113,9 +121,9 @@ observed memory bank n = if is_family families.Cmis (managed_by (number memory C
 
 -- ---- the list
 
--- the first places are of monitors: sixteen of eight lanes, more than any family has
+-- the first places are of monitors: sixteen, more than any family has, of 32 lanes
 abbrev pub monitor_places : ℕ
-monitor_places = 128
+monitor_places = 512
 
 -- those after them are of instances: four banks of 256
 abbrev pub instance_places : ℕ
@@ -126,7 +134,7 @@ all_places = monitor_places + instance_places
 
 unfoldable pub observation_at : Memory → ℕ → Option Observation
 observation_at memory place =
-    if nat_lt place monitor_places then monitored memory (place / 8) (place % 8 + 1)
+    if nat_lt place monitor_places then monitored memory (place / 32) (place % 32 + 1)
     else if nat_lt place all_places then observed memory ((place - monitor_places) / 256) ((place - monitor_places) % 256)
     else None
 
@@ -145,7 +153,7 @@ pub record IsNextObservation (memory : Memory) (from : ℕ) (found : ℕ × Obse
 -- each monitor of the family has a place for each lane
 abbrev pub EachMonitorHasAPlace : Type 0
 EachMonitorHasAPlace =
-    (memory : Memory) (n lane : ℕ) → 8 * n < monitor_places → 1 ≤ lane → lane ≤ 8 → observation_at memory (8 * n + (lane - 1)) ≡ monitored memory n lane
+    (memory : Memory) (n lane : ℕ) → 32 * n < monitor_places → 1 ≤ lane → lane ≤ 32 → observation_at memory (32 * n + (lane - 1)) ≡ monitored memory n lane
 
 -- each instance of four banks has a place
 abbrev pub EachInstanceHasAPlace : Type 0

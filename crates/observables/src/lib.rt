@@ -3,6 +3,7 @@
 #![tactic(auto)]
 
 mod amount;
+mod banks;
 mod descriptor;
 mod fixed;
 mod instance;
@@ -23,6 +24,7 @@ mod tables;
 mod words;
 
 pub use amount::{Amount, steps};
+pub use banks::{bank_count, lanes_of_bank};
 pub use descriptor::Descriptor;
 pub use fixed::{Fixed, Places};
 pub use instance::{INSTANCES, Instance, instance_at, next_instance};

@@ -4,6 +4,7 @@ ghost use Rattle.observables.specs.Monitors.{MonitorFits};
 ghost use Rattle.observables.specs.Observations as spec;
 
 use crate::amount::Amount;
+use crate::banks::{bank_count, lanes_of_bank};
 use crate::instance::{Instance, instance_at};
 use crate::monitor::Monitor;
 use crate::monitored::{amount_at, flags_in_lane, is_advertised, is_present, limit_amounts};
@@ -14,11 +15,11 @@ use crate::tables::{cmis_monitor, qsfp_monitor, sfp_monitor};
 use field_tables::{Field, PerLimit, number, row};
 use paged_memory::{Family, Image};
 
-/// How many places of the list are of monitors, sixteen of eight lanes. Those of four banks of instances follow.
-pub const MONITOR_PLACES: u16 = 128;
+/// How many places of the list are of monitors, sixteen of 32 lanes. Those of four banks of instances follow.
+pub const MONITOR_PLACES: u16 = 512;
 
-/// How many of them each monitor has, one for each lane.
-pub const LANES: u16 = 8;
+/// How many of them each monitor has, one for each lane of four banks.
+pub const LANES: u16 = 32;
 
 // How many places the list has.
 const PLACES: u16 = MONITOR_PLACES + 4 * 256;
@@ -65,7 +66,7 @@ pub fn observation_at(image: &Image, place: u16) -> Option<Observation>
 // What a monitor of the module's family measures in a lane.
 fn monitored(image: &Image, monitor: u8, lane: u8) -> Option<Observation>
     requires first { 1 ≤ lane }
-    requires last { lane ≤ 8 }
+    requires last { lane ≤ 32 }
     ensures { result ≡ spec.monitored image.now monitor lane }
 {
     let monitor = monitor_of(image, monitor)?;
@@ -83,11 +84,30 @@ pub(crate) fn monitor_of(image: &Image, monitor: u8) -> Option<Monitor>
     }
 }
 
-// What is measured in a lane, if the monitor has that lane and its half is there.
+// What is measured in a lane: one above 8 is of a further bank, if the module has that.
 pub(crate) fn measured(image: &Image, monitor: Monitor, lane: u8) -> Option<Observation>
     requires fits { MonitorFits monitor }
     requires first { 1 ≤ lane }
+    requires last { lane ≤ 32 }
     ensures { result ≡ spec.measured image.now monitor lane }
+{
+    if lane <= 8 {
+        return measured_in_bank(image, monitor, 0, lane);
+    }
+    let bank = (lane - 1) / 8;
+    if bank >= bank_count(image) {
+        return None;
+    }
+    let lanes = lanes_of_bank(image, bank);
+    measured_in_bank(&lanes.view(), monitor, bank, (lane - 1) % 8 + 1)
+}
+
+// What is measured in a lane of a bank, if the monitor has that lane and its half is there.
+fn measured_in_bank(image: &Image, monitor: Monitor, bank: u8, lane: u8) -> Option<Observation>
+    requires fits { MonitorFits monitor }
+    requires bank { bank < 4 }
+    requires first { 1 ≤ lane }
+    ensures { result ≡ spec.measured_in_bank image.now monitor bank lane }
 {
     let count = row(monitor.values).count;
     if count < lane || !is_present(image, monitor.values) {
@@ -99,7 +119,7 @@ pub(crate) fn measured(image: &Image, monitor: Monitor, lane: u8) -> Option<Obse
             figure: Figure::Now,
             side: Side::Media,
         },
-        subject: subject_of(monitor.scope, Side::Media, lane),
+        subject: subject_of(monitor.scope, Side::Media, 8 * bank + lane),
         unit: quantity_row(monitor.quantity).unit,
         amount: amount_at(image, monitor, monitor.values, lane),
         limits: limit_amounts(image, monitor),

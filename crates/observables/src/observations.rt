@@ -48,9 +48,9 @@ pub fn next_observation(image: &Image, from: u16) -> Option<(u16, Observation)>
 
 // The first from a place on of those of a monitor: none if the module's family lacks it.
 fn next_of_monitor(image: &Image, number: u16, from: u16) -> Option<(u16, Observation)>
-    requires { 8 * number < monitor_places }
-    ensures first { MatchOption result ((k : ℕ) → max from (8 * number) ≤ k → k < 8 * (number + 1) → spec.observation_at image.now k ≡ None)
-        (IsNextObservation image.now (max from (8 * number))) }
+    requires { 32 * number < monitor_places }
+    ensures first { MatchOption result ((k : ℕ) → max from (32 * number) ≤ k → k < 32 * (number + 1) → spec.observation_at image.now k ≡ None)
+        (IsNextObservation image.now (max from (32 * number))) }
 {
     let Some(monitor) = monitor_of(image, number as u8) else {
         return None;
@@ -66,9 +66,9 @@ fn next_of_monitor(image: &Image, number: u16, from: u16) -> Option<(u16, Observ
 
 // The observation at a place of those of a monitor.
 fn measured_at(image: &Image, _number: u16, monitor: Monitor, place: u16) -> Option<Observation>
-    requires few { 8 * _number < monitor_places }
-    requires first { 8 * _number ≤ place }
-    requires last { place < 8 * (_number + 1) }
+    requires few { 32 * _number < monitor_places }
+    requires first { 32 * _number ≤ place }
+    requires last { place < 32 * (_number + 1) }
     requires row { spec.monitor_of image.now _number ≡ Some monitor }
     requires fits { MonitorFits monitor }
     ensures { result ≡ spec.observation_at image.now place }

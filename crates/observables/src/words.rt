@@ -7,7 +7,7 @@ use bus_model::Dev;
 use paged_memory::{Image, Key, PAGE_LEN, Page};
 
 /// A page of a bank.
-pub fn page_of(image: &Image, bank: u8, page: u8) -> Option<&Page>
+pub fn page_of<'a>(image: &Image<'a>, bank: u8, page: u8) -> Option<&'a Page>
     ensures { option_copied result ≡ spec.page_of image.now bank page }
 {
     image.page(Key::upper(Dev::A0, bank, page))

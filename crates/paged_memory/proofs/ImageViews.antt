@@ -1,9 +1,9 @@
 -- An image as the map of the entries that it keeps.
-use Rattle.std.proofs.Common.{◌≡◌, ◌↔◌, ℕ, Bool, true, false, length, List, [], Option, Some, None, refl, sym, ap, subst, ◌∙◌, ◌∷◌, ◌≤◌, ◌+◌, ◌≢◌, cond, arith}
+use Rattle.std.proofs.Common.{◌≡◌, ◌↔◌, ℕ, Bool, true, false, length, List, [], Option, Some, None, refl, sym, ap, subst, ◌∙◌, ◌∷◌}
 use Rattle.std.specs.Prelude.{is_some}
 use lib.Dec.{T}
 use Rattle.std.specs.FinMap as map
-use Rattle.std.specs.FinMap.Entries.{put, by_order, length-put}
+use Rattle.std.specs.FinMap.Entries.{put, by_order}
 use Rattle.std.specs.List.{AllByRecursion}
 use Rattle.std.specs.declared.cmp.Ordering.TheVariants.{Less, Equal, Greater}
 use Rattle.paged_memory.specs.declared.key.Key.{Key}
@@ -52,10 +52,10 @@ module _ (es : Entries) (sorted : Sorted es) (key : Key) (page : List ℕ) where
 
 -- an image has what its entries are
 pub is_image : (es : Entries) → AreEntries es → IsImage (image_of es)
-is_image es h = record { room = omega (arith, len_of es h.sorted, h.room); each = rw (entries_of es h.sorted) h.each }
+is_image es h = record { each = rw (entries_of es h.sorted) h.each }
 
 pub are_entries : (es : Entries) → Sorted es → IsImage (image_of es) → AreEntries es
-are_entries es sorted h = record { sorted = sorted; room = omega (arith, len_of es sorted, h.room); each = rw (entries_of es sorted) at h.each }
+are_entries es sorted h = record { sorted = sorted; each = rw (entries_of es sorted) at h.each }
 
 abbrev Fit : Key × List ℕ → Type 0
 Fit e = IsEntry e.0 e.1
@@ -70,15 +70,9 @@ put_fits key page fit (e ∷ es) each =
       | Greater ↦ (each.0, put_fits key page fit es each.1)
     ]
 
-room_left : (n : ℕ) (o : Option (List ℕ)) → n ≤ 16 → ((n ≡ 16) × (o ≡ None) → ⊥) → cond (is_some o) n (n + 1) ≤ 16
-room_left n None h left = let free : n ≢ 16 = λ e. left (e, refl) in omega arith
-room_left n (Some page) h left = h
-
-pub put_kept : (es : Entries) (key : Key) (page : List ℕ) → AreEntries es → IsEntry key page
-    → ((length es ≡ 16) × (map.find key_cmp key es ≡ None) → ⊥) → AreEntries (put key_cmp key page es)
-put_kept es key page h fit left = record {
+pub put_kept : (es : Entries) (key : Key) (page : List ℕ) → AreEntries es → IsEntry key page → AreEntries (put key_cmp key page es)
+put_kept es key page h fit = record {
   sorted = put_sorted es h.sorted key page;
-  room = subst (λ n. n ≤ 16) (sym (length-put key_cmp keys_total key page es (test_of _ h.sorted))) (room_left (length es) (map.find key_cmp key es) h.room left);
   each = put_fits key page fit es h.each;
 }
 

@@ -1,5 +1,5 @@
 -- Lines have one answer at most.
-use Rattle.std.proofs.Common.{◌≡◌, ◌≢◌, ℕ, ◌<◌, true, List, [], ◌∷◌, ◌++◌, length, map, Result, Ok, Err, refl, sym, ap, subst, ◌∙◌, ◌⊎◌, inl, inr, arith}
+use Rattle.std.proofs.Common.{◌≡◌, ◌≢◌, ℕ, ◌<◌, ◌≤◌, true, List, [], ◌∷◌, ◌++◌, length, map, slice_index, Result, Ok, Err, refl, sym, ap, subst, ◌∙◌, ◌⊎◌, inl, inr, arith}
 use Rattle.std.specs.Ordering.{is_lt}
 use Rattle.std.specs.declared.cmp.Ordering.TheVariants.{Less}
 use Rattle.std.specs.List.{AllByRecursion}
@@ -10,10 +10,13 @@ use Rattle.std.proofs.lemmas.List.Elements.{All-from_recursion}
 use Rattle.std.proofs.lemmas.Bool.{and_parts}
 use Rattle.paged_memory.specs.declared.key.Key.{Key}
 use Rattle.paged_memory.specs.declared.fault.ImageFault.{ImageFault}
-use Rattle.paged_memory.specs.declared.fault.ImageFault.TheVariants.{BadHeader, BadLine, OutOfOrder, TooManyPages, NoEnd, AfterEnd}
+use Rattle.paged_memory.specs.declared.fault.ImageFault.TheVariants.{BadHeader, BadLine, OutOfOrder, TooManyPages, NoEnd, AfterEnd, SixtyFifthPage}
 use Rattle.paged_memory.specs.Images.{Memory}
 use Rattle.paged_memory.specs.KeyOrder.{key_cmp}
-use Rattle.paged_memory.specs.ImageText.{header, end_line, IsImage}
+use Rattle.paged_memory.specs.declared.text_version.TextVersion.{TextVersion}
+use Rattle.paged_memory.specs.declared.text_version.TextVersion.TheVariants.{One, Two}
+use Rattle.paged_memory.specs.TextVersions.{header, most_in}
+use Rattle.paged_memory.specs.ImageText.{end_line, IsImage}
 use Rattle.paged_memory.specs.ImageFaults.{Begins, FirstOf, NoFault, IsAboveAll, IsLineFault, IsAnswer}
 use Rattle.paged_memory.proofs.ImageViews.{Entries, Sorted, true_of}
 use Rattle.paged_memory.proofs.Reading.{line_of, Fits}
@@ -35,9 +38,9 @@ abbrev Ends : Memory → Lines → Answer → Type 0
 Ends m [] a = a ≡ Ok m
 Ends m (line ∷ rest) a = a ≡ Err AfterEnd
 
-abbrev Stop : Memory → Lines → Answer → Type 0
-Stop m [] a = a ≡ Err NoEnd
-Stop m (line ∷ rest) a = ((line ≡ end_line) × Ends m rest a) ⊎ ((fault : ImageFault) × IsLineFault m line fault × (a ≡ Err fault))
+abbrev Stop : TextVersion → Memory → Lines → Answer → Type 0
+Stop v m [] a = a ≡ Err NoEnd
+Stop v m (line ∷ rest) a = ((line ≡ end_line) × Ends m rest a) ⊎ ((fault : ImageFault) × IsLineFault v m line fault × (a ≡ Err fault))
 
 -- the first of several faults is one
 abbrev IsOne : (ImageFault → Type 0) → Type 0
@@ -52,19 +55,19 @@ first_is_one Applies this Rest one f g (inl p) (inr q) = absurd (q.0 p.0)
 first_is_one Applies this Rest one f g (inr p) (inl q) = absurd (p.0 q.0)
 first_is_one Applies this Rest one f g (inr p) (inr q) = one f g p.1 q.1
 
-same_fault : (m : Memory) (line : List ℕ) (f g : ImageFault) → IsLineFault m line f → IsLineFault m line g → f ≡ g
-same_fault m line f g p q = first_is_one _ _ _ (first_is_one _ _ _ (first_is_one _ _ _ none_is_one)) f g p.1 q.1
+same_fault : (v : TextVersion) (m : Memory) (line : List ℕ) (f g : ImageFault) → IsLineFault v m line f → IsLineFault v m line g → f ≡ g
+same_fault v m line f g p q = first_is_one _ _ _ (first_is_one _ _ _ (first_is_one _ _ _ none_is_one)) f g p.1 q.1
 
 same_end : (m : Memory) (rest : Lines) (a b : Answer) → Ends m rest a → Ends m rest b → a ≡ b
 same_end m [] a b p q = p ∙ sym q
 same_end m (line ∷ rest) a b p q = p ∙ sym q
 
-same_stop : (m : Memory) (rest : Lines) (a b : Answer) → Stop m rest a → Stop m rest b → a ≡ b
-same_stop m [] a b p q = p ∙ sym q
-same_stop m (line ∷ rest) a b (inl p) (inl q) = same_end m rest a b p.1 q.1
-same_stop m (line ∷ rest) a b (inl p) (inr q) = absurd (q.1.0 p.0)
-same_stop m (line ∷ rest) a b (inr p) (inl q) = absurd (p.1.0 q.0)
-same_stop m (line ∷ rest) a b (inr p) (inr q) = p.2 ∙ ap failed (same_fault m line p.0 q.0 p.1 q.1) ∙ sym q.2
+same_stop : (v : TextVersion) (m : Memory) (rest : Lines) (a b : Answer) → Stop v m rest a → Stop v m rest b → a ≡ b
+same_stop v m [] a b p q = p ∙ sym q
+same_stop v m (line ∷ rest) a b (inl p) (inl q) = same_end m rest a b p.1 q.1
+same_stop v m (line ∷ rest) a b (inl p) (inr q) = absurd (q.1.0 p.0)
+same_stop v m (line ∷ rest) a b (inr p) (inl q) = absurd (p.1.0 q.0)
+same_stop v m (line ∷ rest) a b (inr p) (inr q) = p.2 ∙ ap failed (same_fault v m line p.0 q.0 p.1 q.1) ∙ sym q.2
 
 -- ---- reading doesn't stop before a page line that goes on
 
@@ -72,14 +75,14 @@ no_first : (Applies : Type 0) (this : ImageFault) (Rest : ImageFault → Type 0)
 no_first Applies this Rest not later f (inl p) = not p.0
 no_first Applies this Rest not later f (inr p) = later f p.1
 
-goes_on : (m : Memory) (e : Key × List ℕ) (rest : Lines) (a : Answer) → Fits e → IsAboveAll m e.0 → finmap.len m < 16 → Stop m (line_of e ∷ rest) a → ⊥
-goes_on m e rest a fits above room (inl end) = not_end e.0 e.1 fits end.0
-goes_on m e rest a fits above room (inr stop) =
+goes_on : (v : TextVersion) (m : Memory) (e : Key × List ℕ) (rest : Lines) (a : Answer) → Fits e → IsAboveAll m e.0 → finmap.len m < most_in v → Stop v m (line_of e ∷ rest) a → ⊥
+goes_on v m e rest a fits above room (inl end) = not_end e.0 e.1 fits end.0
+goes_on v m e rest a fits above room (inr stop) =
     no_first _ _ _ (λ bad. bad (e.0, e.1, (fits, refl)))
     (no_first _ _ _ (λ late.
     let same = same_entry e.0 late.0 e.1 late.1 fits late.2.0 late.2.1 in
     late.3 (subst (IsAboveAll m) same.0 above))
-    (no_first _ _ _ (λ full. omega (arith, full, room)) (λ f none. none)))
+    (no_first _ _ _ (λ filled. omega (arith, filled, room)) (λ f none. none)))
     stop.0 stop.1.1
 
 -- ---- two ways to read the same lines as page lines and a rest
@@ -121,47 +124,63 @@ sorted_entries : (m : Memory) → Sorted (finmap.entries m)
 sorted_entries m = true_of _ (finmap.entries_sorted m)
 
 -- one way that goes further has stopped too late, or both stop at one place
-later : (m n : Memory) (r s : Lines) (a b : Answer) → IsImage n → Stop m r a → Stop n s b → Longer (finmap.entries m) r (finmap.entries n) s → a ≡ b
-later m n r s a b image p q ([], same, rest) =
+later : (v : TextVersion) (m n : Memory) (r s : Lines) (a b : Answer) → IsImage n → finmap.len n ≤ most_in v → Stop v m r a → Stop v n s b → Longer (finmap.entries m) r (finmap.entries n) s → a ≡ b
+later v m n r s a b image few p q ([], same, rest) =
     let one : n ≡ m = finmap.same_entries_map n m (same ∙ append-nil (finmap.entries m)) in
-    same_stop m s a b (subst (λ x. Stop m x a) rest p) (subst (λ x. Stop x s b) one q)
-later m n r s a b image p q (e ∷ more, same, rest) =
+    same_stop v m s a b (subst (λ x. Stop v m x a) rest p) (subst (λ x. Stop v x s b) one q)
+later v m n r s a b image few p q (e ∷ more, same, rest) =
     let es = finmap.entries m in
     let sorted : Sorted (es ++ e ∷ more) = subst Sorted same (sorted_entries n) in
     let fits : Fits e = fits_at es more e (subst (AllByRecursion Fits) same image.each) in
     let above : IsAboveAll m e.0 = All-from_recursion (λ x. key_cmp x.0 e.0 ≡ Less) es (above_at es more e sorted) in
-    let room : finmap.len m < 16 = omega (arith, finmap.len-entries m, finmap.len-entries n, ap (λ (l : Entries). length l) same, length-append es (e ∷ more), image.room) in
-    absurd (goes_on m e (map line_of more ++ s) a fits above room (subst (λ x. Stop m x a) rest p))
+    let room : finmap.len m < most_in v = omega (arith, finmap.len-entries m, finmap.len-entries n, ap (λ (l : Entries). length l) same, length-append es (e ∷ more), few) in
+    absurd (goes_on v m e (map line_of more ++ s) a fits above room (subst (λ x. Stop v m x a) rest p))
 
-tails : (x : List ℕ) (a b : Lines) → x ∷ a ≡ x ∷ b → a ≡ b
-tails x a b e = cc
+tails : (x y : List ℕ) (a b : Lines) → x ∷ a ≡ y ∷ b → a ≡ b
+tails x y a b e = cc
+
+firsts : (x y : List ℕ) (a b : Lines) → x ∷ a ≡ y ∷ b → x ≡ y
+firsts x y a b e = cc
+
+-- two versions differ in the last byte of their first lines
+same_version : (v w : TextVersion) → header v ≡ header w → v ≡ w
+unfolding header
+same_version One One e = refl
+same_version One Two e = let last = ap (λ line. slice_index line 13) e in absurd (omega (arith, last))
+same_version Two One e = let last = ap (λ line. slice_index line 13) e in absurd (omega (arith, last))
+same_version Two Two e = refl
 
 -- ---- every answer is one of these two
 
 abbrev Stopped : Lines → Answer → Type 0
-Stopped lines a = (m : Memory) × (rest : Lines) × Begins lines m rest × Stop m rest a
+Stopped lines a = (v : TextVersion) × (m : Memory) × (rest : Lines) × Begins v lines m rest × Stop v m rest a
 
 abbrev NoHeader : Lines → Answer → Type 0
-NoHeader lines a = (a ≡ Err BadHeader) × ((rest : Lines) → lines ≢ header ∷ rest)
+NoHeader lines a = (a ≡ Err BadHeader) × ((v : TextVersion) (rest : Lines) → lines ≢ header v ∷ rest)
 
 shown : (lines : Lines) (a : Answer) → IsAnswer lines a → Stopped lines a ⊎ NoHeader lines a
-shown lines (Ok m) h = inl (m, end_line ∷ [], record { lines_are = h.lines_are; image = h.image }, inl (refl, refl))
+shown lines (Ok m) h = inl (h.version, m, end_line ∷ [], record { lines_are = h.lines_are; image = h.image; room = h.room }, inl (refl, refl))
 shown lines (Err BadHeader) h = inr (refl, h)
-shown lines (Err (BadLine n)) h = inl (h.0, h.1 ∷ h.2, h.3, inr (BadLine n, h.4, refl))
-shown lines (Err (OutOfOrder n)) h = inl (h.0, h.1 ∷ h.2, h.3, inr (OutOfOrder n, h.4, refl))
-shown lines (Err TooManyPages) h = inl (h.0, h.1 ∷ h.2, h.3, inr (TooManyPages, h.4, refl))
-shown lines (Err NoEnd) h = inl (h.0, [], h.1, refl)
-shown lines (Err AfterEnd) h = inl (h.0, end_line ∷ h.1 ∷ h.2, h.3, inl (refl, refl))
+shown lines (Err (BadLine n)) h = inl (h.0, h.1, h.2 ∷ h.3, h.4, inr (BadLine n, h.5, refl))
+shown lines (Err (OutOfOrder n)) h = inl (h.0, h.1, h.2 ∷ h.3, h.4, inr (OutOfOrder n, h.5, refl))
+shown lines (Err TooManyPages) h = inl (h.0, h.1, h.2 ∷ h.3, h.4, inr (TooManyPages, h.5, refl))
+shown lines (Err SixtyFifthPage) h = inl (h.0, h.1, h.2 ∷ h.3, h.4, inr (SixtyFifthPage, h.5, refl))
+shown lines (Err NoEnd) h = inl (h.0, h.1, [], h.2, refl)
+shown lines (Err AfterEnd) h = inl (h.0, h.1, end_line ∷ h.2 ∷ h.3, h.4, inl (refl, refl))
 
 agree : (lines : Lines) (a b : Answer) → Stopped lines a ⊎ NoHeader lines a → Stopped lines b ⊎ NoHeader lines b → a ≡ b
 agree lines a b (inl p) (inl q) =
-    let same = tails header (map line_of (finmap.entries p.0) ++ p.1) (map line_of (finmap.entries q.0) ++ q.1) (sym p.2.lines_are ∙ q.2.lines_are) in
-    elim (compare (finmap.entries p.0) (finmap.entries q.0) p.1 q.1 p.2.image.each q.2.image.each same) [
-      | inl l ↦ later p.0 q.0 p.1 q.1 a b q.2.image p.3 q.3 l
-      | inr l ↦ sym (later q.0 p.0 q.1 p.1 b a p.2.image q.3 p.3 l)
+    let lines_same = sym p.3.lines_are ∙ q.3.lines_are in
+    let same = tails (header p.0) (header q.0) (map line_of (finmap.entries p.1) ++ p.2) (map line_of (finmap.entries q.1) ++ q.2) lines_same in
+    let one = same_version p.0 q.0 (firsts (header p.0) (header q.0) (map line_of (finmap.entries p.1) ++ p.2) (map line_of (finmap.entries q.1) ++ q.2) lines_same) in
+    let stop : Stop q.0 p.1 p.2 a = subst (λ v. Stop v p.1 p.2 a) one p.4 in
+    let few : finmap.len p.1 ≤ most_in q.0 = subst (λ v. finmap.len p.1 ≤ most_in v) one p.3.room in
+    elim (compare (finmap.entries p.1) (finmap.entries q.1) p.2 q.2 p.3.image.each q.3.image.each same) [
+      | inl l ↦ later q.0 p.1 q.1 p.2 q.2 a b q.3.image q.3.room stop q.4 l
+      | inr l ↦ sym (later q.0 q.1 p.1 q.2 p.2 b a p.3.image few q.4 stop l)
     ]
-agree lines a b (inl p) (inr q) = absurd (q.1 _ p.2.lines_are)
-agree lines a b (inr p) (inl q) = absurd (p.1 _ q.2.lines_are)
+agree lines a b (inl p) (inr q) = absurd (q.1 p.0 _ p.3.lines_are)
+agree lines a b (inr p) (inl q) = absurd (p.1 q.0 _ q.3.lines_are)
 agree lines a b (inr p) (inr q) = p.0 ∙ sym q.0
 
 pub same_answer : (lines : Lines) (a b : Answer) → IsAnswer lines a → IsAnswer lines b → a ≡ b

@@ -9,10 +9,13 @@ use Rattle.std.proofs.lemmas.List.{map-append}
 use Rattle.std.proofs.lemmas.Bool.{and_parts}
 use Rattle.paged_memory.specs.declared.key.Key.{Key}
 use Rattle.paged_memory.specs.KeyOrder.{key_cmp}
-use Rattle.paged_memory.specs.ImageText.{header, end_line, page_line, page_lines, IsEntry, IsTextOf}
+use Rattle.paged_memory.specs.declared.text_version.TextVersion.{TextVersion}
+use Rattle.paged_memory.specs.declared.text_version.TextVersion.TheVariants.{One, Two}
+use Rattle.paged_memory.specs.TextVersions.{full, header, most_in}
+use Rattle.paged_memory.specs.ImageText.{end_line, page_line, page_lines, IsEntry, IsTextOf}
 use Rattle.paged_memory.specs.Images.{Memory}
 use Rattle.paged_memory.specs.declared.fault.ImageFault.{ImageFault}
-use Rattle.paged_memory.specs.declared.fault.ImageFault.TheVariants.{BadHeader, BadLine, OutOfOrder, TooManyPages, NoEnd, AfterEnd}
+use Rattle.paged_memory.specs.declared.fault.ImageFault.TheVariants.{BadHeader, BadLine, OutOfOrder, TooManyPages, NoEnd, AfterEnd, SixtyFifthPage}
 use Rattle.paged_memory.specs.ImageFaults.{Begins, IsPageLine, IsAboveAll, IsLineFault, IsFirstFault, next_number}
 use Rattle.paged_memory.proofs.ImageViews.{Entries, Sorted, image_of, entries_of, len_of}
 
@@ -53,20 +56,21 @@ fits_push : (es : Entries) (e : Key × List ℕ) → AllByRecursion Fits es → 
 fits_push [] e h fit = (fit, tt)
 fits_push (x ∷ es) e h fit = (h.0, fits_push es e h.1 fit)
 
-pub begins_none : (lines rest : List (List ℕ)) → lines ≡ header ∷ rest → Begins lines (image_of []) rest
-begins_none lines rest is = record {
-  lines_are = is ∙ ap (λ l. header ∷ l ++ rest) (sym (lines_of_entries [] refl));
-  image = record { room = omega (arith, len_of [] refl); each = rw (entries_of [] refl) tt };
+pub begins_none : (v : TextVersion) (lines rest : List (List ℕ)) → lines ≡ header v ∷ rest → Begins v lines (image_of []) rest
+begins_none v lines rest is = record {
+  lines_are = is ∙ ap (λ l. header v ∷ l ++ rest) (sym (lines_of_entries [] refl));
+  image = record { each = rw (entries_of [] refl) tt };
+  room = omega (arith, len_of [] refl);
 }
 
-pub begins_more : (lines rest : List (List ℕ)) (line : List ℕ) (es new : Entries) (key : Key) (page : List ℕ) → Sorted es → Sorted new → new ≡ es ++ (key, page) ∷ [] → length new ≤ 16
-    → IsPageLine line key page → Begins lines (image_of es) (line ∷ rest) → Begins lines (image_of new) rest
-begins_more lines rest line es new key page sorted sorted_new is room spelled begins = record {
-  lines_are = begins.lines_are ∙ ap (λ l. header ∷ l) regrouped;
+pub begins_more : (v : TextVersion) (lines rest : List (List ℕ)) (line : List ℕ) (es new : Entries) (key : Key) (page : List ℕ) → Sorted es → Sorted new → new ≡ es ++ (key, page) ∷ [] → length new ≤ most_in v
+    → IsPageLine line key page → Begins v lines (image_of es) (line ∷ rest) → Begins v lines (image_of new) rest
+begins_more v lines rest line es new key page sorted sorted_new is room spelled begins = record {
+  lines_are = begins.lines_are ∙ ap (λ l. header v ∷ l) regrouped;
   image = record {
-    room = omega (arith, len_of new sorted_new);
     each = rw (entries_of new sorted_new, is) (fits_push es (key, page) (rw (entries_of es sorted) at begins.image.each) spelled.0);
   };
+  room = omega (arith, len_of new sorted_new, room);
 }
   where
     regrouped : page_lines (image_of es) ++ line ∷ rest ≡ page_lines (image_of new) ++ rest
@@ -76,26 +80,32 @@ begins_more lines rest line es new key page sorted sorted_new is room spelled be
         ∙ sym (append_assoc (map line_of es) (page_line key page ∷ []) rest)
         ∙ ap (λ l. l ++ rest) (sym (map-append line_of es ((key, page) ∷ [])) ∙ ap (map line_of) (sym is) ∙ sym (lines_of_entries new sorted_new))
 
-pub is_text : (lines : List (List ℕ)) (es : Entries) → Begins lines (image_of es) (end_line ∷ []) → IsTextOf lines (image_of es)
-is_text lines es begins = record { lines_are = begins.lines_are; image = begins.image }
+pub is_text : (v : TextVersion) (lines : List (List ℕ)) (es : Entries) → Begins v lines (image_of es) (end_line ∷ []) → IsTextOf lines (image_of es)
+is_text v lines es begins = record { version = v; lines_are = begins.lines_are; image = begins.image; room = begins.room }
 
 -- the faults of a line
 abbrev is_of_line : ImageFault → Bool
 is_of_line (BadLine n) = true
 is_of_line (OutOfOrder n) = true
 is_of_line TooManyPages = true
+is_of_line SixtyFifthPage = true
 is_of_line _ = false
 
-of_line : (memory : Memory) (line : List ℕ) (fault : ImageFault) → IsLineFault memory line fault → is_of_line fault ≡ true
-of_line memory line fault (goes_on, inl bad) = ap is_of_line bad.1
-of_line memory line fault (goes_on, inr (spelled, inl late)) = ap is_of_line late.1
-of_line memory line fault (goes_on, inr (spelled, inr (above, inl full))) = ap is_of_line full.1
-of_line memory line fault (goes_on, inr (spelled, inr (above, inr (room, none)))) = absurd none
+full_is_of_line : (v : TextVersion) → is_of_line (full v) ≡ true
+full_is_of_line One = refl
+full_is_of_line Two = refl
 
-pub fault_after : (lines rest : List (List ℕ)) (memory : Memory) (line : List ℕ) (fault : ImageFault) → Begins lines memory (line ∷ rest) → IsLineFault memory line fault → IsFirstFault lines fault
-fault_after lines rest memory line BadHeader begins h = let no = of_line memory line BadHeader h in absurd cc
-fault_after lines rest memory line NoEnd begins h = let no = of_line memory line NoEnd h in absurd cc
-fault_after lines rest memory line AfterEnd begins h = let no = of_line memory line AfterEnd h in absurd cc
-fault_after lines rest memory line (BadLine n) begins h = (memory, line, rest, begins, h)
-fault_after lines rest memory line (OutOfOrder n) begins h = (memory, line, rest, begins, h)
-fault_after lines rest memory line TooManyPages begins h = (memory, line, rest, begins, h)
+of_line : (v : TextVersion) (memory : Memory) (line : List ℕ) (fault : ImageFault) → IsLineFault v memory line fault → is_of_line fault ≡ true
+of_line v memory line fault (goes_on, inl bad) = ap is_of_line bad.1
+of_line v memory line fault (goes_on, inr (spelled, inl late)) = ap is_of_line late.1
+of_line v memory line fault (goes_on, inr (spelled, inr (above, inl filled))) = ap is_of_line filled.1 ∙ full_is_of_line v
+of_line v memory line fault (goes_on, inr (spelled, inr (above, inr (room, none)))) = absurd none
+
+pub fault_after : (v : TextVersion) (lines rest : List (List ℕ)) (memory : Memory) (line : List ℕ) (fault : ImageFault) → Begins v lines memory (line ∷ rest) → IsLineFault v memory line fault → IsFirstFault lines fault
+fault_after v lines rest memory line BadHeader begins h = let no = of_line v memory line BadHeader h in absurd cc
+fault_after v lines rest memory line NoEnd begins h = let no = of_line v memory line NoEnd h in absurd cc
+fault_after v lines rest memory line AfterEnd begins h = let no = of_line v memory line AfterEnd h in absurd cc
+fault_after v lines rest memory line (BadLine n) begins h = (v, memory, line, rest, begins, h)
+fault_after v lines rest memory line (OutOfOrder n) begins h = (v, memory, line, rest, begins, h)
+fault_after v lines rest memory line TooManyPages begins h = (v, memory, line, rest, begins, h)
+fault_after v lines rest memory line SixtyFifthPage begins h = (v, memory, line, rest, begins, h)

@@ -1,5 +1,5 @@
--- The text of an image: a header, a line for each page by rising keys, and `end`. (docs/formats.md, "Image"; this project's
--- own)
+-- The text of an image: its version's first line, a line for each page by rising keys, and `end`. (docs/formats.md, "Image"; this
+-- project's own)
 use Rattle.std.specs.Prelude.{◌≡◌, ℕ, ◌<◌, ◌≤◌, List, [], ◌∷◌, ◌++◌, length, map, codes, IsTrue}
 use Rattle.std.specs.List.{AllByRecursion}
 use Rattle.std.specs.FinMap as finmap
@@ -10,11 +10,10 @@ use Rattle.bus_model.specs.DeviceName.{device_name}
 use Rattle.paged_memory.specs.declared.key.Half.{Half}
 use Rattle.paged_memory.specs.declared.key.Half.TheVariants.{Lower, Upper}
 use Rattle.paged_memory.specs.declared.key.Key.{Key}
+use Rattle.paged_memory.specs.declared.text_version.TextVersion.{TextVersion}
 use Rattle.paged_memory.specs.KeyOrder.{key_cmp}
-use Rattle.paged_memory.specs.Images.{Memory, most_pages}
-
-unfoldable pub header : List ℕ
-header = codes "module-image 1"
+use Rattle.paged_memory.specs.Images.{Memory}
+use Rattle.paged_memory.specs.TextVersions.{header, most_in}
 
 unfoldable pub end_line : List ℕ
 end_line = codes "end"
@@ -40,8 +39,8 @@ page_line key page = spaced (page_words key page)
 abbrev pub page_lines : Memory → List (List ℕ)
 page_lines memory = map (λ entry. page_line entry.0 entry.1) (finmap.entries memory)
 
-abbrev pub image_lines : Memory → List (List ℕ)
-image_lines memory = header ∷ page_lines memory ++ end_line ∷ []
+abbrev pub image_lines : TextVersion → Memory → List (List ℕ)
+image_lines version memory = header version ∷ page_lines memory ++ end_line ∷ []
 
 -- banks and pages are numbers of one byte
 pub record IsKey (key : Key) : Type 0 where
@@ -57,18 +56,18 @@ pub record IsEntry (key : Key) (page : List ℕ) : Type 0 where
   pub key_fits : IsKey key
   pub page_fits : IsPage page
 
--- such pages by rising keys, no more than there may be
+-- such pages by rising keys
 pub record AreEntries (entries : List (Key × List ℕ)) : Type 0 where
   pub sorted : IsTrue (finmap.is_sorted key_cmp entries)
-  pub room : length entries ≤ most_pages
   pub each : AllByRecursion (λ entry. IsEntry entry.0 entry.1) entries
 
--- what an image holds: such pages, no more than there may be
+-- what an image holds: such pages
 pub record IsImage (memory : Memory) : Type 0 where
-  pub room : finmap.len memory ≤ most_pages
   pub each : AllByRecursion (λ entry. IsEntry entry.0 entry.1) (finmap.entries memory)
 
--- these lines are the text of an image
+-- these lines are the text of an image in a version that has room for its pages
 pub record IsTextOf (lines : List (List ℕ)) (memory : Memory) : Type 0 where
-  pub lines_are : lines ≡ image_lines memory
+  pub version : TextVersion
+  pub lines_are : lines ≡ image_lines version memory
   pub image : IsImage memory
+  pub room : finmap.len memory ≤ most_in version

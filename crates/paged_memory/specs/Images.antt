@@ -10,9 +10,13 @@ use Rattle.paged_memory.specs.KeyOrder.{key_cmp}
 abbrev pub Memory : Type 0
 Memory = map.FinMap key_cmp (List ℕ)
 
--- how many pages the image of a memory has at most
+-- how many pages a small image has at most
 abbrev pub most_pages : ℕ
 most_pages = 16
+
+-- how many pages a large image has at most
+abbrev pub most_large : ℕ
+most_large = 64
 
 -- the key of the half that shows an address of a device while a page of bank 0 is selected
 abbrev pub key_at : Dev → ℕ → ℕ → Key

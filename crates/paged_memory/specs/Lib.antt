@@ -2,6 +2,7 @@ pub mod Keys
 pub mod KeyOrder
 pub mod KeyCode
 pub mod Images
+pub mod TextVersions
 pub mod ImageText
 pub mod ImageFaults
 pub mod Families

@@ -10,9 +10,7 @@ ghost use Rattle.std.specs.Option.{option_copied};
 ghost use Rattle.std.specs.FinMap.Entries.{put};
 ghost use Rattle.paged_memory.specs.declared.key.Key.{Key};
 ghost use Rattle.paged_memory.specs.KeyOrder.{key_cmp};
-ghost use Rattle.paged_memory.specs.Images.{most_pages};
 
-use crate::image::MAX_PAGES;
 use crate::key::Key;
 use crate::page::Page;
 use arrayvec::ArrayVec;
@@ -58,10 +56,14 @@ fn is_same(a: Key, b: Key) -> bool
 }
 
 /// Puts an entry in its place, if the key is held or there is room.
-pub fn put_entry(entries: &mut ArrayVec<(Key, Page), MAX_PAGES>, key: Key, page: Page) -> bool
+pub fn put_entry<const MOST: usize>(
+    entries: &mut ArrayVec<(Key, Page), MOST>,
+    key: Key,
+    page: Page,
+) -> bool
     requires { IsTrue (is_sorted key_cmp entries.old.items) }
     ensures put { OnTrue result (entries.new.items ≡ put key_cmp key page entries.old.items) }
-    ensures full { (result ≡ false) ↔ ((length entries.old.items ≡ most_pages) × (find key_cmp key entries.old.items ≡ None)) }
+    ensures full { (result ≡ false) ↔ ((length entries.old.items ≡ MOST) × (find key_cmp key entries.old.items ≡ None)) }
     ensures same { OnFalse result (entries.new ≡ entries.old) }
 {
     match place_of(entries, key) {

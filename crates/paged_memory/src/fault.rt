@@ -5,18 +5,20 @@ use thiserror::Error;
 #[derive(Clone, Copy, Debug, PartialEq, Eq, Drop, Error)]
 #[error("the text is no image")]
 pub enum ImageFault {
-    /// The text does not begin with the line `module-image 1`.
+    /// The text begins with the first line of no version, `module-image 1` or `module-image 2`.
     BadHeader,
     /// The line is neither a page line nor `end`.
     BadLine(usize),
     /// The key of the line isn't above the one before it.
     OutOfOrder(usize),
-    /// It would be the seventeenth page.
+    /// It would be the seventeenth page of an image that has room for sixteen.
     TooManyPages,
     /// The text ends without `end`.
     NoEnd,
     /// A line stands after `end`.
     AfterEnd,
+    /// It would be the sixty-fifth page.
+    SixtyFifthPage,
 }
 
 impl ToWords for ImageFault {
@@ -34,6 +36,7 @@ impl ToWords for ImageFault {
             ImageFault::TooManyPages => PrintedWords::of("IM4"),
             ImageFault::NoEnd => PrintedWords::of("IM5"),
             ImageFault::AfterEnd => PrintedWords::of("IM6"),
+            ImageFault::SixtyFifthPage => PrintedWords::of("IM7"),
         }
     }
 }

@@ -13,7 +13,7 @@ use control_sets::{
 };
 use conversations::{Conversation, Next, OnPage, Patience, Pausing, Within};
 use module_reading::{Halves, Request};
-use paged_memory::{Image, KnownPage};
+use paged_memory::{KnownPage, SmallImage};
 
 /// The reading of a module on a real bus.
 pub type ReadingJob = Within<Pausing<OnPage<Halves>>>;
@@ -77,10 +77,10 @@ impl Job {
     {
         let halves = Halves {
             request: Request::everything(),
-            image: Image::new(),
+            image: SmallImage::new(),
             settled: 0,
         };
-        let patience = patience_for(&halves.image);
+        let patience = patience_for(&halves.image.view());
         Job::Reading(
             Within::new(Pausing::new(doubting(halves), patience), MAX_STEPS),
             woken,

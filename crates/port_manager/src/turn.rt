@@ -143,8 +143,8 @@ fn reading_turn(reading: &mut ReadingJob, woken: bool, reply: &Reply, wanted: &W
         Next::Do(_op) => going(pause),
         Next::Wait(_time) => going(pause),
         Next::End(spent) => {
-            let image = &reading.conversation.conversation.conversation.image;
-            read(image, woken, wanted, spent.end)
+            let image = reading.conversation.conversation.conversation.image.view();
+            read(&image, woken, wanted, spent.end)
         }
     }
 }

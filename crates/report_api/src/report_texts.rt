@@ -5,7 +5,7 @@ ghost use Rattle.report_api.specs.ReportTexts.{IsDetails, IsMetrics, IsMetricsOf
 use crate::answer::put;
 use crate::fault::Fault;
 use module_metrics::{Labels, metrics};
-use paged_memory::Image;
+use paged_memory::LargeImage;
 use reports::details_json;
 use std::alloc::Global;
 
@@ -40,13 +40,13 @@ pub extern "C" fn dovecounter_metrics(
 fn details_of(alloc: Global, image: &[u8]) -> Result<Vec<u8>, Fault>
     ensures { IsDetails image.now (answer_of result) }
 {
-    let image = Image::read(image)?;
-    Ok(details_json(alloc, &image)?)
+    let image = LargeImage::read(image)?;
+    Ok(details_json(alloc, &image.view())?)
 }
 
 fn metrics_of(alloc: Global, all: bool, image: &[u8]) -> Result<Vec<u8>, Fault>
     ensures { IsMetricsOf all image.now (answer_of result) }
 {
-    let image = Image::read(image)?;
-    Ok(metrics(alloc, &image, &Labels::new(alloc), all, true)?.text)
+    let image = LargeImage::read(image)?;
+    Ok(metrics(alloc, &image.view(), &Labels::new(alloc), all, true)?.text)
 }

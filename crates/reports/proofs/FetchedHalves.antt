@@ -106,13 +106,13 @@ value_of_byte : (bytes : List ℕ) → slice_index bytes 0 < 256 → unsigned_ab
 unfolding value_in
 value_of_byte bytes small = number-bits_up (byte_in bytes) 0 0 8 ∙ omega (arith, small)
 
-identifier_is : (memory : Memory) (half : List ℕ) → IsImage memory → map.get memory (lower_key A0) ≡ Some half → identifier memory ≡ slice_index half 0
+pub identifier_is : (memory : Memory) (half : List ℕ) → IsImage memory → map.get memory (lower_key A0) ≡ Some half → identifier memory ≡ slice_index half 0
 unfolding reading_at
 identifier_is memory half image has =
     let page = half_page memory (lower_key A0) half image has in
     ap (λ (bytes : Option (List ℕ)). unsigned_abs (unwrap_or (option_map (λ bytes. value_in bytes CIdentifier 1) bytes) (pos 0))) has ∙ value_of_byte half (page.bytes 0)
 
-selecting_is : (memory : Memory) (half : List ℕ) → map.get memory (lower_key A0) ≡ Some half → selecting_on memory A0 ≡ selecting_by (slice_index half 0)
+pub selecting_is : (memory : Memory) (half : List ℕ) → map.get memory (lower_key A0) ≡ Some half → selecting_on memory A0 ≡ selecting_by (slice_index half 0)
 selecting_is memory half has = ap (λ (bytes : Option (List ℕ)). unwrap_or (option_map selecting_by (option_map (λ bytes. slice_index bytes 0) bytes)) (Some BankAndPage)) has
 
 -- ---- the halves agree

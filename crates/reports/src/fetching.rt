@@ -7,10 +7,10 @@ use crate::fault::ReportFault;
 use bus_model::Bus;
 use conversations::run;
 use module_reading::{Halves, Request};
-use paged_memory::Image;
+use paged_memory::SmallImage;
 
 /// Reads over a bus the halves of a module that its reports speak of, whatever the bus refuses on the way.
-pub fn fetch_image<B: Bus>(bus: &mut B) -> Result<Image, ReportFault>
+pub fn fetch_image<B: Bus>(bus: &mut B) -> Result<SmallImage, ReportFault>
     ensures { MakesHistory B.rules (B.seen bus.old) (B.seen bus.new) (λ history.
         IsFetching (IsFull (B.seen bus.new)) history result) }
 {

@@ -16,7 +16,7 @@ use crate::work;
 use applications::AdvertFault;
 use bus_model::Dev;
 use field_tables::LaneSet;
-use paged_memory::{Image, Key, KnownPage};
+use paged_memory::{Key, KnownPage, SmallImage};
 use port_manager::{
     Flags, Goal, Job, LaneCodes, LeftBecause, Outstanding, Port, Request, Silence, Stage, Times,
 };
@@ -27,7 +27,7 @@ pub const PORT: u32 = 0x4443_5031;
 /// Makes a port the one that has these numbers, and whose reading has read this memory, if there is one. Whether there is. It is filled
 /// in its place, since a port takes much of a stack.
 #[tactic(auto, unfolding(crate::specs::SavedPorts::port_in))]
-pub fn restore(saved: &SavedPort, image: Image, port: &mut Port) -> bool
+pub fn restore(saved: &SavedPort, image: SmallImage, port: &mut Port) -> bool
     ensures found { result ≡ true → port_in saved.now image ≡ Some port.new }
     ensures none { result ≡ false → port_in saved.now image ≡ None }
     ensures read { result ≡ true → IfWorking port.new.stage (HasRead image) }
@@ -141,7 +141,7 @@ fn goal_in(saved: SavedGoal) -> Goal
 
 // ---- what is in the port
 
-fn put_stage(saved: &SavedPort, image: Image, stage: &mut Stage) -> bool
+fn put_stage(saved: &SavedPort, image: SmallImage, stage: &mut Stage) -> bool
     ensures found { result ≡ true → spec.stage_in saved.now.stage saved.now.left saved.now.goal saved.now.work image ≡ Some stage.new }
     ensures none { result ≡ false → spec.stage_in saved.now.stage saved.now.left saved.now.goal saved.now.work image ≡ None }
     ensures read { result ≡ true → IfWorking stage.new (HasRead image) }
@@ -173,7 +173,7 @@ fn put_reason(saved: SavedLeft, stage: &mut Stage) -> bool
     }
 }
 
-fn put_reading(work: &SavedWork, image: Image, stage: &mut Stage)
+fn put_reading(work: &SavedWork, image: SmallImage, stage: &mut Stage)
     ensures { stage.new ≡ stages.Working (jobs.Reading (spec.patient_in work.now (spec.on_page_in work.now (spec.halves_in work.now image))) (work.now.woken == 1)) }
 {
     *stage = Stage::Working(Job::reading(work.woken == 1));

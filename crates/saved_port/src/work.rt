@@ -12,13 +12,13 @@ use control_sets::{
 };
 use conversations::{OnPage, Patience, Pausing, Within};
 use module_reading::Request;
-use paged_memory::{Image, KnownPage};
+use paged_memory::{KnownPage, SmallImage};
 use port_manager::{Goal, Look, LookStage, ReadingJob, WatchingJob};
 
 // ---- from numbers
 
 /// Makes a reading the one that has read this memory.
-pub fn put_reading(work: &SavedWork, image: Image, reading: &mut ReadingJob)
+pub fn put_reading(work: &SavedWork, image: SmallImage, reading: &mut ReadingJob)
     ensures { reading.new ≡ spec.patient_in work.now (spec.on_page_in work.now (spec.halves_in work.now image)) }
 {
     reading.steps = work.saved.steps;

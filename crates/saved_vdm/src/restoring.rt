@@ -5,7 +5,7 @@ ghost use Rattle.saved_vdm.specs.SavedReadings as spec;
 
 use crate::numbers::{MAX_HALVES, MAX_LISTED, SavedVdm};
 use arrayvec::ArrayVec;
-use paged_memory::{Image, KnownPage};
+use paged_memory::{KnownPage, SmallImage};
 use vdm_reading::{Release, Statistics, VdmReading, VdmStage};
 
 /// What stands in each reading under way, so that other memory is not taken for one: `DCV1`.
@@ -13,7 +13,7 @@ pub const READING: u32 = 0x4443_5631;
 
 /// The reading that has these numbers and has read this image, if one has.
 #[tactic(auto, unfolding(crate::specs::SavedReadings::reading_in))]
-pub fn restore(saved: &SavedVdm, image: Image) -> Option<VdmReading>
+pub fn restore(saved: &SavedVdm, image: SmallImage) -> Option<VdmReading>
     ensures { result ≡ reading_in saved.now image }
 {
     if is_sound(saved) {
@@ -63,7 +63,7 @@ pub(crate) fn need(stage: VdmStage, todo: usize) -> usize
     }
 }
 
-fn reading_at(saved: &SavedVdm, image: Image) -> VdmReading
+fn reading_at(saved: &SavedVdm, image: SmallImage) -> VdmReading
     requires { spec.is_sound saved.now ≡ true }
     ensures { result ≡ spec.reading_at saved.now image }
 {

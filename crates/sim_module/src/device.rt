@@ -30,7 +30,12 @@ impl Device for SimModule {
     #[tactic(auto, unfolding(crate::specs::Stores::stored))]
     fn store(&mut self, dev: Dev, offset: u8, bytes: &[u8]) -> bool {
         match dev {
-            Dev::A0 if self.fixed.image.has(self.moving.selection.key(dev, offset)) => {
+            Dev::A0
+                if self
+                    .fixed
+                    .image
+                    .view()
+                    .has(self.moving.selection.key(dev, offset)) => {
                 self.rests = false;
                 self.moving.store_bytes(&self.fixed, offset, bytes);
                 true

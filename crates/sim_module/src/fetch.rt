@@ -130,7 +130,7 @@ impl Moving {
         ensures answer { option_map (λ bytes. bytes.items) result ≡ (spec.fetched (module_of fixed.now self.now) Dev.A0 first count).0 }
         ensures count { IfSome result (λ bytes. length bytes.items ≡ count) }
     {
-        match fixed.image.page(self.selection.key(Dev::A0, first)) {
+        match fixed.image.view().page(self.selection.key(Dev::A0, first)) {
             Some(page) => Some(self.shown_bytes(page.bytes(), first, count)),
             None => None,
         }

@@ -5,7 +5,7 @@ use applications::Advert;
 use control_sets::ControlSet;
 use datapath_states::PathState;
 use module_states::ModuleState;
-use paged_memory::Image;
+use paged_memory::LargeImage;
 use std::marker::Model;
 
 /// A simulated CMIS module.
@@ -67,7 +67,7 @@ impl SimModule {
     }
 
     /// The module of an image, with what that advertises, if one has these numbers for what changes of it.
-    pub fn restore(image: Image, advert: Advert, saved: &SavedModule) -> Option<SimModule>
+    pub fn restore(image: LargeImage, advert: Advert, saved: &SavedModule) -> Option<SimModule>
         ensures { result ≡ option_map (module_of (record { image = image; advert = advert })) (restored saved.now) }
     {
         Some(SimModule {

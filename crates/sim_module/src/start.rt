@@ -5,6 +5,7 @@ ghost use Rattle.sim_module.specs.Lanes.{all_lanes};
 ghost use Rattle.sim_module.specs.OwnAdverts.{own_advert};
 ghost use Rattle.field_tables.specs.Registers.{first_byte};
 ghost use Rattle.sim_module.specs.Registers.{lane_flag_bytes};
+ghost use Rattle.sim_module.specs.Record.{module_of};
 ghost use Rattle.sim_module.specs.Starts as spec;
 
 use crate::SimModule;
@@ -16,13 +17,13 @@ use crate::lane::Lane;
 use crate::moving::{LANE_FLAGS, Moving};
 use crate::own_adverts::own_advert;
 use crate::registers::{control_page, status_page};
-use applications::{Advert, LaneSet};
+use applications::LaneSet;
 use bus_model::Dev;
 use control_sets::{ControlFault, ControlSet, paths_of};
 use datapath_states::{ConfigStatus, PathState};
 use field_tables::{LaneNumber, Register, register};
 use module_states::ModuleState;
-use paged_memory::{Image, Key, MappedPage};
+use paged_memory::{Image, Key, LargeImage, MappedPage};
 use std::array;
 
 impl SimModule {
@@ -31,23 +32,29 @@ impl SimModule {
 
     /// The module of an image, with the delays of its work. Nothing of it has moved yet.
     #[tactic(auto, unfolding(crate::specs::Starts::start))]
-    pub fn new(image: &Image, delays: Delays) -> Result<SimModule, SimFault>
-        ensures { MatchOption (spec.start_fault image.now delays) (result ≡ Ok (spec.start image.now delays)) (λ fault. result ≡ Err fault) }
+    pub fn new(image: LargeImage, delays: Delays) -> Result<SimModule, SimFault>
+        ensures { MatchOption (spec.start_fault image delays) (result ≡ Ok (spec.start image delays)) (λ fault. result ≡ Err fault) }
     {
-        if let Some(key) = absent_half(image) {
+        let view = image.view();
+        if let Some(key) = absent_half(&view) {
             return Err(SimFault::Absent(key));
         }
-        let advert = match own_advert(image) {
+        let advert = match own_advert(&view) {
             Ok(advert) => advert,
             Err(fault) => return Err(SimFault::Advert(fault)),
         };
         if !delays.are_allowed() {
             return Err(SimFault::BadDelay);
         }
-        if let Err(ControlFault::NotPaths(lane)) = paths_of(active_at_start(image)) {
+        if let Err(ControlFault::NotPaths(lane)) = paths_of(active_at_start(&view)) {
             return Err(SimFault::ActiveNotPaths(lane));
         }
-        Ok(start(image, advert, delays))
+        let moving = moving_at_start(&view, delays);
+        Ok(SimModule {
+            fixed: Fixed { image, advert },
+            moving,
+            rests: false,
+        })
     }
 }
 
@@ -126,12 +133,11 @@ fn start_state(control: u8) -> ModuleState
 }
 
 #[tactic(auto, unfolding(crate::specs::Starts::start))]
-fn start(image: &Image, advert: Advert, delays: Delays) -> SimModule
-    requires { advert ≡ own_advert image.now }
-    ensures { result ≡ spec.start image.now delays }
+fn moving_at_start(image: &Image, delays: Delays) -> Moving
+    ensures { module_of (record { image = image.now; advert = own_advert image.now }) result ≡ spec.start image.now delays }
 {
     let control = byte_of_register(image, Register::CGlobalControls, 0);
-    let moving = Moving {
+    Moving {
         delays,
         selection: MappedPage::first_page(),
         pin: false,
@@ -143,14 +149,5 @@ fn start(image: &Image, advert: Advert, delays: Delays) -> SimModule
         apply_left: 0,
         module_flags: byte_of_register(image, Register::CModuleFlags, 0),
         lane_flags: lane_flags(image),
-    };
-    let fixed = Fixed {
-        image: image.copy(),
-        advert,
-    };
-    SimModule {
-        fixed,
-        moving,
-        rests: false,
     }
 }

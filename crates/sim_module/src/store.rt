@@ -17,7 +17,7 @@ impl Moving {
     {
         self.selection = self.selection.selected(
             Some(PageAddressing::BankAndPage),
-            &fixed.image,
+            &fixed.image.view(),
             address,
             byte,
         );

@@ -5,13 +5,13 @@ ghost use Rattle.simulated_statistics.specs.FreezingModules as spec;
 use crate::request::Request;
 use arrayvec::ArrayVec;
 use bus_model::{Dev, Device, MAX_FETCH};
-use paged_memory::{Image, MappedPage, PAGE_LEN, PageAddressing};
+use paged_memory::{LargeImage, MappedPage, PAGE_LEN, PageAddressing};
 
 /// A module of an image. It freezes its statistics when a host asks for that in byte 144 of page 2Fh, and shows in byte 145 when that is
 /// done. No other byte but those of the page selection ever reads otherwise than the image has it.
 #[derive(Debug, Drop)]
 pub struct FreezingModule {
-    pub image: Image,
+    pub image: LargeImage,
     /// Which page is shown.
     pub selection: MappedPage,
     /// How many units of time a request takes.
@@ -22,7 +22,7 @@ pub struct FreezingModule {
 
 impl FreezingModule {
     /// The module of an image, with page 00h of bank 0 selected, of which nothing was asked yet.
-    pub fn of(image: Image, delay: u16) -> FreezingModule
+    pub fn of(image: LargeImage, delay: u16) -> FreezingModule
         ensures { result ≡ spec.begun image delay }
     {
         FreezingModule {
@@ -63,10 +63,10 @@ impl FreezingModule {
                 left: self.delay,
             });
         }
-        let selecting = PageAddressing::on(&self.image, dev);
+        let selecting = PageAddressing::on(&self.image.view(), dev);
         self.selection = self
             .selection
-            .selected(selecting, &self.image, address, byte);
+            .selected(selecting, &self.image.view(), address, byte);
     }
 
     // Stores bytes one by one, by rising address.
@@ -90,15 +90,20 @@ impl Device for FreezingModule {
     ghost conduct = { conduct };
 
     fn fetch(&mut self, dev: Dev, offset: u8, count: u8) -> Option<ArrayVec<u8, MAX_FETCH>> {
-        let selecting = PageAddressing::on(&self.image, dev);
+        let selecting = PageAddressing::on(&self.image.view(), dev);
         let request = self.request_on(dev);
         let selection = self.selection;
-        let half = self.image.page(selection.key(dev, offset))?;
+        let half = self.image.view().page(selection.key(dev, offset))?;
         Some(bytes_from(selecting, selection, request, offset, count, half.bytes()))
     }
 
     fn store(&mut self, dev: Dev, offset: u8, bytes: &[u8]) -> bool {
-        if self.image.page(self.selection.key(dev, offset)).is_none() {
+        if self
+            .image
+            .view()
+            .page(self.selection.key(dev, offset))
+            .is_none()
+        {
             return false;
         }
         self.store_bytes(dev, offset, bytes);

@@ -21,7 +21,7 @@ pub fn print_metrics(alloc: Global, options: &Options, image: &[u8]) -> Result<C
     ensures read { IfErr result (λ fault. fault ≢ Fault.Io) }
 {
     match image_to_report(alloc, image, options.bus) {
-        Ok(image) => of_image(alloc, options, &image),
+        Ok(image) => of_image(alloc, options, &image.view()),
         Err(Fault::Report(fault)) => of_fault(alloc, options, fault),
         Err(fault) => Err(fault),
     }

@@ -55,7 +55,7 @@ fn output_of(
         kept: &planning.kept,
     };
     if draws {
-        let media_type = number(&planning.image, Field::CMediaType);
+        let media_type = number(&planning.image.view(), Field::CMediaType);
         let drawing = draw(alloc, options.svg, media_type, &problem)?;
         Ok((drawing.text, drawing.has_paths))
     } else {

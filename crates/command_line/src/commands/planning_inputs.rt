@@ -6,14 +6,14 @@ ghost use Rattle.command_line.specs.PlanningInputs.{AreKept, AreNotKept, IsAdver
 use super::inputs::Inputs;
 use crate::fault::Fault;
 use applications::{Advert, Conventions, Weights};
-use paged_memory::Image;
+use paged_memory::LargeImage;
 use plan_certificate::{KeptFault, Plan, kept_fault, kept_of};
 use std::alloc::Global;
 
 /// What a plan is made for: a module's image, what the module advertises, what its paths weigh, and those that are to be kept.
 #[derive(Drop)]
 pub struct Planning {
-    pub image: Image,
+    pub image: LargeImage,
     pub advert: Advert,
     pub weights: Weights,
     pub kept: Plan,
@@ -43,11 +43,11 @@ impl Planning {
 }
 
 // The image of this text, and what its module advertises, read by these conventions.
-fn read_module(conventions: Conventions, text: &[u8]) -> Result<(Image, Advert), Fault>
+fn read_module(conventions: Conventions, text: &[u8]) -> Result<(LargeImage, Advert), Fault>
     ensures { MatchResult result (λ read. IsModuleText conventions text.now read.0 read.1) (IsAdvertRefusal conventions text.now) }
 {
-    let image = Image::read(text)?;
-    let advert = Advert::under(conventions, &image)?;
+    let image = LargeImage::read(text)?;
+    let advert = Advert::under(conventions, &image.view())?;
     Ok((image, advert))
 }
 

@@ -27,7 +27,7 @@ pub fn report(
     ensures read { IfErr result (λ fault. fault ≢ Fault.Io) }
 {
     let image = image_to_report(alloc, image, options.bus)?;
-    let printed = printed(alloc, name, options.json, &image);
+    let printed = printed(alloc, name, options.json, &image.view());
     report_output(alloc, options, printed)
 }
 
@@ -41,7 +41,7 @@ pub fn print_observables(
     ensures read { IfErr result (λ fault. fault ≢ Fault.Io) }
 {
     let image = image_to_observe(alloc, image, options.bus)?;
-    let printed = observed(alloc, options.json, &image);
+    let printed = observed(alloc, options.json, &image.view());
     report_output(alloc, options, printed)
 }
 

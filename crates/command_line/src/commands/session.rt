@@ -69,7 +69,7 @@ pub fn set_up(
 {
     let planning = Planning::read(alloc, conventions, inputs)?;
     let script = Script::read(inputs.script)?;
-    let module = SimModule::new(&planning.image, delays())?;
+    let module = SimModule::new(planning.image.copy(), delays())?;
     let inactive = first_inactive(&planning.advert, &planning.kept, &module.active());
     let weighed = AppWeights::of(&planning.advert, &planning.weights);
     let plan = first_plan(&planning.advert, &weighed, &planning.kept);

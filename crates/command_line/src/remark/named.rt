@@ -40,6 +40,7 @@ impl Named {
                 ImageFault::TooManyPages => nowhere("IM4"),
                 ImageFault::NoEnd => nowhere("IM5"),
                 ImageFault::AfterEnd => nowhere("IM6"),
+                ImageFault::SixtyFifthPage => nowhere("IM7"),
             },
             Fault::Report(fault) => match fault {
                 ReportFault::Memory => nowhere("memory"),

@@ -1,5 +1,5 @@
 ghost use Rattle.std.specs.Prelude.{◌≡◌};
-ghost use Rattle.command_line.specs.Remarks.{has_mark, is_binary, is_text, opening_key, opening_of};
+ghost use Rattle.command_line.specs.Remarks.{has_mark, has_returns, is_binary, is_text, opening_key, opening_of};
 
 /// How a text begins that is no image's.
 #[derive(Clone, Copy, Debug, PartialEq, Eq)]
@@ -28,7 +28,7 @@ impl Opening {
             Opening::Empty
         } else if has_mark(text) {
             Opening::Mark
-        } else if text.starts_with(b"module-image 1\r") {
+        } else if has_returns(text) {
             Opening::Returns
         } else if is_binary(text) {
             Opening::Binary
@@ -58,6 +58,13 @@ fn has_mark(text: &[u8]) -> bool
     text.starts_with(&[0xEF, 0xBB, 0xBF])
         || text.starts_with(&[0xFF, 0xFE])
         || text.starts_with(&[0xFE, 0xFF])
+}
+
+// An image's first line in either version, and a CR.
+fn has_returns(text: &[u8]) -> bool
+    ensures { result ≡ has_returns text.now }
+{
+    text.starts_with(b"module-image 1\r") || text.starts_with(b"module-image 2\r")
 }
 
 // Whether one of the first bytes is no character of a text in ASCII, nor white space.

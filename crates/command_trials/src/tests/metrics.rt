@@ -1,6 +1,6 @@
 // Metrics of modules, and labels that are added to them.
 use module_metrics::{LabelFault, Labels, fault_metrics, metrics};
-use paged_memory::{Dev, Image, Key};
+use paged_memory::{Dev, Key, LargeImage};
 use reports::ReportFault;
 use sample_modules::{QSFP_DD, QSFP28, SFP, only};
 use std::alloc::Global;
@@ -8,8 +8,8 @@ use std::test::Fail;
 
 // The text of an image's metrics.
 fn text_of(alloc: Global, image: &str, words: &[&str], all: bool) -> Result<String, Fail> {
-    let image = Image::read(image.as_bytes())?;
-    let answer = metrics(alloc, &image, &labels_of(alloc, words)?, all, true)?;
+    let image = LargeImage::read(image.as_bytes())?;
+    let answer = metrics(alloc, &image.view(), &labels_of(alloc, words)?, all, true)?;
     Ok(String::from_utf8(answer.text)?)
 }
 
@@ -84,11 +84,17 @@ fn so_many_samples_are_told(rt: HostRuntime) -> Result<(), Fail> {
 
 #[test]
 fn a_report_with_a_fault_leaves_the_others(rt: HostRuntime) -> Result<(), Fail> {
-    let module = Image::read(QSFP_DD.as_bytes())?;
+    let module = LargeImage::read(QSFP_DD.as_bytes())?;
     let page = |page| Key::upper(Dev::A0, 0, page);
     let kept = [Key::lower(Dev::A0), page(0x00), page(0x01), page(0x11)];
     let labels = Labels::new(rt.alloc());
-    let answer = metrics(rt.alloc(), &only(&module, &kept)?, &labels, false, true)?;
+    let answer = metrics(
+        rt.alloc(),
+        &only(&module.view(), &kept)?.view(),
+        &labels,
+        false,
+        true,
+    )?;
     assert_eq!(rt; answer.fault, Some(ReportFault::Absent(page(0x02))));
     let text = String::from_utf8(answer.text)?;
     assert_eq!(rt; samples_in(&text), 26);

@@ -2,7 +2,7 @@
 use bus_model::{Bus, Dev, Op, Reply, Script, ScriptBus, Step};
 use conversations::{Conversation, Next, try_take};
 use observables::absent_page;
-use paged_memory::{Image, Key};
+use paged_memory::{Key, LargeImage};
 use sample_modules::with;
 use simulated_statistics::FreezingModule;
 use std::alloc::Global;
@@ -14,8 +14,8 @@ type ModuleBus = ScriptBus<FreezingModule>;
 const FIRST_TWO: [u8; 7] = [0x20, 0x21, 0x28, 0x29, 0x24, 0x25, 0x2C];
 
 // With two groups of statistics, byte 142 of page 01h as given, and without one page, if it is one of those below.
-fn image(advert: u8, lacking: u8) -> Result<Image, Fail> {
-    let mut image = with(Image::new(), Key::lower(Dev::A0), &[(0, 0x18)])?;
+fn image(advert: u8, lacking: u8) -> Result<LargeImage, Fail> {
+    let mut image = with(LargeImage::new(), Key::lower(Dev::A0), &[(0, 0x18)])?;
     image = with(image, Key::upper(Dev::A0, 0, 0x01), &[(142, advert)])?;
     if lacking != 0x2F {
         image = with(
@@ -33,7 +33,7 @@ fn image(advert: u8, lacking: u8) -> Result<Image, Fail> {
 }
 
 // The module of an image, whose requests are done with the transaction that is so many behind them.
-fn bus(alloc: Global, image: Image, delay: u16, script: &[u8]) -> Result<ModuleBus, Fail> {
+fn bus(alloc: Global, image: LargeImage, delay: u16, script: &[u8]) -> Result<ModuleBus, Fail> {
     let module = FreezingModule::of(image, delay);
     Ok(ScriptBus::new(alloc, module, Script::read(script)?, 1000)?)
 }
@@ -82,7 +82,7 @@ fn is_ended(
 
 // Byte 200 of a page that was read.
 fn shown(reading: &VdmReading, page: u8) -> Option<u8> {
-    reading.image.byte(Dev::A0, page, 200)
+    reading.image.view().byte(Dev::A0, page, 200)
 }
 
 // Byte 144 of page 2Fh as it was stored last.
@@ -129,11 +129,11 @@ fn all_is_read_while_it_is_frozen(rt: HostRuntime) -> Result<(), Fail> {
     assert_eq!(rt; control(&bus), Some(0x55));
     assert_eq!(rt; bus.steps().len(), 39);
     assert_eq!(rt; halves_read_while_frozen(&bus), 7);
-    assert!(rt; absent_page(&reading.image, 0).is_none());
+    assert!(rt; absent_page(&reading.image.view(), 0).is_none());
     for page in FIRST_TWO {
         assert_eq!(rt; shown(&reading, page), Some(page));
     }
-    assert!(rt; !reading.image.has(Key::upper(Dev::A0, 0, 0x22)));
+    assert!(rt; !reading.image.view().has(Key::upper(Dev::A0, 0, 0x22)));
     Ok(())
 }
 

@@ -12,7 +12,7 @@ use arrayvec::ArrayVec;
 use control_sets::{MAX_STEPS, Power, PowerChange, TaskList, Work};
 use conversations::{InPieces, OnPage, Pausing, Within};
 use module_reading::{Halves, Request};
-use paged_memory::{Image, KnownPage};
+use paged_memory::{KnownPage, SmallImage};
 
 pub fn put_tasks(work: Work, patience: &Patience, conversation: &mut SavedConversation)
     ensures { (halves : List HalfBytes) → IsSavedAt (Bringing work (doubts patience.now) (doubts patience.now)) (given patience.now) [] conversation.new halves }
@@ -44,7 +44,7 @@ pub fn put_reading(
 {
     let halves = Halves {
         request,
-        image: Image::new(),
+        image: SmallImage::new(),
         settled: 0,
     };
     let pieces = InPieces {

@@ -60,7 +60,7 @@ fn each_refusal_is_followed_by_a_pause(rt: HostRuntime) -> Result<(), Fail> {
         if says {
             change.asked(1);
         }
-        let mut bus = bus_of(rt.alloc(), Window::<16>::of(&image()?)?, script, 50)?;
+        let mut bus = bus_of(rt.alloc(), Window::<16>::of(&image()?.view())?, script, 50)?;
         assert_eq!(rt; waited(&mut change, &mut bus, None)?, Some(time));
     }
     Ok(())
@@ -71,12 +71,12 @@ fn each_refusal_is_followed_by_a_pause(rt: HostRuntime) -> Result<(), Fail> {
 fn a_state_that_never_comes_is_overdue(rt: HostRuntime) -> Result<(), Fail> {
     for (limit, time) in [(0, 7), (48, 49), (49, 56)] {
         let asleep = with(image()?, Key::lower(Dev::A0), &[(3, 0x02)])?;
-        let mut bus = bus_of(rt.alloc(), Window::<16>::of(&asleep)?, b"", 50)?;
+        let mut bus = bus_of(rt.alloc(), Window::<16>::of(&asleep.view())?, b"", 50)?;
         let patience = Patience { pause: 7, limit };
         let mut change = PowerChange::patient(Power::Awake, patience);
         assert_eq!(rt; waited(&mut change, &mut bus, None)?, Some(time));
         assert!(rt; matches!(change.conversation.next(), Next::End(Timed::Overdue)));
-        let mut bus = bus_of(rt.alloc(), Window::<16>::of(&asleep)?, b"", 50)?;
+        let mut bus = bus_of(rt.alloc(), Window::<16>::of(&asleep.view())?, b"", 50)?;
         let told = change_power_on(&mut bus, Power::Awake, patience);
         assert!(rt; matches!(told, Err(PatientFault::Overdue)));
     }
@@ -85,7 +85,7 @@ fn a_state_that_never_comes_is_overdue(rt: HostRuntime) -> Result<(), Fail> {
 
 #[test]
 fn pauses_change_no_answer(rt: HostRuntime) -> Result<(), Fail> {
-    let (advert, plan) = (Advert::of(&image()?)?, plan_of(&FOUR_PAIRS)?);
+    let (advert, plan) = (Advert::of(&image()?.view())?, plan_of(&FOUR_PAIRS)?);
     let none = Plan {
         paths: ArrayVec::new(),
     };
@@ -100,12 +100,12 @@ fn pauses_change_no_answer(rt: HostRuntime) -> Result<(), Fail> {
 // The module goes to low power while it is provisioned, refuses once, and shows that after the pause.
 #[test]
 fn a_module_that_leaves_ready_is_named(rt: HostRuntime) -> Result<(), Fail> {
-    let (advert, plan) = (Advert::of(&image()?)?, plan_of(&FOUR_PAIRS)?);
+    let (advert, plan) = (Advert::of(&image()?.view())?, plan_of(&FOUR_PAIRS)?);
     let none = Plan {
         paths: ArrayVec::new(),
     };
     let follows_pin = with(image()?, Key::lower(Dev::A0), &[(26, 0x40)])?;
-    let module = SimModule::new(&follows_pin, FOURS)?;
+    let module = SimModule::new(follows_pin, FOURS)?;
     let script = b"ok 5\nlpmode 1\ntick 50\nnack 1\n";
     let mut bus = bus_of(rt.alloc(), module, script, 5000)?;
     assert!(rt; admissible(&advert, &plan));
@@ -121,7 +121,7 @@ fn read(
     piece: u8,
     word: Option<u32>,
 ) -> Result<(Reading, usize), Fail> {
-    let mut bus = bus_of(alloc, Window::<16>::of(&image()?)?, b"nack 1\n", 500)?;
+    let mut bus = bus_of(alloc, Window::<16>::of(&image()?.view())?, b"nack 1\n", 500)?;
     let mut pieces = InPieces {
         conversation: Halves::reading(request),
         piece,
@@ -143,13 +143,23 @@ fn pieces_give_the_same_image(rt: HostRuntime) -> Result<(), Fail> {
     ] {
         let (reading, made) = read(rt.alloc(), Request::everything(), piece, word)?;
         assert_eq!(rt; made, steps);
-        let mut bus = bus_of(rt.alloc(), Window::<16>::of(&image()?)?, b"", 500)?;
+        let mut bus = bus_of(rt.alloc(), Window::<16>::of(&image()?.view())?, b"", 500)?;
         let mut whole = Halves::reading(Request::everything());
         let spent = run(&mut bus, &mut whole)?;
         assert_eq!(rt; spent.steps, 13);
         assert!(rt; spent.end.is_some());
-        let image = reading.conversation.conversation.image.write(rt.alloc())?;
-        let other = whole.conversation.conversation.image.write(rt.alloc())?;
+        let image = reading
+            .conversation
+            .conversation
+            .image
+            .view()
+            .write(rt.alloc())?;
+        let other = whole
+            .conversation
+            .conversation
+            .image
+            .view()
+            .write(rt.alloc())?;
         assert_eq!(rt; image, other);
     }
     Ok(())
@@ -169,9 +179,9 @@ fn what_is_requested_is_read_alone(rt: HostRuntime) -> Result<(), Fail> {
         assert_eq!(rt; made, steps);
         let halves = &reading.conversation.conversation;
         assert_eq!(rt; halves.settled, 1 + pages.len());
-        assert!(rt; halves.image.has(Key::lower(Dev::A0)));
+        assert!(rt; halves.image.view().has(Key::lower(Dev::A0)));
         for page in [0x00, 0x01, 0x02, 0x11] {
-            let read = halves.image.has(Key::upper(Dev::A0, 0, page));
+            let read = halves.image.view().has(Key::upper(Dev::A0, 0, page));
             assert_eq!(rt; read, pages.contains(&page));
         }
     }

@@ -60,7 +60,7 @@ fn an_application_needs_media_lanes(rt: HostRuntime) -> Result<(), Fail> {
             Key::lower(Dev::A0),
             &[(91, media_id), (92, counts)],
         )?;
-        let mut module = SimModule::new(&changed, FOURS)?;
+        let mut module = SimModule::new(changed, FOURS)?;
         apply(&mut module, &[0x20, 0x20], 0x03);
         let [first, ..] = statuses(&mut module);
         assert_eq!(rt; first, code, "{media_id} {counts}");

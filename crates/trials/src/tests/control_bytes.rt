@@ -21,7 +21,7 @@ fn asked(advert: &Advert, paths: &[[u8; 3]]) -> Result<Option<[u8; 8]>, Fail> {
 
 #[test]
 fn the_lanes_of_a_path_are_told(rt: HostRuntime) -> Result<(), Fail> {
-    let advert = Advert::of(&image()?)?;
+    let advert = Advert::of(&image()?.view())?;
     assert_eq!(rt; asked(&advert, &[[1, 1, 1]])?, Some([0x10; 8]));
     assert_eq!(rt; asked(&advert, &FOUR_PAIRS)?, Some(PAIRS));
     assert_eq!(rt; asked(&advert, &[])?, Some([0; 8]));
@@ -29,7 +29,7 @@ fn the_lanes_of_a_path_are_told(rt: HostRuntime) -> Result<(), Fail> {
     // The first Application takes one lane, and begins anywhere.
     let narrow = with_run(image()?, Key::lower(Dev::A0), 88, &[0x11, 0xFF])?;
     let narrow = with(narrow, upper(0, 0x01), &[(176, 0xFF), (255, 0x15)])?;
-    let advert = Advert::of(&narrow)?;
+    let advert = Advert::of(&narrow.view())?;
     let mut paths = [[1; 3]; 8];
     for (before, path) in paths.iter_mut().enumerate() {
         let lane = before as u8 + 1;

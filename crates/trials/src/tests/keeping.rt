@@ -26,7 +26,7 @@ fn provisioned_keeping(
     script: &[u8],
     kept: &Plan,
 ) -> Result<Kept, Fail> {
-    let advert = Advert::of(&image()?)?;
+    let advert = Advert::of(&image()?.view())?;
     let listed = Weights::read(alloc, b"[host]\n0Dh = 101\n11h = 400\n")?;
     let weights = AppWeights::of(&advert, &listed);
     let mut bus = bus_of(alloc, module, script, 5000)?;
@@ -120,7 +120,7 @@ fn module_with(numbers: &mut Numbers, active: [u8; 8]) -> Result<SimModule, Fail
         power_up: numbers.delay(),
         power_down: numbers.delay(),
     };
-    let mut module = SimModule::new(&image, delays)?;
+    let mut module = SimModule::new(image, delays)?;
     pass(&mut module, 40);
     Ok(module)
 }
@@ -186,7 +186,7 @@ fn kept_lanes_stay_up_whatever_is_refused(rt: HostRuntime) -> Result<(), Fail> {
 
 // Whether the certificate of a plan has the text that is made without it.
 fn has_its_text(alloc: Global, kept: &Plan) -> Result<bool, Fail> {
-    let advert = Advert::of(&image()?)?;
+    let advert = Advert::of(&image()?.view())?;
     let listed = Weights::read(alloc, b"[host]\n0Dh = 101\n11h = 400\n")?;
     let weights = AppWeights::of(&advert, &listed);
     if kept_fault(&advert, kept).is_some() {

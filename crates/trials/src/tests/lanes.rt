@@ -104,7 +104,7 @@ fn a_thousand_ticks_are_waited_for(rt: HostRuntime) -> Result<(), Fail> {
     let mut delays = ONES;
     delays.apply = 1000;
     delays.init = 1000;
-    let mut module = SimModule::new(&image()?, delays)?;
+    let mut module = SimModule::new(image()?, delays)?;
     select(&mut module, 0x10);
     write(&mut module, 145, &PAIRS);
     write(&mut module, 143, &[0xFF]);
@@ -154,7 +154,7 @@ fn low_power_waits_for_the_paths(rt: HostRuntime) -> Result<(), Fail> {
 #[test]
 fn the_pin_counts_where_it_is_allowed(rt: HostRuntime) -> Result<(), Fail> {
     let allowing = with(image()?, Key::lower(Dev::A0), &[(26, 0x40)])?;
-    let mut module = SimModule::new(&allowing, FOURS)?;
+    let mut module = SimModule::new(allowing, FOURS)?;
     module.low_power_pin(true);
     for code in [4, 4, 4, 4, 1, 1] {
         module.tick();

@@ -54,7 +54,7 @@ fn kind(answer: &Option<Result<Provisioned, ProvisionFault>>) -> usize
 // Each answer but a full list comes, and a success was read.
 #[test]
 fn a_success_was_read_whatever_the_device_tells(rt: HostRuntime) -> Result<(), Fail> {
-    let advert = Advert::of(&image()?)?;
+    let advert = Advert::of(&image()?.view())?;
     let plan = plan_of(&FOUR_PAIRS)?;
     let mut answers = [0u32; 8];
     for seed in 1..10001u32 {

@@ -1,7 +1,7 @@
 // Modules that the tests share, and what is done to them.
 use arrayvec::ArrayVec;
 use bus_model::{Dev, Device, MAX_FETCH, Op};
-use paged_memory::{Image, Key};
+use paged_memory::{Key, LargeImage};
 use sample_modules::{QSFP_DD, with_run};
 use sim_module::{Delays, SimModule};
 use std::test::Fail;
@@ -20,8 +20,8 @@ pub const FOURS: Delays = Delays {
 pub const PAIRS: [u8; 8] = [0x20, 0x20, 0x24, 0x24, 0x28, 0x28, 0x2C, 0x2C];
 
 // A module of two Applications: 1 on all eight lanes, 2 on pairs of lanes.
-pub fn image() -> Result<Image, Fail> {
-    Ok(Image::read(QSFP_DD.as_bytes())?)
+pub fn image() -> Result<LargeImage, Fail> {
+    Ok(LargeImage::read(QSFP_DD.as_bytes())?)
 }
 
 pub fn upper(bank: u8, page: u8) -> Key {
@@ -29,17 +29,17 @@ pub fn upper(bank: u8, page: u8) -> Key {
 }
 
 pub fn module() -> Result<SimModule, Fail> {
-    Ok(SimModule::new(&image()?, FOURS)?)
+    Ok(SimModule::new(image()?, FOURS)?)
 }
 
 // The image with other active bytes.
-pub fn image_of(active: [u8; 8]) -> Result<Image, Fail> {
+pub fn image_of(active: [u8; 8]) -> Result<LargeImage, Fail> {
     Ok(with_run(image()?, upper(0, 0x11), 206, &active)?)
 }
 
 // A module whose lanes are active in these paths at the start.
 pub fn module_of(active: [u8; 8], delays: Delays) -> Result<SimModule, Fail> {
-    Ok(SimModule::new(&image_of(active)?, delays)?)
+    Ok(SimModule::new(image_of(active)?, delays)?)
 }
 
 // What a fetch on device A0 answers; a refusal as zeros.

@@ -21,10 +21,15 @@ fn the_state_that_is_read_ends_a_change_of_power(rt: HostRuntime) -> Result<(), 
         (0x06, Power::Asleep, Err(ProvisionFault::GaveUp)),
     ] {
         let image = with(image()?, Key::lower(Dev::A0), &[(3, state)])?;
-        let mut bus = bus_of(rt.alloc(), Window::<16>::of(&image)?, b"", 5000)?;
+        let mut bus = bus_of(rt.alloc(), Window::<16>::of(&image.view())?, b"", 5000)?;
         assert_eq!(rt; change_power(&mut bus, power), answer, "{state}");
     }
-    let mut bus = bus_of(rt.alloc(), Window::<16>::of(&image()?)?, b"nack 3\n", 5)?;
+    let mut bus = bus_of(
+        rt.alloc(),
+        Window::<16>::of(&image()?.view())?,
+        b"nack 3\n",
+        5,
+    )?;
     assert_eq!(rt;
         change_power(&mut bus, Power::Awake),
         Err(ProvisionFault::Bus(BusFault::TraceFull))

@@ -48,7 +48,7 @@ fn other_lanes_are_not_looked_at(rt: HostRuntime) -> Result<(), Fail> {
     let half_up = [(128, 0x44), (129, 0x44), (204, 0x11), (205, 0x11)];
     let image = with(active, upper(0, 0x11), &half_up)?;
     for lanes in [0xF0, 0x00] {
-        let mut bus = bus_of(rt.alloc(), Window::<16>::of(&image)?, b"", 5000)?;
+        let mut bus = bus_of(rt.alloc(), Window::<16>::of(&image.view())?, b"", 5000)?;
         let told = driven(provisioning(LaneSet::from(lanes)), &mut bus)?;
         assert_eq!(rt; told, Some(Ok(16)), "{lanes}");
     }

@@ -17,13 +17,13 @@ fn an_apply_is_waited_for_as_long_as_there_is_room(rt: HostRuntime) -> Result<()
         apply: 1000,
         ..FOURS
     };
-    let advert = Advert::of(&image()?)?;
+    let advert = Advert::of(&image()?.view())?;
     let plan = plan_of(&FOUR_PAIRS)?;
     for (room, steps, answer) in [
         (5000, 1013, Ok(Provisioned { steps: 1013 })),
         (5, 5, Err(ProvisionFault::Bus(BusFault::TraceFull))),
     ] {
-        let module = SimModule::new(&image()?, slow)?;
+        let module = SimModule::new(image()?, slow)?;
         let mut bus = bus_of(rt.alloc(), module, b"", room)?;
         let told = provisioned(&mut bus, &advert, &plan);
         assert_eq!(rt; told, (steps, Some(answer)), "{room}");
@@ -44,16 +44,16 @@ fn over_window(
 #[test]
 fn a_stuck_module_is_given_up(rt: HostRuntime) -> Result<(), Fail> {
     let gave_up = (4096, Some(Err(ProvisionFault::GaveUp)));
-    let never_applied = over_window(rt.alloc(), &image()?, &[])?;
+    let never_applied = over_window(rt.alloc(), &image()?.view(), &[])?;
     assert_eq!(rt; never_applied, gave_up);
     let never_down = with(image()?, upper(0, 0x11), &[(128, 0x31)])?;
-    assert_eq!(rt; over_window(rt.alloc(), &never_down, &[])?, gave_up);
+    assert_eq!(rt; over_window(rt.alloc(), &never_down.view(), &[])?, gave_up);
     Ok(())
 }
 
 #[test]
 fn faults_are_named_at_the_step_that_shows_them(rt: HostRuntime) -> Result<(), Fail> {
-    let unstaged = over_window(rt.alloc(), &image()?, &FOUR_PAIRS)?;
+    let unstaged = over_window(rt.alloc(), &image()?.view(), &FOUR_PAIRS)?;
     assert_eq!(rt; unstaged, (11, Some(Err(ProvisionFault::StagedDiffers(1)))));
     let (lower, control, status) = (Key::lower(Dev::A0), upper(0, 0x10), upper(0, 0x11));
     let rows: [(Key, &[(u8, u8)], usize, ProvisionFault); 8] = [
@@ -99,7 +99,7 @@ fn faults_are_named_at_the_step_that_shows_them(rt: HostRuntime) -> Result<(), F
     ];
     for (key, changes, steps, fault) in rows {
         let image = with(image()?, key, changes)?;
-        let told = over_window(rt.alloc(), &image, &[])?;
+        let told = over_window(rt.alloc(), &image.view(), &[])?;
         assert_eq!(rt; told, (steps, Some(Err(fault))), "{fault:?}");
     }
     Ok(())
@@ -108,7 +108,11 @@ fn faults_are_named_at_the_step_that_shows_them(rt: HostRuntime) -> Result<(), F
 #[test]
 fn paths_come_up_where_the_bytes_are_active(rt: HostRuntime) -> Result<(), Fail> {
     let mut bus = bus_of(rt.alloc(), module()?, b"", 5000)?;
-    let told = activated(&mut bus, &Advert::of(&image()?)?, &plan_of(&FOUR_PAIRS)?);
+    let told = activated(
+        &mut bus,
+        &Advert::of(&image()?.view())?,
+        &plan_of(&FOUR_PAIRS)?,
+    );
     assert_eq!(rt; told, (4, Some(Err(ProvisionFault::ActiveDiffers(1)))));
     Ok(())
 }
@@ -123,7 +127,7 @@ fn lanes_of_the_plan_are_waited_for(rt: HostRuntime) -> Result<(), Fail> {
     ] {
         let states = [(128, 0x44), (129, 0x44), (131, last_lanes)];
         let shown = with(active.copy(), upper(0, 0x11), &states)?;
-        let told = activated_over_window(rt.alloc(), &shown, &[[2, 1, 1], [2, 3, 2]])?;
+        let told = activated_over_window(rt.alloc(), &shown.view(), &[[2, 1, 1], [2, 3, 2]])?;
         assert_eq!(rt; told, (10, Some(answer)));
     }
     Ok(())

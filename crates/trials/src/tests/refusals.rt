@@ -2,7 +2,7 @@
 use super::modules::{FOURS, PAIRS, image};
 use super::plans::{FOUR_PAIRS, bus_of, plan_of, provisioned};
 use applications::Advert;
-use paged_memory::Image;
+use paged_memory::LargeImage;
 use plan_certificate::Plan;
 use sim_module::SimModule;
 use std::alloc::{AllocError, Global};
@@ -22,12 +22,12 @@ fn refusing(alloc: Global, first: u8, second: u8, refusal: &[u8]) -> Result<Vec<
 // How many steps are made under a script, if the plan is active in the end.
 fn steps_under(
     alloc: Global,
-    image: &Image,
+    image: &LargeImage,
     plan: &Plan,
     script: &[u8],
 ) -> Result<Option<usize>, Fail> {
-    let mut bus = bus_of(alloc, SimModule::new(image, FOURS)?, script, 100)?;
-    let (steps, answer) = provisioned(&mut bus, &Advert::of(image)?, plan);
+    let mut bus = bus_of(alloc, SimModule::new(image.copy(), FOURS)?, script, 100)?;
+    let (steps, answer) = provisioned(&mut bus, &Advert::of(&image.view())?, plan);
     let is_success = matches!(answer, Some(Ok(_)));
     Ok((is_success && bus.device().active() == PAIRS).then_some(steps))
 }

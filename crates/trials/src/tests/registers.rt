@@ -21,7 +21,7 @@ fn a_latched_byte_is_kept_until_it_is_read(rt: HostRuntime) -> Result<(), Fail> 
 #[test]
 fn a_fetch_clears_the_latched_bytes_that_it_read(rt: HostRuntime) -> Result<(), Fail> {
     let flagged = with_run(image()?, upper(0, 0x11), 134, &[0xFF; 19])?;
-    let mut module = SimModule::new(&flagged, FOURS)?;
+    let mut module = SimModule::new(flagged, FOURS)?;
     let rows: &[Row] = &[
         // With another page selected nothing latched is read.
         (0, 134, &[], b"LE    "),
@@ -48,7 +48,7 @@ fn a_fetch_clears_the_latched_bytes_that_it_read(rt: HostRuntime) -> Result<(), 
 #[test]
 fn a_fetch_of_a_whole_half_clears_all_of_them(rt: HostRuntime) -> Result<(), Fail> {
     let flagged = with_run(image()?, upper(0, 0x11), 134, &[0xFF; 19])?;
-    let mut module = SimModule::new(&flagged, FOURS)?;
+    let mut module = SimModule::new(flagged, FOURS)?;
     let lower: [[u8; 128]; 2] = [read(&mut module, 0), read(&mut module, 0)];
     assert_eq!(rt; (lower[0][9], lower[1][9]), (0x04, 0x00));
     select(&mut module, 0x11);
@@ -90,7 +90,7 @@ fn pages_of_other_banks_are_the_images(rt: HostRuntime) -> Result<(), Fail> {
         upper(1, 0x10),
         &[(128, 0x55), (143, 0x66), (145, 0x77)],
     )?;
-    let mut module = SimModule::new(&banked, FOURS)?;
+    let mut module = SimModule::new(banked, FOURS)?;
     let rows: &[Row] = &[
         (0, 126, &[1, 0x10], &[1, 0x10]),
         (0, 128, &[0xAA], &[0x55]),

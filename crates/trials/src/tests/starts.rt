@@ -4,7 +4,7 @@ use applications::AdvertFault;
 use bus_model::Dev;
 use datapath_states::PathState;
 use module_states::ModuleState;
-use paged_memory::{Image, Key, Page};
+use paged_memory::{Key, LargeImage, Page};
 use sample_modules::with;
 use sim_module::{Delays, SimFault, SimModule};
 use std::test::Fail;
@@ -26,19 +26,19 @@ fn a_new_module_has_what_its_image_says(rt: HostRuntime) -> Result<(), Fail> {
     // The pin is off, so a permission alone doesn't ask for low power.
     for (control, state) in [(0x10, ModuleState::LowPwr), (0x40, ModuleState::Ready)] {
         let image = with(image()?, Key::lower(Dev::A0), &[(26, control)])?;
-        assert_eq!(rt; SimModule::new(&image, FOURS)?.state(), state);
+        assert_eq!(rt; SimModule::new(image, FOURS)?.state(), state);
     }
     Ok(())
 }
 
-fn fault_of(image: &Image, turn_off: u16) -> Option<SimFault> {
+fn fault_of(image: &LargeImage, turn_off: u16) -> Option<SimFault> {
     let delays = Delays { turn_off, ..FOURS };
-    SimModule::new(image, delays).err()
+    SimModule::new(image.copy(), delays).err()
 }
 
 #[test]
 fn the_first_reason_is_named(rt: HostRuntime) -> Result<(), Fail> {
-    let mut wrong = Image::new();
+    let mut wrong = LargeImage::new();
     for absent in [
         Key::lower(Dev::A0),
         upper(0, 0x00),

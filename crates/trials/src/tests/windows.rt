@@ -2,14 +2,14 @@ mod reading;
 
 use arrayvec::ArrayVec;
 use bus_model::{Bus, BusFault, Dev, Device, Op, Reply, Script, ScriptBus};
-use paged_memory::{Image, ImageFault, Key, Page, Window, WindowFault};
+use paged_memory::{Image, ImageFault, Key, Page, SmallImage, Window, WindowFault};
 use reading::{select, select_on_window};
 use std::alloc::Global;
 use std::test::Fail;
 
 // An image with these halves, each with a first byte and else zeros.
-fn image(halves: &[(Key, u8)]) -> Result<Image, ImageFault> {
-    let mut image = Image::new();
+fn image(halves: &[(Key, u8)]) -> Result<SmallImage, ImageFault> {
+    let mut image = SmallImage::new();
     for (key, first) in halves {
         let mut bytes = [0; 128];
         bytes[0] = *first;
@@ -82,7 +82,10 @@ fn selects_a_bank_and_a_page(rt: HostRuntime) -> Result<(), Fail> {
         (124, &[0x00, 0x00, 0x00], Some([0x00, 0x10, 0xb0])),
         (254, &[0x01, 0x01], Some([0x00, 0x10, 0xb0])),
     ];
-    assert_eq!(rt; first_wrong(rt.alloc(), &image(&paths())?, rows)?, None);
+    assert_eq!(rt;
+        first_wrong(rt.alloc(), &image(&paths())?.view(), rows)?,
+        None
+    );
 
     // a page of another bank, which stays the waiting one
     let mut two_banks = image(&paths())?;
@@ -92,7 +95,7 @@ fn selects_a_bank_and_a_page(rt: HostRuntime) -> Result<(), Fail> {
         (127, &[0x10], Some([0x01, 0x10, 0xc0])),
         (127, &[0x11], Some([0x00, 0x00, 0xa0])),
     ];
-    assert_eq!(rt; first_wrong(rt.alloc(), &two_banks, rows)?, None);
+    assert_eq!(rt; first_wrong(rt.alloc(), &two_banks.view(), rows)?, None);
     Ok(())
 }
 
@@ -109,7 +112,7 @@ fn an_sff_8636_module_selects_a_page_alone(rt: HostRuntime) -> Result<(), Fail> 
         (126, &[0x01], Some([0x00, 0x03, 0xa3])),
         (127, &[0x02], Some([0x00, 0x00, 0xa0])),
     ];
-    assert_eq!(rt; first_wrong(rt.alloc(), &module, rows)?, None);
+    assert_eq!(rt; first_wrong(rt.alloc(), &module.view(), rows)?, None);
     Ok(())
 }
 
@@ -121,7 +124,7 @@ fn device_a0_of_an_sfp_selects_nothing(rt: HostRuntime) -> Result<(), Fail> {
         (Key::upper(Dev::A0, 0, 0x02), 0xa2),
     ])?;
     let rows: &[Row] = &[(126, &[0x00, 0x02], Some([0x00, 0x00, 0xa0]))];
-    assert_eq!(rt; first_wrong(rt.alloc(), &module, rows)?, None);
+    assert_eq!(rt; first_wrong(rt.alloc(), &module.view(), rows)?, None);
     Ok(())
 }
 
@@ -132,7 +135,7 @@ fn device_a2_selects_nothing_without_device_a0(rt: HostRuntime) -> Result<(), Fa
         (Key::upper(Dev::A2, 0, 0x00), 0xe0),
         (Key::upper(Dev::A2, 0, 0x02), 0xe2),
     ])?;
-    let mut window = Window::<3>::of(&diagnostics)?;
+    let mut window = Window::<3>::of(&diagnostics.view())?;
     assert_eq!(rt; window.store(Dev::A2, 127, &[0x02]), true);
     let shown = window.fetch(Dev::A2, 128, 1);
     assert_eq!(rt; shown, ArrayVec::try_from([0xe0].as_slice()).ok());
@@ -148,7 +151,7 @@ fn an_unknown_module_selects_a_bank_and_a_page(rt: HostRuntime) -> Result<(), Fa
         (Key::upper(Dev::A0, 1, 0x02), 0xc2),
     ])?;
     let rows: &[Row] = &[(126, &[0x01, 0x02], Some([0x01, 0x02, 0xc2]))];
-    assert_eq!(rt; first_wrong(rt.alloc(), &module, rows)?, None);
+    assert_eq!(rt; first_wrong(rt.alloc(), &module.view(), rows)?, None);
     Ok(())
 }
 
@@ -156,7 +159,7 @@ fn an_unknown_module_selects_a_bank_and_a_page(rt: HostRuntime) -> Result<(), Fa
 fn without_a_lower_half_nothing_is_taken(rt: HostRuntime) -> Result<(), Fail> {
     let module = image(&[(Key::upper(Dev::A0, 0, 0x00), 0xa0)])?;
     let rows: &[Row] = &[(127, &[0x00], None)];
-    assert_eq!(rt; first_wrong(rt.alloc(), &module, rows)?, None);
+    assert_eq!(rt; first_wrong(rt.alloc(), &module.view(), rows)?, None);
     Ok(())
 }
 
@@ -166,7 +169,7 @@ fn each_device_selects_for_itself(rt: HostRuntime) -> Result<(), Fail> {
     let mut both = image(&paths())?;
     both.put(Key::lower(Dev::A2), Page::from([0xe0; 128]))?;
     both.put(Key::upper(Dev::A2, 0, 0x00), Page::from([0xe1; 128]))?;
-    let mut window = Window::<16>::of(&both)?;
+    let mut window = Window::<16>::of(&both.view())?;
     assert!(rt; window.store(Dev::A2, 126, &[0x00, 0x11]));
     let selected = window.fetch(Dev::A0, 126, 2);
     assert_eq!(rt; selected, ArrayVec::try_from([0x00, 0x00].as_slice()).ok());
@@ -185,7 +188,7 @@ fn a_page_has_eight_bits(rt: HostRuntime) -> Result<(), Fail> {
         (126, &[0x00, 0x11], Some([0x00, 0x11, 0xb1])),
         (127, &[0x90], Some([0x00, 0x00, 0xa0])),
     ];
-    assert_eq!(rt; first_wrong(rt.alloc(), &high, rows)?, None);
+    assert_eq!(rt; first_wrong(rt.alloc(), &high.view(), rows)?, None);
     Ok(())
 }
 
@@ -205,7 +208,11 @@ fn a_byte_is_of_its_device(rt: HostRuntime) -> Result<(), Fail> {
         (Dev::A2, 0x00, 127, Some(0x00)),
         (Dev::A2, 0x00, 128, None),
     ] {
-        assert_eq!(rt; both.byte(device, page, offset), byte, "{page} {offset}");
+        assert_eq!(rt;
+            both.view().byte(device, page, offset),
+            byte,
+            "{page} {offset}"
+        );
     }
     Ok(())
 }
@@ -213,8 +220,11 @@ fn a_byte_is_of_its_device(rt: HostRuntime) -> Result<(), Fail> {
 #[test]
 fn has_room_for_so_many_pages(rt: HostRuntime) -> Result<(), Fail> {
     let image = image(&paths())?;
-    assert_eq!(rt; Window::<6>::of(&image).err(), None);
-    assert_eq!(rt; Window::<4>::of(&image).err(), Some(WindowFault::MorePages));
+    assert_eq!(rt; Window::<6>::of(&image.view()).err(), None);
+    assert_eq!(rt;
+        Window::<4>::of(&image.view()).err(),
+        Some(WindowFault::MorePages)
+    );
     Ok(())
 }
 
@@ -237,7 +247,7 @@ fn store(offset: u8, bytes: &[u8]) -> Op {
 // A broken shape is reported whether or not the list of steps has room.
 #[test]
 fn refuses_a_broken_shape_before_a_full_list(rt: HostRuntime) -> Result<(), Fail> {
-    let window = Window::<16>::of(&image(&paths())?)?;
+    let window = Window::<16>::of(&image(&paths())?.view())?;
     let mut bus = ScriptBus::new(rt.alloc(), window, Script::read(b"")?, 1)?;
     for has_room in [true, false] {
         for op in [
@@ -262,7 +272,7 @@ fn refuses_a_broken_shape_before_a_full_list(rt: HostRuntime) -> Result<(), Fail
 fn a_list_has_the_room_that_is_asked_for(rt: HostRuntime) -> Result<(), Fail> {
     let image = image(&paths())?;
     for room in [8193, 10000] {
-        let window = Window::<16>::of(&image)?;
+        let window = Window::<16>::of(&image.view())?;
         let mut bus = ScriptBus::new(rt.alloc(), window, Script::read(b"")?, room)?;
         for _ in 0..room {
             assert!(rt; bus.transact(fetch(0, 1)).is_ok());
@@ -277,7 +287,7 @@ fn a_list_has_the_room_that_is_asked_for(rt: HostRuntime) -> Result<(), Fail> {
 #[test]
 fn stands_behind_a_bus(rt: HostRuntime) -> Result<(), Fail> {
     let script = Script::read(b"cut 1\nok 1\nnack 1\n")?;
-    let window = Window::<16>::of(&image(&paths())?)?;
+    let window = Window::<16>::of(&image(&paths())?.view())?;
     let mut bus = ScriptBus::new(rt.alloc(), window, script, 6)?;
     let first_page = ArrayVec::try_from([0x00, 0x00].as_slice()).ok();
     let status_page = ArrayVec::try_from([0x00, 0x11].as_slice()).ok();

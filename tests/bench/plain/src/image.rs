@@ -128,9 +128,11 @@ pub struct Image(Vec<(Key, Page)>);
 impl Image {
     pub fn read(text: &[u8]) -> Result<Image, Fault> {
         let mut lines = lines(text);
-        if lines.next() != Some(b"module-image 1") {
-            return Err(Fault::new("IM1"));
-        }
+        let (most, full) = match lines.next() {
+            Some(b"module-image 1") => (16, "IM4"),
+            Some(b"module-image 2") => (64, "IM7"),
+            _ => return Err(Fault::new("IM1")),
+        };
         let mut halves: Vec<(Key, Page)> = Vec::with_capacity(16);
         for (before, line) in lines.by_ref().enumerate() {
             if line == b"end" {
@@ -144,8 +146,8 @@ impl Image {
             if halves.last().map_or(false, |(last, _)| *last >= key) {
                 return Err(Fault::with("IM3", before + 2));
             }
-            if halves.len() == 16 {
-                return Err(Fault::new("IM4"));
+            if halves.len() == most {
+                return Err(Fault::new(full));
             }
             halves.push((key, page));
         }

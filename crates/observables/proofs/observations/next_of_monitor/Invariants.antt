@@ -5,4 +5,4 @@ use Rattle.observables.proofs.observations.next_of_monitor.Given as goal
 
 -- no place so far has an observation
 abbrev pub invariant-loop-place : goal.invariant-loop-place
-invariant-loop-place l = (k : ℕ) → max l.from (8 * l.number) ≤ k → k < l.place → spec.observation_at l.image k ≡ None
+invariant-loop-place l = (k : ℕ) → max l.from (32 * l.number) ≤ k → k < l.place → spec.observation_at l.image k ≡ None

@@ -8,4 +8,4 @@ use Rattle.command_line.proofs.commands.metrics_command.print_metrics.Goals as g
 pub returns-in-Ok-clause-answer : goal.returns-in-Ok-clause-answer
 returns-in-Ok-clause-answer c =
     let options = c.args.options.now in
-    report_answered IsFetchedFrom options.bus (metrics_reported options) c.args.image.now (Ok c.in-Ok.image) c.in-Ok.ensures (answer_of c.of_image.result) c.of_image.ensures.output
+    report_answered IsFetchedFrom options.bus (metrics_reported options) c.args.image.now (Ok c.in-Ok.image) c.in-Ok.ensures (answer_of c.of_image.result) (rw c.view.ensures.same at c.of_image.ensures.output)

@@ -1,4 +1,4 @@
-use Rattle.std.proofs.Common.{Ok, Err}
+use Rattle.std.proofs.Common.{◌≡◌, Ok, Err, rules}
 use Rattle.std.proofs.lemmas.Result.{err_from_is_err_and}
 use Rattle.bus_model.specs.ScriptBuses.{seen_at}
 use Rattle.command_line.specs.OverBus.{IsFetchedFrom}
@@ -14,4 +14,5 @@ returns-in_err-fetch_image c =
 
 pub returns : goal.returns
 returns c =
-    fetched_from c.args.image.now c.in_ok-bus.bus (seen_at c.fetch_image.new.bus) (Ok c.in_ok-fetch_image.field-0) c.in_ok-bus.ensures c.in_ok-fetch_image.ensures
+    let copied : c.unwrap.result ≡ c.in_ok-fetch_image.field-0 = search rules in
+    rw copied (fetched_from c.args.image.now c.in_ok-bus.bus (seen_at c.fetch_image.new.bus) (Ok c.in_ok-fetch_image.field-0) c.in_ok-bus.ensures c.in_ok-fetch_image.ensures)

@@ -12,7 +12,7 @@ returns-in_ok-drawing c =
     let has_paths = c.in_ok-drawing.drawing.has_paths in
     let weighed = subst (λ (w : PathWeights). IsDrawing c.args.options.now.svg c.number-media_type.result planning.advert w planning.kept text has_paths) c.of-weighed.ensures c.in_ok-drawing.ensures in
     let is : DrawsPlan c.args.options.now.svg planning text =
-    (has_paths, subst (λ (m : ℕ). IsDrawing c.args.options.now.svg m planning.advert weights planning.kept text has_paths) c.number-media_type.ensures.value weighed) in
+    (has_paths, subst (λ (m : ℕ). IsDrawing c.args.options.now.svg m planning.advert weights planning.kept text has_paths) (rw c.view.ensures.same at c.number-media_type.ensures.value) weighed) in
     rw c.if-draws.true is
 
 pub returns-else-draws : goal.returns-else-draws

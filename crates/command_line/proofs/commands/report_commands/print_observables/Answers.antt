@@ -17,5 +17,5 @@ pub returns-clause-answer : goal.returns-clause-answer
 returns-clause-answer c =
     let options = c.args.options.now in
     let image = c.in_ok-image.image in
-    let reported = c.report_output.ensures.output (detail_fault image) (observed_text options.json image) c.observed-printed.ensures in
+    let reported = c.report_output.ensures.output (detail_fault image) (observed_text options.json image) (rw c.view.ensures.same at c.observed-printed.ensures) in
     report_answered IsObservedFrom options.bus (report_of options detail_fault observed_text) c.args.image.now (Ok image) c.in_ok-image.ensures (answer_of c.report_output.result) reported

@@ -16,5 +16,5 @@ pub returns-clause-answer : goal.returns-clause-answer
 returns-clause-answer c =
     let options = c.args.options.now in
     let image = c.in_ok-image.image in
-    let reported = c.report_output.ensures.output (refusal_of c.args.name image) (printed_of c.args.name options.json image) c.printed-printed.ensures in
+    let reported = c.report_output.ensures.output (refusal_of c.args.name image) (printed_of c.args.name options.json image) (rw c.view.ensures.same at c.printed-printed.ensures) in
     report_answered IsFetchedFrom options.bus (report_of options (refusal_of c.args.name) (printed_of c.args.name)) c.args.image.now (Ok image) c.in_ok-image.ensures (answer_of c.report_output.result) reported

@@ -32,7 +32,7 @@ returns-in_err-module-clause-answer c =
     let memory = c.in_ok-planning.planning.image in
     let given = c.delays.result in
     let p = err_from_is_err_and c.from_residual-in_err-module.result c.from_residual-in_err-module.ensures.1 in
-    let stops = refused (start memory given) c.in_err-module.field-0.0 (start_fault memory given) c.in_err-module.ensures in
+    let stops = refused (start memory given) c.in_err-module.field-0.0 (start_fault memory given) (rw c.copy.ensures at c.in_err-module.ensures) in
     let none : IsNoModule c.args.conventions (inputs_of c.args.inputs.now) c.in_err-module.field-0.0 = record {
       planning = c.in_ok-planning.planning;
       is_planning = c.in_ok-planning.ensures.answer;
@@ -48,7 +48,7 @@ returns-clause-answer c =
     let planning = c.in_ok-planning.planning in
     let given = c.delays.result in
     let certified = c.first_plan-plan.ensures.certified in
-    let starts = answered (start planning.image given) c.in_ok-module.module (start_fault planning.image given) c.in_ok-module.ensures in
+    let starts = answered (start planning.image given) c.in_ok-module.module (start_fault planning.image given) (rw c.copy.ensures at c.in_ok-module.ensures) in
     let module_is = starts.1 ∙ ap (λ (d : Delays). start planning.image d) c.delays.ensures in
     record {
       set_up = record {

@@ -4,4 +4,4 @@ use Rattle.paged_memory.proofs.ImageViews.{is_image}
 use Rattle.paged_memory.proofs.image.Image.page.Goals as goal
 
 pub returns-clause-image : goal.returns-clause-image
-returns-clause-image c = subst IsImage c.self.view_is (is_image c.self.inside.entries.items c.self.invariant)
+returns-clause-image c = subst IsImage c.self.view_is (is_image c.self.inside.entries.now c.self.invariant)

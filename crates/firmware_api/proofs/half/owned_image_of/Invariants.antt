@@ -1,7 +1,7 @@
 use Rattle.std.proofs.Common.{◌≡◌, drop}
 use Rattle.firmware_api.specs.Halves.{memory_of}
-use Rattle.firmware_api.proofs.half.image_of.Given as goal
+use Rattle.firmware_api.proofs.half.owned_image_of.Given as goal
 
 -- the image has the halves from this place on
 abbrev pub invariant-loop-place : goal.invariant-loop-place
-invariant-loop-place l = l.image ≡ memory_of (drop l.place l.halves)
+invariant-loop-place g l = l.image ≡ memory_of (drop l.place l.halves)
