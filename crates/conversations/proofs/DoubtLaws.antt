@@ -8,8 +8,8 @@ use Rattle.conversations.specs.Events.{Events, steps_of}
 use Rattle.conversations.specs.Pauses.{is_refused}
 use Rattle.conversations.specs.Selecting.{AddsSelections, ConfirmsStores, IsFetch, is_on, since_refusal}
 use Rattle.paged_memory.specs.declared.page_addressing.PageAddressing.{PageAddressing}
-use Rattle.paged_memory.specs.declared.page_addressing.PageAddressing.TheVariants.{BankAndPage, PageAlone}
-use Rattle.paged_memory.specs.PageAddressing.{History, is_page_confirmed, may_select, reads_back, selection}
+use Rattle.paged_memory.specs.PageAddressing.{History, is_page_confirmed, may_select, reads_back}
+use Rattle.paged_memory.proofs.KnownPageLaws.{selects}
 use Rattle.conversations.proofs.OnPageLaws.{read_is_fetch}
 
 weaker : (reads apart one other : Bool) → (one ≡ true → other ≡ true) → (reads || (apart && one)) ≡ true → (reads || (apart && other)) ≡ true
@@ -26,10 +26,6 @@ module _ (addressing : PageAddressing) (page : ℕ) (refusal : Step) (earlier : 
     by true more e = absurd cc
     by false more e = weaker (reads_back addressing page step) (not (may_select addressing step.op)) _ (is_page_confirmed addressing page since) more e
 
-selection_selects : (addressing : PageAddressing) (page : ℕ) → may_select addressing (selection addressing page) ≡ true
-selection_selects BankAndPage page = refl
-selection_selects PageAlone page = refl
-
 not_both : (b : Bool) → b ≡ true → b ≡ false → ⊥
 not_both true e h = cc
 not_both false e h = cc
@@ -39,8 +35,8 @@ module _ (may : Bool) (addressing : PageAddressing) (needs : Events → Option �
   confirms_stores own [] adds = tt
   confirms_stores own (Made step ∷ before) (inl (inl (awaited, reads), none, answers, adds)) =
       (λ stores plain. absurd (stores (subst IsFetch (sym reads) (read_is_fetch addressing))), confirms_stores own before adds)
-  confirms_stores own (Made step ∷ before) (inl (inr (closed, (page, needed, unconfirmed, selects)), none, answers, adds)) =
-      (λ stores plain. absurd (not_both (may_select addressing step.op) (ap (may_select addressing) selects ∙ selection_selects addressing page) plain), confirms_stores own before adds)
+  confirms_stores own (Made step ∷ before) (inl (inr (closed, (page, needed, unconfirmed, names)), none, answers, adds)) =
+      (λ stores plain. absurd (not_both (may_select addressing step.op) (ap (may_select addressing) names ∙ selects addressing page) plain), confirms_stores own before adds)
   confirms_stores own (Made step ∷ before) (inr (inl (earlier, is, closed, on, adds))) = (
     λ stores plain. (
       earlier,

@@ -1,9 +1,10 @@
 -- A conversation on confirmed pages: what is known of the selection, and what the conversation within is told.
-use Rattle.std.proofs.Common.{◌≡◌, ℕ, Bool, true, false, ◌∷◌, Option, Some, None, refl, sym, ap, subst, ◌∙◌, inl, inr, if◌then◌else◌, ◌<◌, ◌==◌, ◌&&◌, nat_lt, eq-eqb, eqb-true, lt-ltb, ltb-true, List, []}
+use Rattle.std.proofs.Common.{◌≡◌, ℕ, ◌/◌, ◌%◌, Bool, true, false, ◌∷◌, Option, Some, None, refl, sym, ap, subst, ◌∙◌, inl, inr, if◌then◌else◌, ◌<◌, ◌==◌, ◌&&◌, nat_lt, eq-eqb, eqb-true, lt-ltb, ltb-true, List, []}
 use Rattle.std.proofs.lemmas.Bool.{and_from, and_parts}
 use Rattle.arrayvec.specs.ArrayVec.{ArrayVec}
+use Rattle.bus_model.specs.declared.device.Dev.TheVariants.{A0}
 use Rattle.bus_model.specs.declared.operation.Op.{Op}
-use Rattle.bus_model.specs.declared.operation.Op.TheVariants.{Fetch, Store}
+use Rattle.bus_model.specs.declared.operation.Op.TheVariants.{Store}
 use Rattle.bus_model.specs.declared.operation.Reply.{Reply}
 use Rattle.bus_model.specs.declared.operation.Reply.TheVariants.{Bytes, Done, Refused}
 use Rattle.bus_model.specs.declared.operation.Step.{Step}
@@ -22,7 +23,7 @@ use Rattle.paged_memory.specs.declared.page_addressing.KnownPage.{KnownPage}
 use Rattle.paged_memory.specs.declared.page_addressing.KnownPage.TheVariants.{Open, Unknown}
 use Rattle.paged_memory.specs.KnownPages.{IsApart, Tells, is_awaited, is_known, missing_page, selected_after, selecting_first, selection_read, selection_told, wanted}
 use Rattle.paged_memory.specs.PageAddressing.{History, is_open, read_selection, selection}
-use Rattle.paged_memory.proofs.KnownPageLaws.{after_read, after_selection, after_work, is_confirmed, read_closes, read_tells, step_of, tells_next, tells_nothing}
+use Rattle.paged_memory.proofs.KnownPageLaws.{after_read, after_selection, after_work, is_confirmed, read_closes, read_tells, same_page, step_of, tells_next, tells_nothing}
 
 pub record Asks {E : Type 0} (addressing : PageAddressing) (selected : KnownPage) (page : Option ℕ) (within : Next E) (op : Op) : Type 0 where
   pub inner : Op
@@ -87,22 +88,10 @@ pub read_is_fetch : (addressing : PageAddressing) → IsFetch (read_selection ad
 read_is_fetch BankAndPage = tt
 read_is_fetch PageAlone = tt
 
-selection_stores : (addressing : PageAddressing) (page : ℕ) → IsFetch (selection addressing page) → ⊥
-selection_stores BankAndPage page fetch = fetch
-selection_stores PageAlone page fetch = fetch
-
-abbrev page_in : List ℕ → ℕ
-page_in [] = 0
-page_in (byte ∷ []) = byte
-page_in (byte ∷ next ∷ bytes) = next
-
-abbrev stored_page : Op → ℕ
-stored_page (Fetch dev offset count) = 0
-stored_page (Store dev offset bytes) = page_in bytes.items
-
-same_page : (addressing : PageAddressing) (page other : ℕ) → selection addressing page ≡ selection addressing other → page ≡ other
-same_page BankAndPage page other e = ap stored_page e
-same_page PageAlone page other e = ap stored_page e
+pub selection_stores : (addressing : PageAddressing) (page : ℕ) → IsFetch (selection addressing page) → ⊥
+selection_stores BankAndPage page = λ fetch. fetch
+selection_stores PageAlone page =
+    elim (page / 256 == 0) as (λ b. IsFetch (if b then Store A0 127 (record { items = page % 256 ∷ [] }) else Store A0 126 (record { items = page / 256 ∷ page % 256 ∷ [] })) → ⊥) [ true ↦ λ fetch. fetch | false ↦ λ fetch. fetch ]
 
 number_is : (page number : ℕ) → ◌≡◌ {A = Option ℕ} (Some page) (Some number) → page ≡ number
 number_is page number e = cc

@@ -7,8 +7,8 @@ pub enum Event {
     Made(Step),
     /// So many milliseconds passed, as was asked for.
     Waited(u32),
-    /// This page was needed and isn't there: its selection was accepted, and page 00h shows.
-    Lacked(u8),
+    /// The page of this number was needed and isn't there: its selection was accepted, and page 00h shows.
+    Lacked(u16),
     /// The caller said this, which means what the conversation takes it for.
     Asked(u32),
 }

@@ -35,8 +35,8 @@ pub trait NeedsPages: Conversation {
     /// What it is once it was told that the page isn't there.
     ghost lacking: { Self → ℕ → Self };
 
-    /// The page that the operation needs that is wanted. Before it is known how pages are selected, none is.
-    fn page(&self) -> Option<u8>
+    /// The number of the page that the operation needs that is wanted. Before it is known how pages are selected, none is.
+    fn page(&self) -> Option<u16>
         ensures value { result ≡ page self.now }
         ensures needs { (events : Events) → Self.told events self.now → page self.now ≡ needs (Self.topic self.now) events }
         ensures apart { (by : PageAddressing) → IfDo (Self.wants self.now) (IsApart by) }
@@ -54,7 +54,7 @@ pub trait NeedsPages: Conversation {
         ensures { result ≡ may_lack (Self.topic self.now) };
 
     /// The page that is needed isn't there.
-    fn lacks(&mut self, number: u8)
+    fn lacks(&mut self, number: u16)
         requires { page self.old ≡ Some number }
         ensures after { self.new ≡ lacking self.old number }
         ensures topic { Self.topic self.new ≡ Self.topic self.old }
@@ -68,7 +68,7 @@ pub struct OnPage<C> {
     /// What is known of the page selection.
     pub selection: KnownPage,
     /// The page whose selection was accepted, until it is read back, if it may be lacked.
-    pub taken: Option<u8>,
+    pub taken: Option<u16>,
     /// Whether nothing is known of the selection after a refusal, since the module may have reset itself.
     pub doubts: bool,
 }
@@ -194,9 +194,9 @@ impl<C> OnPage<C> {
     fn read_back(
         &mut self,
         addressing: PageAddressing,
-        page: Option<u8>,
+        page: Option<u16>,
         reply: &Reply,
-    ) -> Option<u8>
+    ) -> Option<u16>
         ensures new { self.new ≡ record {
           conversation = self.old.conversation;
           selection = selection_told addressing self.old.selection reply.now;
@@ -227,7 +227,7 @@ fn chosen(addressing: Option<PageAddressing>) -> PageAddressing
     }
 }
 
-fn taken_by(may: bool, page: u8, reply: &Reply) -> Option<u8>
+fn taken_by(may: bool, page: u16, reply: &Reply) -> Option<u16>
     ensures { result ≡ taken_by may page reply.now }
 {
     match reply {
@@ -237,7 +237,7 @@ fn taken_by(may: bool, page: u8, reply: &Reply) -> Option<u8>
 }
 
 // If page 00h shows.
-fn lacked_by(page: Option<u8>, taken: Option<u8>, shows: bool) -> Option<u8>
+fn lacked_by(page: Option<u16>, taken: Option<u16>, shows: bool) -> Option<u16>
     ensures { result ≡ lacked_by page taken shows }
 {
     match (page, taken) {

@@ -29,12 +29,12 @@ impl Span {
     }
 
     /// The page that has to be selected for it; none for a lower half.
-    pub fn page(self) -> Option<u8>
+    pub fn page(self) -> Option<u16>
         ensures { result ≡ page_of_half self.half self.page }
     {
         match self.half {
             Half::Lower => None,
-            Half::Upper => Some(self.page),
+            Half::Upper => Some(u16::from(self.page)),
         }
     }
 }

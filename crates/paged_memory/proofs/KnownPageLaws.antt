@@ -1,7 +1,10 @@
 -- What a host keeps of the page selection is what its steps say.
-use Rattle.std.proofs.Common.{◌≡◌, ℕ, ◌==◌, ◌&&◌, ◌||◌, Bool, true, false, not, List, [], ◌∷◌, Option, Some, None, refl, sym, ap, subst, ◌∙◌, if◌then◌else◌, arith}
+use Rattle.std.proofs.Common.{◌≡◌, inl, inr, ℕ, ◌+◌, ◌*◌, ◌/◌, ◌%◌, nat_lt, ◌==◌, ◌&&◌, ◌||◌, Bool, true, false, not, List, [], ◌∷◌, Option, Some, None, refl, sym, ap, subst, ◌∙◌, if◌then◌else◌, arith}
+use Rattle.std.proofs.lemmas.Bool.{and_from, and_parts, cases_lt, eq-eqb, eqb-true, false_from_ne_true, le-ltb, lt-ltb}
 use Rattle.std.proofs.lemmas.Bool.Decides.{nat_tests}
+use Rattle.bus_model.specs.declared.device.Dev.TheVariants.{A0}
 use Rattle.bus_model.specs.declared.operation.Op.{Op}
+use Rattle.bus_model.specs.declared.operation.Op.TheVariants.{Fetch, Store}
 use Rattle.bus_model.specs.declared.operation.Reply.{Reply}
 use Rattle.bus_model.specs.declared.operation.Reply.TheVariants.{Bytes, Done, Refused}
 use Rattle.bus_model.specs.declared.operation.Step.{Step}
@@ -11,7 +14,7 @@ use Rattle.paged_memory.specs.declared.page_addressing.PageAddressing.TheVariant
 use Rattle.paged_memory.specs.declared.page_addressing.KnownPage.{KnownPage}
 use Rattle.paged_memory.specs.declared.page_addressing.KnownPage.TheVariants.{Unknown, Open, Page}
 use Rattle.paged_memory.specs.PageAddressing.{History, is_page_confirmed, is_page, is_read, is_selection_of, may_select, read_selection, selection}
-use Rattle.paged_memory.specs.KnownPages.{IsApart, Tells, is_awaited, is_known, missing_page, selected_after, selecting_first, selection_read, selection_told, wanted}
+use Rattle.paged_memory.specs.KnownPages.{IsApart, Tells, is_awaited, is_known, missing_page, page_in, selected_after, selecting_first, selection_read, selection_told, wanted}
 
 abbrev pub step_of : Op → Reply → Step
 step_of op reply = record { op = op; reply = reply }
@@ -22,22 +25,52 @@ none_known Unknown page e = refl
 none_known Open page e = refl
 none_known (Page known) page e = cc
 
+page_closes : (bank number : ℕ) → is_awaited (page_in bank number) ≡ false
+page_closes bank number = elim (nat_lt number 256) as (λ b. is_awaited (if b then Page (256 * bank + number) else Unknown) ≡ false) [ true ↦ refl | false ↦ refl ]
+
 pub read_closes : (addressing : PageAddressing) (bytes : List ℕ) → is_awaited (selection_read addressing bytes) ≡ false
 read_closes BankAndPage [] = refl
 read_closes BankAndPage (bank ∷ []) = refl
-read_closes BankAndPage (bank ∷ number ∷ []) = elim (bank == 0) as (λ b. is_awaited (if b then Page number else Unknown) ≡ false) [ true ↦ refl | false ↦ refl ]
+read_closes BankAndPage (bank ∷ number ∷ []) = page_closes bank number
 read_closes BankAndPage (bank ∷ number ∷ more ∷ bytes) = refl
 read_closes PageAlone [] = refl
-read_closes PageAlone (number ∷ []) = refl
+read_closes PageAlone (number ∷ []) = page_closes 0 number
 read_closes PageAlone (number ∷ more ∷ bytes) = refl
+
+same_truth : (a b : Bool) → (a ≡ true → b ≡ true) → (b ≡ true → a ≡ true) → a ≡ b
+same_truth true b there back = sym (there refl)
+same_truth false true there back = back refl
+same_truth false false there back = refl
+
+pub parts_are : (bank number page : ℕ) → (bank == page / 256 && number == page % 256) ≡ true → (bank ≡ page / 256) × (number ≡ page % 256)
+parts_are bank number page e = let parts = and_parts (bank == page / 256) (number == page % 256) e in (eqb-true bank (page / 256) parts.0, eqb-true number (page % 256) parts.1)
+
+-- a bank and a page are those of the number that they have
+page_tells : (bank number page : ℕ) → (bank == page / 256 && number == page % 256) ≡ is_known (page_in bank number) page
+page_tells bank number page = elim (cases_lt number 256) [
+  | inl below ↦
+      let same : (bank == page / 256 && number == page % 256) ≡ (256 * bank + number == page) =
+      same_truth _ _ (λ e. let (of, at) = parts_are bank number page e in eq-eqb (256 * bank + number) page (omega (arith, of, at)))
+      (λ e. let whole = eqb-true (256 * bank + number) page e in and_from _ _ (eq-eqb bank (page / 256) (omega (arith, below, whole))) (eq-eqb number (page % 256) (omega (arith, below, whole)))) in
+      let byte : nat_lt number 256 ≡ true = lt-ltb number 256 below in
+      same ∙ sym (ap (λ (b : Bool). is_known (if b then Page (256 * bank + number) else Unknown) page) byte)
+  | inr above ↦
+      let other : (bank == page / 256 && number == page % 256) ≡ false =
+      false_from_ne_true _ (λ e. let (of, at) = parts_are bank number page e in omega (arith, above, at)) in
+      let none : nat_lt number 256 ≡ false = le-ltb number 256 above in
+      other ∙ sym (ap (λ (b : Bool). is_known (if b then Page (256 * bank + number) else Unknown) page) none)
+]
+
+alone_tells : (number page : ℕ) → (page / 256 == 0 && number == page % 256) ≡ is_known (page_in 0 number) page
+alone_tells number page = ap (λ (b : Bool). b && number == page % 256) (same_truth (page / 256 == 0) (0 == page / 256) (λ e. eq-eqb _ _ (sym (eqb-true _ _ e))) (λ e. eq-eqb _ _ (sym (eqb-true _ _ e)))) ∙ page_tells 0 number page
 
 pub read_tells : (addressing : PageAddressing) (bytes : List ℕ) (page : ℕ) → is_selection_of addressing page bytes ≡ is_known (selection_read addressing bytes) page
 read_tells BankAndPage [] page = refl
 read_tells BankAndPage (bank ∷ []) page = refl
-read_tells BankAndPage (bank ∷ number ∷ []) page = elim (bank == 0) as (λ b. (b && number == page) ≡ is_known (if b then Page number else Unknown) page) [ true ↦ refl | false ↦ refl ]
+read_tells BankAndPage (bank ∷ number ∷ []) page = page_tells bank number page
 read_tells BankAndPage (bank ∷ number ∷ more ∷ bytes) page = refl
 read_tells PageAlone [] page = refl
-read_tells PageAlone (number ∷ []) page = refl
+read_tells PageAlone (number ∷ []) page = alone_tells number page
 read_tells PageAlone (number ∷ more ∷ bytes) page = refl
 
 or_false : (b : Bool) → (b || false) ≡ b
@@ -52,13 +85,35 @@ pub reads_alone : (addressing : PageAddressing) → may_select addressing (read_
 reads_alone BankAndPage = refl
 reads_alone PageAlone = refl
 
-selects : (addressing : PageAddressing) (page : ℕ) → may_select addressing (selection addressing page) ≡ true
+pub selects : (addressing : PageAddressing) (page : ℕ) → may_select addressing (selection addressing page) ≡ true
 selects BankAndPage page = refl
-selects PageAlone page = refl
+selects PageAlone page = elim (page / 256 == 0) as (λ b. may_select PageAlone (if b then Store A0 127 (record { items = page % 256 ∷ [] }) else Store A0 126 (record { items = page / 256 ∷ page % 256 ∷ [] })) ≡ true) [ true ↦ refl | false ↦ refl ]
 
 pub selects_alone : (addressing : PageAddressing) (page : ℕ) → same_op (read_selection addressing) (selection addressing page) ≡ false
 selects_alone BankAndPage page = refl
-selects_alone PageAlone page = refl
+selects_alone PageAlone page =
+    elim (page / 256 == 0) as (λ b. same_op (read_selection PageAlone) (if b then Store A0 127 (record { items = page % 256 ∷ [] }) else Store A0 126 (record { items = page / 256 ∷ page % 256 ∷ [] })) ≡ false) [ true ↦ refl | false ↦ refl ]
+
+-- the page that the store of a selection names
+abbrev named_by : List ℕ → ℕ
+named_by [] = 0
+named_by (number ∷ []) = number
+named_by (bank ∷ number ∷ bytes) = 256 * bank + number
+
+abbrev named_in : Op → ℕ
+named_in (Fetch dev offset count) = 0
+named_in (Store dev offset bytes) = named_by bytes.items
+
+names : (addressing : PageAddressing) (page : ℕ) → named_in (selection addressing page) ≡ page
+names BankAndPage page = omega arith
+names PageAlone page = by (page / 256 == 0) refl where
+  by : (alone : Bool) → (page / 256 == 0) ≡ alone → named_in (if alone then Store A0 127 (record { items = page % 256 ∷ [] }) else Store A0 126 (record { items = page / 256 ∷ page % 256 ∷ [] })) ≡ page
+  by true e = let first = eqb-true (page / 256) 0 e in omega (arith, first)
+  by false e = omega arith
+
+-- no two pages have one selection
+pub same_page : (addressing : PageAddressing) (page other : ℕ) → selection addressing page ≡ selection addressing other → page ≡ other
+same_page addressing page other e = sym (names addressing page) ∙ ap named_in e ∙ names addressing other
 
 module _ (addressing : PageAddressing) (selected : KnownPage) (history : History) (told : Tells addressing selected history) where
   read_back_tells : (reply : Reply) → is_awaited selected ≡ true → Tells addressing (selection_told addressing selected reply) (step_of (read_selection addressing) reply ∷ history)

@@ -1,7 +1,7 @@
 -- Which page a window behind a scripted bus shows after steps that confirm one, or that selected it. Steps stand with the newest
 -- first.
-use Rattle.std.proofs.Common.{◌≡◌, ◌⊎◌, inl, inr, ℕ, ◌+◌, ◌<◌, ◌≤◌, Bool, true, false, not, ◌&&◌, ◌==◌, List, [], ◌∷◌, length, take, Option, Some, None, is_some, refl, sym, ap, subst, ◌∙◌, if◌then◌else◌, nat_lt, arith}
-use Rattle.std.proofs.lemmas.Bool.{and_parts, cases_lt, eqb-true, not-true, or_cases}
+use Rattle.std.proofs.Common.{◌≡◌, ◌⊎◌, inl, inr, ℕ, ◌+◌, ◌/◌, ◌%◌, ◌<◌, ◌≤◌, Bool, true, false, not, ◌&&◌, ◌==◌, List, [], ◌∷◌, length, take, Option, Some, None, is_some, refl, sym, ap, subst, ◌∙◌, if◌then◌else◌, nat_lt, arith}
+use Rattle.std.proofs.lemmas.Bool.{and_parts, cases_lt, eq-eqb, eqb-true, not-true, or_cases}
 use Rattle.std.proofs.lemmas.Bool.Decides.{nat_tests}
 use Rattle.std.proofs.lemmas.List.{length-take}
 use Rattle.std.specs.Prelude.{option_map}
@@ -24,10 +24,11 @@ use Rattle.paged_memory.specs.declared.page_addressing.PageAddressing.{PageAddre
 use Rattle.paged_memory.specs.declared.page_addressing.PageAddressing.TheVariants.{BankAndPage, PageAlone}
 use Rattle.paged_memory.specs.declared.mapped_page.MappedPage.{MappedPage}
 use Rattle.paged_memory.specs.Images.{Memory}
-use Rattle.paged_memory.specs.Keys.{upper_key}
+use Rattle.paged_memory.specs.Keys.{page_key, upper_key}
 use Rattle.paged_memory.specs.PageAddressing.{History, is_page_confirmed, first_byte, is_page, is_selection_of, may_select, read_selection, reads_back, selection}
 use Rattle.paged_memory.specs.MappedPages.{first_page, mapped, selected, selected_in_turn, selecting_on}
 use Rattle.paged_memory.specs.Windows.{Windowed, bytes_from, window_fetched, half_at, window_stored, window_conduct}
+use Rattle.paged_memory.proofs.KnownPageLaws.{parts_are}
 use Rattle.paged_memory.proofs.WindowRuns.{always, shown_two}
 
 -- a bus with a script and a window
@@ -72,11 +73,11 @@ of_after memory state [] of = of
 of_after memory state (step ∷ before) of =
     step_keeps window_conduct AnyPin (IsOf memory) (always (IsOf memory)) step.op (of_kept memory step.op) (left state before) (all_allow (left state before).0) (of_after memory state before of)
 
--- and shows a page of bank 0
+-- and shows a page
 pub record Shows (memory : Memory) (page : ℕ) (window : Windowed) : Type 0 where
   pub memory_is : window.memory ≡ memory
-  pub bank : window.selection.bank ≡ 0
-  pub number : window.selection.page ≡ page
+  pub bank : window.selection.bank ≡ page / 256
+  pub number : window.selection.page ≡ page % 256
 
 same_shows : (memory : Memory) (page : ℕ) (window : Windowed) (selection : MappedPage) → selection ≡ window.selection → Shows memory page window → Shows memory page (record window { selection = selection })
 same_shows memory page window selection same shows = record {
@@ -232,14 +233,15 @@ shows_two : (memory : Memory) (by : selecting_on memory A0 ≡ (Some BankAndPage
     (window_fetched window A0 126 2).0 ≡ Some bytes → is_selection_of BankAndPage page bytes ≡ true → Shows memory page window
 shows_two memory by page window bytes sound answer reads =
     let two = shown_two (selecting_on window.memory A0) window.selection (half_at window A0 126) bytes (by_window memory BankAndPage by window sound.memory_is) answer in
-    let parts = and_parts (window.selection.bank == 0) (window.selection.page == page) (ap (is_selection_of BankAndPage page) (sym two) ∙ reads) in
-    record { memory_is = sound.memory_is; bank = eqb-true window.selection.bank 0 parts.0; number = eqb-true window.selection.page page parts.1 }
+    let parts = parts_are window.selection.bank window.selection.page page (ap (is_selection_of BankAndPage page) (sym two) ∙ reads) in
+    record { memory_is = sound.memory_is; bank = parts.0; number = parts.1 }
 
 shows_one : (memory : Memory) (by : selecting_on memory A0 ≡ (Some PageAlone)) (page : ℕ) (window : Windowed) (bytes : List ℕ) → IsSound memory PageAlone window →
     (window_fetched window A0 127 1).0 ≡ Some bytes → is_selection_of PageAlone page bytes ≡ true → Shows memory page window
 shows_one memory by page window bytes sound answer reads =
     let one = shown_one (selecting_on window.memory A0) window.selection (half_at window A0 127) bytes (by_window memory PageAlone by window sound.memory_is) answer in
-    record { memory_is = sound.memory_is; bank = sound.bank; number = eqb-true window.selection.page page (ap (is_selection_of PageAlone page) (sym one) ∙ reads) }
+    let parts = and_parts (page / 256 == 0) (window.selection.page == page % 256) (ap (is_selection_of PageAlone page) (sym one) ∙ reads) in
+    record { memory_is = sound.memory_is; bank = sound.bank ∙ sym (eqb-true (page / 256) 0 parts.0); number = eqb-true window.selection.page (page % 256) parts.1 }
 
 shows_reply : (memory : Memory) (addressing : PageAddressing) → selecting_on memory A0 ≡ selecting_of addressing → (page : ℕ) (there : State) (reply : Reply) → is_page addressing page reply ≡ true →
     reply ≡ (transacted window_conduct (read_selection addressing) there).0 → IsSound memory addressing there.1 →
@@ -279,8 +281,13 @@ shows_confirmed memory addressing by page state (step ∷ before) sound may conf
 
 -- ---- a selection that was taken
 
-mapped_shows : (memory : Memory) (page : ℕ) → finmap.contains_key memory (upper_key A0 0 page) ≡ true → mapped memory 0 page ≡ record { bank = 0; page = page; waiting = 0 }
-mapped_shows memory page there = λ i. if there i then record { bank = 0; page = page; waiting = 0 } else first_page
+mapped_shows : (memory : Memory) (bank page : ℕ) → finmap.contains_key memory (upper_key A0 bank page) ≡ true → mapped memory bank page ≡ record { bank = bank; page = page; waiting = bank }
+mapped_shows memory bank page there = λ i. if there i then record { bank = bank; page = page; waiting = bank } else first_page
+
+-- a page that can be selected: alone, one of bank 0
+abbrev pub IsSelectable : PageAddressing → ℕ → Type 0
+IsSelectable BankAndPage page = Unit {0}
+IsSelectable PageAlone page = page / 256 ≡ 0
 
 taken_shows : (memory : Memory) (page : ℕ) (window : Windowed) (dev : Dev) (address : ℕ) (bytes : List ℕ) → (window_stored window dev address bytes).0 ≡ true → Shows memory page (selecting_anew window dev address bytes) →
     Shows memory page (window_stored window dev address bytes).1
@@ -290,22 +297,39 @@ taken_shows memory page window dev address bytes taken anew = by_test (is_some (
   by_test true e = anew
   by_test false e = absurd cc
 
+alone_of : (page : ℕ) → page / 256 ≡ 0 → selection PageAlone page ≡ Store A0 127 (record { items = page % 256 ∷ [] })
+alone_of page alone =
+    ap (λ (b : Bool). if b then Store A0 127 (record { items = page % 256 ∷ [] }) else Store A0 126 (record { items = page / 256 ∷ page % 256 ∷ [] })) (eq-eqb (page / 256) 0 alone)
+
+shows_alone : (memory : Memory) → selecting_on memory A0 ≡ (Some PageAlone) → (page : ℕ) (there : State) → page / 256 ≡ 0 → finmap.contains_key memory (page_key page) ≡ true →
+    Done ≡ (transacted window_conduct (Store A0 127 (record { items = page % 256 ∷ [] })) there).0 → IsOf memory there.1 → Shows memory page (transacted window_conduct (Store A0 127 (record { items = page % 256 ∷ [] })) there).1.1
+shows_alone memory by page there selectable has may of =
+    let bytes : List ℕ = page % 256 ∷ [] in
+    let done = stored_at window_conduct A0 127 bytes there may in
+    let window = found there in
+    let still : IsOf memory window = found_keeps window_conduct (IsOf memory) (always (IsOf memory)) there of in
+    let there_alone = subst (λ (bank : ℕ). finmap.contains_key memory (upper_key A0 bank (page % 256)) ≡ true) selectable has in
+    let anew : selected_in_turn (selecting_on window.memory A0) window.memory window.selection 127 bytes ≡ record { bank = 0; page = page % 256; waiting = 0 } =
+    ap (λ (s : Option PageAddressing). selected_in_turn s window.memory window.selection 127 bytes) (by_window memory PageAlone by window still) ∙ ap (λ (m : Memory). mapped m 0 (page % 256)) still
+    ∙ mapped_shows memory 0 (page % 256) there_alone in
+    subst (Shows memory page) (sym done.left) (taken_shows memory page window A0 127 bytes done.answer
+    (record { memory_is = still; bank = ap (λ (s : MappedPage). s.bank) anew ∙ sym selectable; number = ap (λ (s : MappedPage). s.page) anew }))
+
 -- where the memory has the page it is shown
-pub shows_selected : (memory : Memory) (addressing : PageAddressing) → selecting_on memory A0 ≡ selecting_of addressing → (page : ℕ) (there : State) → finmap.contains_key memory (upper_key A0 0 page) ≡ true →
+pub shows_selected : (memory : Memory) (addressing : PageAddressing) → selecting_on memory A0 ≡ selecting_of addressing → (page : ℕ) (there : State) → IsSelectable addressing page → finmap.contains_key memory (page_key page) ≡ true →
     Done ≡ (transacted window_conduct (selection addressing page) there).0 → IsOf memory there.1 → Shows memory page (transacted window_conduct (selection addressing page) there).1.1
-shows_selected memory BankAndPage by page there has may of =
-    let done = stored_at window_conduct A0 126 (0 ∷ page ∷ []) there may in
+shows_selected memory BankAndPage by page there selectable has may of =
+    let bytes : List ℕ = page / 256 ∷ page % 256 ∷ [] in
+    let done = stored_at window_conduct A0 126 bytes there may in
     let window = found there in
     let still : IsOf memory window = found_keeps window_conduct (IsOf memory) (always (IsOf memory)) there of in
-    let anew : selected_in_turn (selecting_on window.memory A0) window.memory window.selection 126 (0 ∷ page ∷ []) ≡ record { bank = 0; page = page; waiting = 0 } =
-    ap (λ (s : Option PageAddressing). selected_in_turn s window.memory window.selection 126 (0 ∷ page ∷ [])) (by_window memory BankAndPage by window still) ∙ ap (λ (m : Memory). mapped m 0 page) still ∙ mapped_shows memory page has in
-    subst (Shows memory page) (sym done.left) (taken_shows memory page window A0 126 (0 ∷ page ∷ []) done.answer
+    let anew : selected_in_turn (selecting_on window.memory A0) window.memory window.selection 126 bytes ≡ record { bank = page / 256; page = page % 256; waiting = page / 256 } =
+    ap (λ (s : Option PageAddressing). selected_in_turn s window.memory window.selection 126 bytes) (by_window memory BankAndPage by window still) ∙ ap (λ (m : Memory). mapped m (page / 256) (page % 256)) still
+    ∙ mapped_shows memory (page / 256) (page % 256) has in
+    subst (Shows memory page) (sym done.left) (taken_shows memory page window A0 126 bytes done.answer
     (record { memory_is = still; bank = ap (λ (s : MappedPage). s.bank) anew; number = ap (λ (s : MappedPage). s.page) anew }))
-shows_selected memory PageAlone by page there has may of =
-    let done = stored_at window_conduct A0 127 (page ∷ []) there may in
-    let window = found there in
-    let still : IsOf memory window = found_keeps window_conduct (IsOf memory) (always (IsOf memory)) there of in
-    let anew : selected_in_turn (selecting_on window.memory A0) window.memory window.selection 127 (page ∷ []) ≡ record { bank = 0; page = page; waiting = 0 } =
-    ap (λ (s : Option PageAddressing). selected_in_turn s window.memory window.selection 127 (page ∷ [])) (by_window memory PageAlone by window still) ∙ ap (λ (m : Memory). mapped m 0 page) still ∙ mapped_shows memory page has in
-    subst (Shows memory page) (sym done.left) (taken_shows memory page window A0 127 (page ∷ []) done.answer
-    (record { memory_is = still; bank = ap (λ (s : MappedPage). s.bank) anew; number = ap (λ (s : MappedPage). s.page) anew }))
+shows_selected memory PageAlone by page there selectable has may of =
+    let bytes : List ℕ = page % 256 ∷ [] in
+    let alone : selection PageAlone page ≡ Store A0 127 (record { items = bytes }) = alone_of page selectable in
+    subst (λ (op : Op). Shows memory page (transacted window_conduct op there).1.1) (sym alone)
+    (shows_alone memory by page there selectable has (may ∙ ap (λ (op : Op). (transacted window_conduct op there).0) alone) of)

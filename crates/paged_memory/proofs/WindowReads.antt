@@ -16,7 +16,7 @@ use Rattle.paged_memory.specs.declared.page_addressing.PageAddressing.{PageAddre
 use Rattle.paged_memory.specs.declared.page_addressing.PageAddressing.TheVariants.{BankAndPage, PageAlone}
 use Rattle.paged_memory.specs.Images.{Memory, place_in_half}
 use Rattle.paged_memory.specs.ImageText.{IsEntry, IsImage, IsPage}
-use Rattle.paged_memory.specs.Keys.{lower_key, upper_key}
+use Rattle.paged_memory.specs.Keys.{lower_key, page_key, upper_key}
 use Rattle.paged_memory.specs.KeyOrder.{key_cmp}
 use Rattle.paged_memory.specs.MappedPages.{selecting_on, shown_at}
 use Rattle.paged_memory.specs.Windows.{Windowed, bytes_from, window_fetched, half_at, read_at}
@@ -71,14 +71,14 @@ whole half len = ap (λ (n : ℕ). take n half) (sym len) ∙ take-length half
 
 -- of a page that is shown
 pub reads_page : (memory : Memory) (page : ℕ) (window : Windowed) (bytes : List ℕ) → IsImage memory → Shows memory page window → (window_fetched window A0 128 128).0 ≡ Some bytes →
-    finmap.get memory (upper_key A0 0 page) ≡ Some bytes
+    finmap.get memory (page_key page) ≡ Some bytes
 reads_page memory page window bytes image shows answer =
     let how = selecting_on window.memory A0 in
     let from = given_by (bytes_from how window.selection 128 128) (half_at window A0 128) bytes answer in
     let half = from.0 in
-    let there : finmap.get memory (upper_key A0 0 page) ≡ half_at window A0 128 = λ i. finmap.get (sym shows.memory_is i) (upper_key A0 (sym shows.bank i) (sym shows.number i)) in
+    let there : finmap.get memory (page_key page) ≡ half_at window A0 128 = λ i. finmap.get (sym shows.memory_is i) (upper_key A0 (sym shows.bank i) (sym shows.number i)) in
     let has = there ∙ from.1 in
-    let len = (half_page memory (upper_key A0 0 page) half image has).len in
+    let len = (half_page memory (page_key page) half image has).len in
     let same = read_first how window.selection half 128 128 (omega (arith, len)) (λ place below. read_plain how window.selection half (128 + place) place (inr (omega arith)) (grind (arith, nat_tests))) in
     has ∙ ap (λ (xs : List ℕ). Some xs) (sym (whole half len) ∙ sym same ∙ from.2)
 

@@ -1,6 +1,6 @@
 -- What a host keeps of the page selection, and what it asks for by that. (docs/bus.md, "Confirmed pages"; this project's
 -- own)
-use Rattle.std.specs.Prelude.{◌≡◌, ℕ, ◌==◌, Bool, true, false, List, [], ◌∷◌, Option, Some, None, if◌then◌else◌}
+use Rattle.std.specs.Prelude.{◌≡◌, ℕ, ◌+◌, ◌*◌, ◌==◌, nat_lt, Bool, true, false, List, [], ◌∷◌, Option, Some, None, if◌then◌else◌}
 use Rattle.bus_model.specs.declared.operation.Op.{Op}
 use Rattle.bus_model.specs.declared.operation.Reply.{Reply}
 use Rattle.bus_model.specs.declared.operation.Reply.TheVariants.{Bytes, Done, Refused}
@@ -37,12 +37,16 @@ selecting_first addressing op (Some page) = selection addressing page
 abbrev pub wanted : PageAddressing → KnownPage → Option ℕ → Op → Op
 wanted addressing selected needed op = if is_awaited selected then read_selection addressing else selecting_first addressing op (missing_page selected needed)
 
+-- a page that is a byte, of this bank
+abbrev pub page_in : ℕ → ℕ → KnownPage
+page_in bank number = if nat_lt number 256 then Page (256 * bank + number) else Unknown
+
 abbrev pub bank_and_page_read : List ℕ → KnownPage
-bank_and_page_read (bank ∷ number ∷ []) = if bank == 0 then Page number else Unknown
+bank_and_page_read (bank ∷ number ∷ []) = page_in bank number
 bank_and_page_read _ = Unknown
 
 abbrev pub page_alone_read : List ℕ → KnownPage
-page_alone_read (number ∷ []) = Page number
+page_alone_read (number ∷ []) = page_in 0 number
 page_alone_read _ = Unknown
 
 abbrev pub selection_read : PageAddressing → List ℕ → KnownPage

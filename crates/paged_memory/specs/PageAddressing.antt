@@ -1,7 +1,7 @@
--- Page selection over the steps of a bus with the newest first: which page of bank 0 they confirm, and whether it is open
--- what the last selection did. (docs/bus.md, "Confirmed pages"; OIF-CMIS-05.0, BankSelect and PageSelect, bytes 126 and 127
+-- Page selection over the steps of a bus with the newest first: which page they confirm, and whether it is open what the last
+-- selection did. Pages go by numbers: page p of bank b has 256 * b + p. (docs/bus.md, "Confirmed pages"; OIF-CMIS-05.0, BankSelect and PageSelect, bytes 126 and 127
 -- of the lower memory; SFF-8636, "Page Select", byte 127)
-use Rattle.std.specs.Prelude.{ℕ, ◌+◌, ◌==◌, ◌&&◌, ◌||◌, nat_lt, not, Bool, true, false, List, [], ◌∷◌, length}
+use Rattle.std.specs.Prelude.{ℕ, ◌+◌, ◌/◌, ◌%◌, ◌==◌, ◌&&◌, ◌||◌, nat_lt, not, Bool, true, false, List, [], ◌∷◌, length, if◌then◌else◌}
 use Rattle.bus_model.specs.declared.device.Dev.TheVariants.{A0, A2}
 use Rattle.bus_model.specs.declared.operation.Op.{Op}
 use Rattle.bus_model.specs.declared.operation.Op.TheVariants.{Fetch, Store}
@@ -26,10 +26,10 @@ abbrev pub first_byte : PageAddressing → ℕ
 first_byte BankAndPage = 126
 first_byte PageAlone = 127
 
--- the page is asked for, and bank 0 if a bank is
+-- a page is asked for with its bank, or, where pages are selected alone and it is of bank 0, alone
 abbrev pub selection : PageAddressing → ℕ → Op
-selection BankAndPage page = Store A0 126 (record { items = 0 ∷ page ∷ [] })
-selection PageAlone page = Store A0 127 (record { items = page ∷ [] })
+selection BankAndPage page = Store A0 126 (record { items = page / 256 ∷ page % 256 ∷ [] })
+selection PageAlone page = if page / 256 == 0 then Store A0 127 (record { items = page % 256 ∷ [] }) else Store A0 126 (record { items = page / 256 ∷ page % 256 ∷ [] })
 
 abbrev pub read_selection : PageAddressing → Op
 read_selection BankAndPage = Fetch A0 126 2
@@ -42,18 +42,19 @@ may_select addressing (Store A2 offset bytes) = false
 may_select addressing (Fetch dev offset count) = false
 
 abbrev pub are_bank_and_page : ℕ → List ℕ → Bool
-are_bank_and_page page (bank ∷ number ∷ []) = bank == 0 && number == page
+are_bank_and_page page (bank ∷ number ∷ []) = bank == page / 256 && number == page % 256
 are_bank_and_page page _ = false
 
+-- alone, a page is of bank 0
 abbrev pub are_page_alone : ℕ → List ℕ → Bool
-are_page_alone page (number ∷ []) = number == page
+are_page_alone page (number ∷ []) = page / 256 == 0 && number == page % 256
 are_page_alone page _ = false
 
 abbrev pub is_selection_of : PageAddressing → ℕ → List ℕ → Bool
 is_selection_of BankAndPage = are_bank_and_page
 is_selection_of PageAlone = are_page_alone
 
--- what was read is the page of bank 0
+-- what was read is the page
 abbrev pub is_page : PageAddressing → ℕ → Reply → Bool
 is_page addressing page (Bytes bytes) = is_selection_of addressing page bytes.items
 is_page addressing page Done = false

@@ -25,7 +25,7 @@ pub struct Key {
 }
 
 impl Key {
-    ghost use Rattle.paged_memory.specs.Keys.{lower_key, upper_key};
+    ghost use Rattle.paged_memory.specs.Keys.{lower_key, page_key, upper_key};
 
     /// The lower half of a device.
     pub fn lower(dev: Dev) -> Self
@@ -49,6 +49,13 @@ impl Key {
             bank,
             page,
         }
+    }
+
+    /// The page of this number in the upper half of A0: page p of bank b has 256 * b + p.
+    pub fn of_page(number: u16) -> Self
+        ensures { result ≡ page_key number }
+    {
+        Key::upper(Dev::A0, (number / 256) as u8, (number % 256) as u8)
     }
 }
 

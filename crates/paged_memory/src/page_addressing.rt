@@ -1,4 +1,4 @@
-//! Pages as a host selects them over a bus: what it asks for, and what it knows.
+//! Pages as a host selects them over a bus: what it asks for, and what it knows. They go by numbers: page p of bank b has 256 * b + p.
 ghost use Rattle.std.specs.Prelude.{◌≡◌};
 ghost use Rattle.bus_model.specs.Operations.{IsWellShaped};
 
@@ -43,20 +43,21 @@ impl PageAddressing {
         }
     }
 
-    /// Asks for the page, bank 0.
-    pub fn select(self, page: u8) -> Op
+    /// Asks for a page by its number: with its bank, or alone if it is of bank 0 and pages are selected so.
+    pub fn select(self, page: u16) -> Op
         ensures operation { result ≡ selection self page }
         ensures shape { IsWellShaped result }
     {
+        let (bank, number) = ((page / 256) as u8, (page % 256) as u8);
         let mut bytes = ArrayVec::new();
         let offset = match self {
-            PageAddressing::BankAndPage => {
-                bytes.push(0);
+            PageAddressing::PageAlone if bank == 0 => 127,
+            PageAddressing::BankAndPage | PageAddressing::PageAlone => {
+                bytes.push(bank);
                 126
             }
-            PageAddressing::PageAlone => 127,
         };
-        bytes.push(page);
+        bytes.push(number);
         Op::Store {
             dev: Dev::A0,
             offset,
@@ -88,8 +89,8 @@ pub enum KnownPage {
     Unknown,
     /// It was stored to, and not read back yet.
     Open,
-    /// This page of bank 0 was read back.
-    Page(u8),
+    /// The page of this number was read back.
+    Page(u16),
 }
 
 impl KnownPage {
@@ -103,7 +104,7 @@ impl KnownPage {
     }
 
     /// The page that is needed, if it isn't known to be selected.
-    pub fn missing(self, needed: Option<u8>) -> Option<u8>
+    pub fn missing(self, needed: Option<u16>) -> Option<u16>
         ensures { result ≡ missing_page self needed }
     {
         match needed {
@@ -113,7 +114,7 @@ impl KnownPage {
     }
 
     /// What is to be made next if an operation is wanted that needs a page, or none.
-    pub fn wanted(self, addressing: PageAddressing, needed: Option<u8>, op: Op) -> Op
+    pub fn wanted(self, addressing: PageAddressing, needed: Option<u16>, op: Op) -> Op
         requires { IsWellShaped op }
         ensures operation { result ≡ wanted addressing self needed op }
         ensures shape { IsWellShaped result }
@@ -132,8 +133,9 @@ impl KnownPage {
         ensures { result ≡ selection_read addressing bytes.now }
     {
         match (addressing, bytes) {
-            (PageAddressing::BankAndPage, [0, page]) | (PageAddressing::PageAlone, [page]) =>
-                KnownPage::Page(*page),
+            (PageAddressing::BankAndPage, [bank, page]) =>
+                KnownPage::Page(u16::from(*bank) * 256 + u16::from(*page)),
+            (PageAddressing::PageAlone, [page]) => KnownPage::Page(u16::from(*page)),
             _ => KnownPage::Unknown,
         }
     }
