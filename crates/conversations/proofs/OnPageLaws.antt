@@ -1,5 +1,5 @@
 -- A conversation on confirmed pages: what is known of the selection, and what the conversation within is told.
-use Rattle.std.proofs.Common.{◌≡◌, ℕ, ◌/◌, ◌%◌, Bool, true, false, ◌∷◌, Option, Some, None, refl, sym, ap, subst, ◌∙◌, inl, inr, if◌then◌else◌, ◌<◌, ◌==◌, ◌&&◌, nat_lt, eq-eqb, eqb-true, lt-ltb, ltb-true, List, []}
+use Rattle.std.proofs.Common.{◌≡◌, ℕ, ◌/◌, ◌%◌, Bool, true, false, ◌∷◌, Option, Some, None, refl, sym, ap, subst, ◌∙◌, inl, inr, if◌then◌else◌, ◌<◌, ◌==◌, ◌&&◌, nat_lt, eq-eqb, eqb-true, lt-ltb, ltb-true, []}
 use Rattle.std.proofs.lemmas.Bool.{and_from, and_parts}
 use Rattle.arrayvec.specs.ArrayVec.{ArrayVec}
 use Rattle.bus_model.specs.declared.device.Dev.TheVariants.{A0}
