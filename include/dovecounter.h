@@ -738,7 +738,7 @@ struct dovecounter_progress {
     uint8_t lanes; /* in a reading: what is requested */
     uint8_t control[8];
     uint8_t selection;
-    uint8_t page;
+    uint16_t page;
     struct dovecounter_fault fault;
     uint8_t due;
     uint32_t idle;
@@ -753,7 +753,7 @@ struct dovecounter_conversation {
     struct dovecounter_progress saved;
     uint8_t doubts;
     uint8_t taken;
-    uint8_t taken_page;
+    uint16_t taken_page;
     uint8_t watches;
     uint8_t look;
     struct dovecounter_fault left;
@@ -928,9 +928,9 @@ struct dovecounter_update_delivery {
     uint8_t check;
     uint8_t due;
     uint8_t selection;
-    uint8_t page;
+    uint16_t page;
     uint8_t taken;
-    uint8_t taken_page;
+    uint16_t taken_page;
     uint8_t outcome;
     uint8_t status;
     uint8_t count;
@@ -1115,9 +1115,9 @@ struct dovecounter_changing_lanes {
     uint8_t due;
     uint8_t doubts;
     uint8_t selection;
-    uint8_t page;
+    uint16_t page;
     uint8_t taken;
-    uint8_t taken_page;
+    uint16_t taken_page;
 };
 
 /* Begins to change lanes, by 4096 transactions at most. Status 31 means that there is no such control. */
@@ -1298,9 +1298,9 @@ struct dovecounter_link_test {
     uint8_t due;
     uint8_t doubts;
     uint8_t selection;
-    uint8_t page;
+    uint16_t page;
     uint8_t taken;
-    uint8_t taken_page;
+    uint16_t taken_page;
     uint8_t flags[8];
     struct dovecounter_link_change on[16];
     struct dovecounter_link_change still_on[16];
@@ -1493,9 +1493,9 @@ struct dovecounter_changing_settings {
     uint8_t due;
     uint8_t doubts;
     uint8_t selection;
-    uint8_t page;
+    uint16_t page;
     uint8_t taken;
-    uint8_t taken_page;
+    uint16_t taken_page;
     uint8_t settings[21];
     uint8_t staged[29];
     uint8_t mixed[21];
@@ -1693,7 +1693,7 @@ struct dovecounter_vdm {
     uint8_t stage;
     uint8_t stage_page;
     uint8_t selection;
-    uint8_t page;
+    uint16_t page;
     uint8_t due;
     uint8_t control;
     uint8_t statistics;
@@ -1842,7 +1842,7 @@ struct dovecounter_work {
     uint8_t woken;
     uint8_t doubts;
     uint8_t taken;
-    uint8_t taken_page;
+    uint16_t taken_page;
     uint8_t stage;
     uint8_t found;
 };
@@ -1866,7 +1866,7 @@ struct dovecounter_port {
     uint8_t outstanding;
     uint8_t vain;
     uint8_t selection;
-    uint8_t page;
+    uint16_t page;
     struct dovecounter_goal goal;
     struct dovecounter_left left;
     uint8_t request;       /* what was asked: enum dovecounter_request */

@@ -174,7 +174,8 @@ class Progress(Structure):
         ("steps", c_uint16),
         *_members(c_uint8, "work lanes"),
         ("control", Lanes),
-        *_members(c_uint8, "selection page"),
+        ("selection", c_uint8),
+        ("page", c_uint16),
         ("fault", Fault),
         ("due", c_uint8),
         *_members(c_uint32, "idle pause limit"),
@@ -189,7 +190,9 @@ class Conversation(Structure):
     _fields_ = [
         ("magic", c_uint32),
         ("saved", Progress),
-        *_members(c_uint8, "doubts taken taken_page watches look"),
+        *_members(c_uint8, "doubts taken"),
+        ("taken_page", c_uint16),
+        *_members(c_uint8, "watches look"),
         ("left", Fault),
         *_members(c_uint8, "halves piece read"),
         ("part", c_uint8 * 128),
@@ -227,7 +230,10 @@ class UpdateDelivery(Structure):
     _fields_ = [
         ("idle", c_uint32),
         ("steps", c_uint16),
-        *_members(c_uint8, "phase at check due selection page taken taken_page"),
+        *_members(c_uint8, "phase at check due selection"),
+        ("page", c_uint16),
+        ("taken", c_uint8),
+        ("taken_page", c_uint16),
         *_members(c_uint8, "outcome status count"),
         ("reply", c_uint8 * 128),
     ]
@@ -276,7 +282,10 @@ class ChangingLanes(Structure):
         *_members(c_uint16, "steps most_steps"),
         ("change", LaneChange),
         *_members(c_uint8, "stage end byte disturbed left refused due doubts"),
-        *_members(c_uint8, "selection page taken taken_page"),
+        ("selection", c_uint8),
+        ("page", c_uint16),
+        ("taken", c_uint8),
+        ("taken_page", c_uint16),
     ]
 
 
@@ -322,7 +331,10 @@ class LinkTest(Structure):
         *_members(c_uint8, "stage byte"),
         ("hand", LinkChange),
         *_members(c_uint8, "tries rounds fault fault_control on_count still_on_count shown_count"),
-        *_members(c_uint8, "due doubts selection page taken taken_page"),
+        *_members(c_uint8, "due doubts selection"),
+        ("page", c_uint16),
+        ("taken", c_uint8),
+        ("taken_page", c_uint16),
         ("flags", Lanes),
         ("on", LinkChange * 16),
         ("still_on", LinkChange * 16),
@@ -389,7 +401,10 @@ class ChangingSettings(Structure):
         *_members(c_uint32, "magic idle pause limit"),
         *_members(c_uint16, "steps most_steps"),
         *_members(c_uint8, "lanes tries stage end end_lane left due doubts"),
-        *_members(c_uint8, "selection page taken taken_page"),
+        ("selection", c_uint8),
+        ("page", c_uint16),
+        ("taken", c_uint8),
+        ("taken_page", c_uint16),
         ("settings", c_uint8 * 21),
         ("staged", c_uint8 * 29),
         ("mixed", c_uint8 * 21),
@@ -426,7 +441,9 @@ class Vdm(Structure):
     _fields_ = [
         *_members(c_uint32, "magic pause"),
         ("left", c_uint16),
-        *_members(c_uint8, "stage stage_page selection page due control statistics release halves"),
+        *_members(c_uint8, "stage stage_page selection"),
+        ("page", c_uint16),
+        *_members(c_uint8, "due control statistics release halves"),
         *_members(c_uint8, "page_count todo_count"),
         *_members(c_uint8 * 16, "pages todo"),
     ]
@@ -469,7 +486,9 @@ class Work(Structure):
     _fields_ = [
         ("saved", Progress),
         ("most", c_uint16),
-        *_members(c_uint8, "woken doubts taken taken_page stage found"),
+        *_members(c_uint8, "woken doubts taken"),
+        ("taken_page", c_uint16),
+        *_members(c_uint8, "stage found"),
     ]
 
 
@@ -481,7 +500,8 @@ class Port(Structure):
         ("times", Times),
         *_members(c_uint32, "magic back_off refusals"),
         ("half_count", c_uint16),
-        *_members(c_uint8, "stage held outstanding vain selection page"),
+        *_members(c_uint8, "stage held outstanding vain selection"),
+        ("page", c_uint16),
         ("goal", Goal),
         ("left", Left),
         *_members(c_uint8, "request request_lanes identifier apply_refused"),

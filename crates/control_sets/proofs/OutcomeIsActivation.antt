@@ -13,7 +13,7 @@ use Rattle.control_sets.specs.declared.procedures.judgement.ReplyJudgement.TheVa
 use Rattle.control_sets.specs.Pages.{EachStep, History, selection}
 use Rattle.control_sets.specs.Tasks.{activation, operation, page_of}
 use Rattle.control_sets.specs.Judgements.{differing_lane, judged}
-use Rattle.control_sets.specs.Procedures.{EachAnswers, EachGoesOn, EachIsNextBy, GoesOn, HasEndedBy, IsOutcome, fault_by, is_on, IsUnfinishedBy, in_hand}
+use Rattle.control_sets.specs.Procedures.{EachAnswers, EachGoesOn, EachIsNextBy, GoesOn, HasEndedBy, IsOutcome, fault_by, is_on, IsUnfinishedBy}
 use Rattle.control_sets.specs.OutcomeSteps.{Gives, IsAccepted, IsAnswered, Reads, Stands}
 use Rattle.control_sets.specs.OutcomeOperations.{Confirms, control_page, read_active, read_module_state, read_path_states, status_page}
 use Rattle.control_sets.specs.OutcomeAnswers.{Answer, IsAnswer}

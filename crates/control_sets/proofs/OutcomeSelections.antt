@@ -1,8 +1,7 @@
 -- Selections of pages by a procedure, in the words of the outcomes; and what is known at each of its steps.
-use Rattle.std.proofs.Common.{◌≡◌, ◌⊎◌, ℕ, ◌&&◌, ◌||◌, Bool, true, false, if◌then◌else◌, not, List, [], ◌∷◌, Some, None, refl, sym, ap, subst, ◌∙◌, inl, inr, slice_index, arith}
+use Rattle.std.proofs.Common.{◌≡◌, ◌⊎◌, ℕ, ◌&&◌, ◌||◌, Bool, true, false, if◌then◌else◌, not, List, [], ◌∷◌, Some, None, refl, sym, ap, subst, ◌∙◌, inl, inr, arith}
 use Rattle.std.proofs.lemmas.Bool.{and_parts, or_cases}
 use Rattle.bus_model.specs.declared.operation.Op.{Op}
-use Rattle.bus_model.specs.declared.operation.Op.TheVariants.{Fetch, Store}
 use Rattle.bus_model.specs.declared.operation.Reply.{Reply}
 use Rattle.bus_model.specs.declared.operation.Reply.TheVariants.{Bytes, Done, Refused}
 use Rattle.bus_model.specs.declared.operation.Step.{Step}
@@ -14,6 +13,7 @@ use Rattle.control_sets.specs.declared.procedures.task.Task.TheVariants.{FindRea
 use Rattle.bus_model.specs.SameOperation.{same_op}
 use Rattle.paged_memory.specs.declared.page_addressing.PageAddressing.TheVariants.{BankAndPage}
 use Rattle.paged_memory.specs.PageAddressing.{is_read, leaves_open}
+use Rattle.paged_memory.proofs.KnownPageLaws.{same_page}
 use Rattle.control_sets.specs.Pages.{EachStep, History, is_page_confirmed, is_open, may_select, read_selection, selection}
 use Rattle.control_sets.specs.Tasks.{operation, page_of}
 use Rattle.control_sets.specs.Procedures.{EachAnswers, EachGoesOn}
@@ -136,14 +136,6 @@ reads_back {doubts} tasks history each = record {
 
 -- ---- the page that is selected is the one of the task in hand
 
-page_in : Op → ℕ
-page_in (Store dev offset bytes) = slice_index bytes.items 1
-page_in (Fetch dev offset count) = 0
-
-page_selected : (page other : ℕ) → selection page ≡ selection other → page ≡ other
-unfolding page_in
-page_selected page other e = ap page_in e
-
 pub record Missing (tasks : List Task) (page : ℕ) (turn_task : Task) (before : History) : Type 0 where
   pub needs : page_of turn_task ≡ Some page
   pub missing : is_page_confirmed page before ≡ false
@@ -152,7 +144,7 @@ pub missing_page : {doubts : Bool} (tasks : List Task) (page : ℕ) (step : Step
 missing_page {doubts} tasks page step before turn is = elim turn.does as (λ _. Missing tasks page turn.task (trusted doubts before)) [
   | inl reads ↦ absurd (apart (selection page) read_selection refl (sym is ∙ reads.is))
   | inr (inl selects) ↦
-      let same = page_selected selects.page page (sym selects.is ∙ is) in
+      let same = same_page BankAndPage selects.page page (sym selects.is ∙ is) in
       record { needs = selects.needs ∙ ap (λ (page : ℕ). Some page) same; missing = ap (λ (page : ℕ). is_page_confirmed page (trusted doubts before)) (sym same) ∙ selects.missing }
   | inr (inr works) ↦ absurd (apart (operation turn.task) (selection page) (no_selection turn.task page) (sym works.is ∙ is))
 ]

@@ -1,5 +1,5 @@
 -- Steps that are provisioning and activation with success. They are told to the task list one by one.
-use Rattle.std.proofs.Common.{◌≡◌, ℕ, ◌+◌, ◌-◌, ◌^◌, ◌<◌, ◌≤◌, ◌==◌, ◌&&◌, ◌||◌, not, Bool, List, [], ◌∷◌, length, get_or, None, Some, Ok, false, true, refl, sym, ap, subst, ◌∙◌, inl, inr, nat_le, nat_lt, arith}
+use Rattle.std.proofs.Common.{◌≡◌, ℕ, ◌+◌, ◌/◌, ◌%◌, ◌-◌, ◌^◌, ◌<◌, ◌≤◌, ◌==◌, ◌&&◌, ◌||◌, not, Bool, List, [], ◌∷◌, length, get_or, None, Some, Ok, false, true, refl, sym, ap, subst, ◌∙◌, inl, inr, nat_le, nat_lt, arith}
 use Rattle.std.specs.Prelude.{find, slice_get}
 use Rattle.std.specs.List.{list_all, range_with_len}
 use Rattle.bus_model.specs.declared.operation.Reply.{Reply}
@@ -84,7 +84,7 @@ chooses : (work : Work) (met page : ℕ) (history : History) → slice_get (task
     Comes work history met → Comes work (on_page page history) met
 chooses work met page history found needs closed unconfirmed at =
     let asked = selected false (tasks_of work) (works_apart work) history (took (selection page)) tt met None (Some (nth_task work met)) found (inr (closed, (page, needs, unconfirmed, refl))) at in
-    selected false (tasks_of work) (works_apart work) (took (selection page) ∷ history) (gave read_selection (0 ∷ page ∷ [])) refl met None (Some (nth_task work met)) found (inl (refl, refl)) asked
+    selected false (tasks_of work) (works_apart work) (took (selection page) ∷ history) (gave read_selection (page / 256 ∷ page % 256 ∷ [])) refl met None (Some (nth_task work met)) found (inl (refl, refl)) asked
 
 -- ---- provisioning
 

@@ -1,6 +1,6 @@
 -- What tests of steps say in the words of the outcomes.
-use Rattle.std.proofs.Common.{◌≡◌, ℕ, ◌+◌, ◌&&◌, Bool, true, false, not, List, [], ◌∷◌, ◌++◌, Ok, Err, length, refl, sym, ap, subst, ◌∙◌, inl, inr, eq-eqb, lt-ltb, ltb-true}
-use Rattle.std.proofs.lemmas.Bool.{and_from, and_parts, eqb-true, false≢true, or_cases, or_left, or_right}
+use Rattle.std.proofs.Common.{◌≡◌, ℕ, ◌+◌, ◌/◌, ◌%◌, ◌==◌, ◌&&◌, Bool, true, false, not, List, [], ◌∷◌, ◌++◌, Ok, Err, length, refl, sym, ap, subst, ◌∙◌, inl, inr, eq-eqb, lt-ltb, ltb-true}
+use Rattle.std.proofs.lemmas.Bool.{and_from, and_parts, false≢true, or_cases, or_left, or_right}
 use Rattle.std.specs.List.{AllByRecursion, list_all}
 use Rattle.arrayvec.specs.ArrayVec.{ArrayVec}
 use Rattle.bus_model.specs.declared.device.Dev.TheVariants.{A0}
@@ -13,6 +13,7 @@ use Rattle.bus_model.specs.SameOperation.{same_op}
 use Rattle.bus_model.proofs.SameOperations.{ops_are, ops_same}
 use Rattle.control_sets.specs.declared.fault.ProvisionFault.{ProvisionFault}
 use Rattle.paged_memory.specs.PageAddressing as addressing
+use Rattle.paged_memory.proofs.KnownPageLaws.{parts_are}
 use Rattle.paged_memory.specs.declared.page_addressing.PageAddressing.TheVariants.{BankAndPage}
 use Rattle.control_sets.specs.Pages.{EachStep, History, is_page_confirmed, may_select, read_selection}
 use Rattle.control_sets.specs.OutcomeAnswers.{Answer, EndsIn, IsAnswer}
@@ -38,15 +39,11 @@ selects_not : (op : Op) → (CoversSelection op → ⊥) → may_select op ≡ f
 selects_not (Store A0 offset bytes) none = let b = may_select (Store A0 offset bytes) in selects_by offset bytes b refl none
 selects_not _ none = refl
 
-selection_is : (page : ℕ) (bytes : List ℕ) → addressing.is_selection_of BankAndPage page bytes ≡ true → bytes ≡ 0 ∷ page ∷ []
-selection_is page (bank ∷ number ∷ []) e =
-    let parts = and_parts _ _ e in
-    let first = eqb-true bank 0 parts.0 in
-    let second = eqb-true number page parts.1 in
-    λ i. first i ∷ second i ∷ []
+selection_is : (page : ℕ) (bytes : List ℕ) → addressing.is_selection_of BankAndPage page bytes ≡ true → bytes ≡ page / 256 ∷ page % 256 ∷ []
+selection_is page (bank ∷ number ∷ []) e = let parts = parts_are bank number page e in λ i. parts.0 i ∷ parts.1 i ∷ []
 selection_is page _ e = cc
 
-reply_is : (page : ℕ) (reply : Reply) → addressing.is_page BankAndPage page reply ≡ true → reply ≡ Bytes (record { items = 0 ∷ page ∷ [] })
+reply_is : (page : ℕ) (reply : Reply) → addressing.is_page BankAndPage page reply ≡ true → reply ≡ Bytes (record { items = page / 256 ∷ page % 256 ∷ [] })
 reply_is page (Bytes bytes) e = let items = selection_is page bytes.items e in λ i. Bytes (record { items = items i })
 reply_is page _ e = cc
 
@@ -58,7 +55,7 @@ read_back_is page step e =
     λ i. record { op = sym op i; reply = reply i }
 
 reads_it_back : (page : ℕ) → addressing.reads_back BankAndPage page (read_back_of page) ≡ true
-reads_it_back page = eq-eqb page page refl
+reads_it_back page = and_from (page / 256 == page / 256) (page % 256 == page % 256) (eq-eqb (page / 256) (page / 256) refl) (eq-eqb (page % 256) (page % 256) refl)
 
 not_covering : (step : Step) (before : History) (page : ℕ) → (not (may_select step.op) && is_page_confirmed page before) ≡ true → (may_select step.op ≡ false) × (is_page_confirmed page before ≡ true)
 not_covering step before page e = by (may_select step.op) refl e where

@@ -47,7 +47,7 @@ use Rattle.control_sets.specs.declared.procedures.procedure.Work.TheVariants.{Pr
 use Rattle.control_sets.specs.Pages.{History, is_open, may_select, read_selection, selection}
 use Rattle.control_sets.specs.OutcomeAnswers.{most_steps}
 use Rattle.control_sets.specs.PowerProgress.{answer_at, answer_of}
-use Rattle.control_sets.specs.Procedures.{EachAnswers, EachGoesOn, EachIsNextBy, EndsFirst, HasEnded, HasEndedBy, IsOutcome, is_on, next_operation, operation_on, IsUnfinishedBy}
+use Rattle.control_sets.specs.Procedures.{EachAnswers, EachIsNextBy, EndsFirst, HasEnded, HasEndedBy, IsOutcome, is_on, next_operation, operation_on, IsUnfinishedBy}
 use Rattle.control_sets.specs.Progress.{EachIsWanted, Ends, Follows, GoesOn, IsAt, IsTold, Procedure, Standing, ToldProcedure, after_reply, hand_after, hand as hand_of, list_at, procedure_of, judged_at, needed_after, page_by, standing, task_at, tasks_of, told_at, WithOwn, wants, wants_by}
 use Rattle.control_sets.specs.Judgements.{judgement}
 use Rattle.control_sets.specs.Tasks.{operation, page_of}

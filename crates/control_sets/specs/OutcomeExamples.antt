@@ -1,5 +1,5 @@
 -- Lists of steps, the newest first, to see what the outcome of provisioning admits and what it refuses. (This project's own.)
-use Rattle.std.specs.Prelude.{ℕ, zero, suc, List, [], ◌∷◌}
+use Rattle.std.specs.Prelude.{ℕ, ◌/◌, ◌%◌, zero, suc, List, [], ◌∷◌}
 use Rattle.bus_model.specs.declared.operation.Op.{Op}
 use Rattle.bus_model.specs.declared.operation.Reply.TheVariants.{Bytes, Done, Refused}
 use Rattle.bus_model.specs.declared.operation.Step.{Step}
@@ -57,7 +57,7 @@ on_status_at_once = gave read_selection (0 ∷ status_page ∷ []) ∷ took (sel
 
 -- a page was selected, and read back
 abbrev pub on_page : ℕ → History → History
-on_page page before = gave read_selection (0 ∷ page ∷ []) ∷ took (selection page) ∷ before
+on_page page before = gave read_selection (page / 256 ∷ page % 256 ∷ []) ∷ took (selection page) ∷ before
 
 -- each pair of lanes tells the codes of this byte
 abbrev pub all_tell : ℕ → List ℕ

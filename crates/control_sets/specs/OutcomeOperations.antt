@@ -1,6 +1,6 @@
 -- The operations of provisioning and activation, and when the steps before a step confirm a page. (docs/bus.md, "Outcomes";
 -- OIF-CMIS-05.0: Bank and Page Select of the lower memory, Staged Control Set 0 on page 10h, the lane statuses on page 11h)
-use Rattle.std.specs.Prelude.{Bool, ◌≡◌, ◌⊎◌, ◌++◌, ◌+◌, ◌<◌, ℕ, List, [], ◌∷◌, length, Option, Some, None}
+use Rattle.std.specs.Prelude.{Bool, ◌≡◌, ◌⊎◌, ◌++◌, ◌+◌, ◌/◌, ◌%◌, ◌<◌, ℕ, List, [], ◌∷◌, length, Option, Some, None}
 use Rattle.std.specs.List.{AllByRecursion}
 use Rattle.bus_model.specs.declared.device.Dev.TheVariants.{A0}
 use Rattle.bus_model.specs.declared.operation.Op.{Op}
@@ -59,7 +59,7 @@ CoversSelection op = ⊥
 
 -- bank 0 and the page were read back
 abbrev pub read_back_of : ℕ → Step
-read_back_of page = record { op = read_selection; reply = Bytes (record { items = 0 ∷ page ∷ [] }) }
+read_back_of page = record { op = read_selection; reply = Bytes (record { items = page / 256 ∷ page % 256 ∷ [] }) }
 
 -- the steps confirm the page: it was read back, and no store since covers the selection
 pub record Confirms (page : ℕ) (history : History) : Type 0 where

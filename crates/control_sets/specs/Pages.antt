@@ -12,7 +12,7 @@ History = addressing.History
 abbrev pub EachStep : (Step → History → Type 0) → History → Type 0
 EachStep = addressing.EachStep
 
--- bank 0 and the page are asked for
+-- the bank and the page are asked for
 abbrev pub selection : ℕ → Op
 selection = addressing.selection BankAndPage
 

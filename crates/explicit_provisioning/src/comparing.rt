@@ -131,7 +131,7 @@ impl NeedsPages for ComparingSettings {
 
     ghost lacking = { λ it number. it };
 
-    fn page(&self) -> Option<u8> {
+    fn page(&self) -> Option<u16> {
         match self.stage {
             ComparingStage::Reading(_) => Some(ACTIVE_SET_PAGE),
             ComparingStage::Ended(_) => None,
@@ -146,8 +146,8 @@ impl NeedsPages for ComparingSettings {
         false
     }
 
-    fn lacks(&mut self, _number: u8) {}
+    fn lacks(&mut self, _number: u16) {}
 }
 
 /// The active set.
-const ACTIVE_SET_PAGE: u8 = 0x11;
+const ACTIVE_SET_PAGE: u16 = 0x11;

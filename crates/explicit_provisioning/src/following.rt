@@ -118,7 +118,7 @@ where
 
     ghost lacking = { λ it number. lacking_then (ends_so A.passes (A.wants it.first)) (λ a n. A.lacking a n) (λ b n. B.lacking b n) it number };
 
-    fn page(&self) -> Option<u8> {
+    fn page(&self) -> Option<u16> {
         if self.first.is_over() {
             self.second.page()
         } else {
@@ -134,7 +134,7 @@ where
         false
     }
 
-    fn lacks(&mut self, number: u8) {
+    fn lacks(&mut self, number: u16) {
         if self.first.is_over() {
             self.second.lacks(number);
         } else {

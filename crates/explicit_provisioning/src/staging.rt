@@ -192,7 +192,7 @@ impl NeedsPages for StagingSettings {
 
     ghost lacking = { λ it number. it };
 
-    fn page(&self) -> Option<u8> {
+    fn page(&self) -> Option<u16> {
         match self.stage {
             StagingStage::Finding | StagingStage::Ended(_) => None,
             _ => Some(CONTROLS_PAGE),
@@ -207,7 +207,7 @@ impl NeedsPages for StagingSettings {
         false
     }
 
-    fn lacks(&mut self, _number: u8) {}
+    fn lacks(&mut self, _number: u16) {}
 }
 
 impl Leads for StagingSettings {
@@ -239,4 +239,4 @@ fn read_controls(address: u8, count: u8) -> Op
 }
 
 /// Controls of lanes.
-const CONTROLS_PAGE: u8 = 0x10;
+const CONTROLS_PAGE: u16 = 0x10;

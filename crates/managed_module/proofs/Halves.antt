@@ -1,5 +1,6 @@
 -- A module that has the halves answers each fetch and takes each store, and shows the page that was selected.
-use Rattle.std.proofs.Common.{◌≡◌, ◌⊎◌, inl, inr, ◌<◌, ◌+◌, ◌∷◌, ℕ, suc, zero, Bool, true, false, List, [], Option, Some, None, map, refl, sym, ap, subst, ◌∙◌, arith, nat_lt, if◌then◌else◌}
+use Rattle.std.proofs.Common.{◌≡◌, ◌⊎◌, inl, inr, ◌<◌, ◌+◌, ◌*◌, ◌/◌, ◌%◌, ◌∷◌, ℕ, suc, zero, Bool, true, false, List, [], Option, Some, None, map, refl, sym, ap, subst, ◌∙◌, arith, nat_lt, if◌then◌else◌}
+use Rattle.std.proofs.lemmas.Bool.{lt-ltb}
 use Rattle.std.specs.Prelude.{◌==◌, is_some, ◌-◌}
 use Rattle.std.specs.FinMap as finmap
 use Rattle.std.specs.List.{range_with_len}
@@ -16,8 +17,10 @@ use Rattle.field_tables.specs.Registers.{first_byte}
 use Rattle.field_tables.specs.declared.field.Register.TheVariants.{CApplyDPInit, CDPDeinit, CStagedControl}
 use Rattle.paged_memory.specs.declared.mapped_page.MappedPage.{MappedPage}
 use Rattle.paged_memory.specs.Images.{Memory}
-use Rattle.paged_memory.specs.Keys.{lower_key, upper_key}
+use Rattle.paged_memory.specs.Keys.{lower_key, page_key, upper_key}
 use Rattle.paged_memory.specs.MappedPages.{first_page, mapped, shown_key}
+use Rattle.paged_memory.specs.declared.page_addressing.KnownPage.TheVariants.{Page, Unknown}
+use Rattle.paged_memory.specs.KnownPages.{selection_read}
 use Rattle.paged_memory.specs.PageAddressing.{read_selection, selection}
 use Rattle.paged_memory.specs.declared.page_addressing.PageAddressing.TheVariants.{BankAndPage}
 use Rattle.sim_module.specs.declared.module.SimModule.{SimModule}
@@ -145,12 +148,16 @@ reads_back sim has =
     let (page, is) = found_of (finmap.get sim.image (shown_key A0 sim.selection 126)) (has_key sim 126 has) in
     ap (λ (found : Option (List ℕ)). fetch_given (fetched_from sim 126 2 found).0) is ∙ ap (λ (bytes : List ℕ). Bytes (record { items = bytes })) (shown_selection sim page)
 
+-- the page that is shown once this one was selected
+abbrev mapped_in : Memory → ℕ → MappedPage
+mapped_in image page = mapped image (page / 256) (page % 256)
+
 -- a selection selects the page, or page 00h if the image lacks it
-stored_selection : (sim : SimModule) (page : ℕ) → (stored_bytes sim 126 (0 ∷ page ∷ [])).selection ≡ mapped sim.image 0 page
+stored_selection : (sim : SimModule) (page : ℕ) → (stored_bytes sim 126 (page / 256 ∷ page % 256 ∷ [])).selection ≡ mapped_in sim.image page
 unfolding stored_byte
 stored_selection sim page = refl
 
-stored_image : (sim : SimModule) (page : ℕ) → (stored_bytes sim 126 (0 ∷ page ∷ [])).image ≡ sim.image
+stored_image : (sim : SimModule) (page : ℕ) → (stored_bytes sim 126 (page / 256 ∷ page % 256 ∷ [])).image ≡ sim.image
 unfolding stored_byte
 stored_image sim page = refl
 
@@ -163,7 +170,7 @@ unfolding ticked
 ticked_image sim = refl
 
 abbrev pub IsSelected : SimModule → ℕ → Type 0
-IsSelected sim page = sim.selection ≡ mapped sim.image 0 page
+IsSelected sim page = sim.selection ≡ mapped_in sim.image page
 
 pub selected_ticked : (sim : SimModule) (page : ℕ) → IsSelected sim page → IsSelected (ticked sim) page
 unfolding ticked
@@ -177,16 +184,17 @@ pub selects : (sim : SimModule) (page : ℕ) → HasHalves sim → IsSelected (t
 unfolding stored
 selects sim page has =
     selected_ticked (passed_on conduct (selection BankAndPage page) sim).1 page
-    (subst (λ (there : Bool). IsSelected (stored_if sim 126 (0 ∷ page ∷ []) there).1 page) (sym (has_key sim 126 has))
-    (stored_selection sim page ∙ ap (λ (image : Memory). mapped image 0 page) (sym (stored_image sim page))))
+    (subst (λ (there : Bool). IsSelected (stored_if sim 126 (page / 256 ∷ page % 256 ∷ []) there).1 page) (sym (has_key sim 126 has))
+    (stored_selection sim page ∙ ap (λ (image : Memory). mapped_in image page) (sym (stored_image sim page))))
 
 -- ---- which page is shown after a selection
 
-mapped_by : (image : Memory) (page : ℕ) (there : Bool) → finmap.contains_key image (upper_key A0 0 0x00) ≡ true → finmap.contains_key image (upper_key A0 0 page) ≡ there
-    → (mapped image 0 page ≡ record { bank = 0; page = page; waiting = 0 }) ⊎ ((mapped image 0 page ≡ first_page) × (0 < page))
-mapped_by image page true first e = inl (ap (λ (there : Bool). if there then record { bank = 0; page = page; waiting = 0 } else first_page) e)
+mapped_by : (image : Memory) (page : ℕ) (there : Bool) → finmap.contains_key image (upper_key A0 0 0x00) ≡ true → finmap.contains_key image (page_key page) ≡ there
+    → (mapped_in image page ≡ record { bank = page / 256; page = page % 256; waiting = page / 256 }) ⊎ ((mapped_in image page ≡ first_page) × (0 < page))
+mapped_by image page true first e = inl (ap (λ (there : Bool). if there then record { bank = page / 256; page = page % 256; waiting = page / 256 } else first_page) e)
 mapped_by image zero false first e = absurd (let same : true ≡ false = sym first ∙ e in cc)
-mapped_by image (suc page) false first e = inr (ap (λ (there : Bool). if there then record { bank = 0; page = suc page; waiting = 0 } else first_page) e, omega arith)
+mapped_by image (suc page) false first e =
+    inr (ap (λ (there : Bool). if there then record { bank = suc page / 256; page = suc page % 256; waiting = suc page / 256 } else first_page) e, omega arith)
 
 abbrev pub shown : SimModule → List ℕ
 shown sim = sim.selection.bank ∷ sim.selection.page ∷ []
@@ -194,11 +202,18 @@ shown sim = sim.selection.bank ∷ sim.selection.page ∷ []
 abbrev shown_by : MappedPage → List ℕ
 shown_by selection = selection.bank ∷ selection.page ∷ []
 
-pub shows_selected : (sim : SimModule) (page : ℕ) → HasHalves sim → IsSelected sim page → (shown sim ≡ 0 ∷ page ∷ []) ⊎ ((shown sim ≡ 0 ∷ 0 ∷ []) × (0 < page))
-shows_selected sim page has is = by (mapped_by sim.image page (finmap.contains_key sim.image (upper_key A0 0 page)) has.first refl) where
-  by : (mapped sim.image 0 page ≡ record { bank = 0; page = page; waiting = 0 }) ⊎ ((mapped sim.image 0 page ≡ first_page) × (0 < page)) → (shown sim ≡ 0 ∷ page ∷ []) ⊎ ((shown sim ≡ 0 ∷ 0 ∷ []) × (0 < page))
+pub shows_selected : (sim : SimModule) (page : ℕ) → HasHalves sim → IsSelected sim page → (shown sim ≡ page / 256 ∷ page % 256 ∷ []) ⊎ ((shown sim ≡ 0 ∷ 0 ∷ []) × (0 < page))
+shows_selected sim page has is = by (mapped_by sim.image page (finmap.contains_key sim.image (page_key page)) has.first refl) where
+  by : (mapped_in sim.image page ≡ record { bank = page / 256; page = page % 256; waiting = page / 256 }) ⊎ ((mapped_in sim.image page ≡ first_page) × (0 < page)) → (shown sim ≡ page / 256 ∷ page % 256 ∷ []) ⊎ ((shown sim ≡ 0 ∷ 0 ∷ []) × (0 < page))
   by (inl e) = inl (ap shown_by (is ∙ e))
   by (inr (e, positive)) = inr (ap shown_by (is ∙ e), positive)
 
-pub shows_there : (sim : SimModule) (page : ℕ) → finmap.contains_key sim.image (upper_key A0 0 page) ≡ true → IsSelected sim page → shown sim ≡ 0 ∷ page ∷ []
-shows_there sim page there is = ap shown_by (is ∙ ap (λ (there : Bool). if there then record { bank = 0; page = page; waiting = 0 } else first_page) there)
+pub shows_there : (sim : SimModule) (page : ℕ) → finmap.contains_key sim.image (page_key page) ≡ true → IsSelected sim page → shown sim ≡ page / 256 ∷ page % 256 ∷ []
+shows_there sim page there is = ap shown_by (is ∙ ap (λ (there : Bool). if there then record { bank = page / 256; page = page % 256; waiting = page / 256 } else first_page) there)
+
+-- its number is read back
+pub reads_number : (page : ℕ) → selection_read BankAndPage (page / 256 ∷ page % 256 ∷ []) ≡ Page page
+reads_number page =
+    let byte : page % 256 < 256 = omega arith in
+    let whole : 256 * (page / 256) + page % 256 ≡ page = omega arith in
+    ap (λ (b : Bool). if b then Page (256 * (page / 256) + page % 256) else Unknown) (lt-ltb (page % 256) 256 byte) ∙ ap (λ (n : ℕ). Page n) whole

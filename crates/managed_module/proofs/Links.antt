@@ -1,6 +1,6 @@
 -- On a simulated module the page that was selected is read back, or page 00h in place of one that is lacked. So an operation is in
 -- vain only if it reads a state.
-use Rattle.std.proofs.Common.{◌≡◌, ◌⊎◌, inl, inr, ◌<◌, ◌∷◌, ℕ, Bool, true, false, List, [], Option, Some, None, refl, sym, ap, subst, ◌∙◌, arith, nat_lt, if◌then◌else◌, eq-eqb}
+use Rattle.std.proofs.Common.{◌≡◌, ◌⊎◌, inl, inr, ◌<◌, ◌/◌, ◌%◌, ◌∷◌, ℕ, Bool, true, false, List, [], Option, Some, None, refl, sym, ap, subst, ◌∙◌, arith, nat_lt, if◌then◌else◌, eq-eqb}
 use Rattle.std.specs.Prelude.{◌==◌, ◌&&◌}
 use Rattle.std.specs.FinMap as finmap
 use Rattle.arrayvec.specs.ArrayVec.{ArrayVec}
@@ -18,7 +18,7 @@ use Rattle.paged_memory.specs.declared.page_addressing.KnownPage.{KnownPage}
 use Rattle.paged_memory.specs.declared.page_addressing.KnownPage.TheVariants.{Page as Known}
 use Rattle.paged_memory.specs.declared.page_addressing.PageAddressing.{PageAddressing}
 use Rattle.paged_memory.specs.declared.page_addressing.PageAddressing.TheVariants.{BankAndPage}
-use Rattle.paged_memory.specs.Keys.{upper_key}
+use Rattle.paged_memory.specs.Keys.{page_key}
 use Rattle.paged_memory.specs.KnownPages.{is_awaited, is_known, missing_page, selecting_first, selection_read, wanted}
 use Rattle.paged_memory.specs.PageAddressing.{read_selection}
 use Rattle.paged_memory.proofs.KnownPageLaws.{read_closes}
@@ -35,7 +35,7 @@ use Rattle.sim_module.specs.declared.module.SimModule.{SimModule}
 use Rattle.sim_module.specs.Modules.{conduct}
 use Rattle.sim_module.specs.Ticks.{ticked}
 use Rattle.managed_module.specs.Managed.{HasHalves}
-use Rattle.managed_module.proofs.Halves.{IsSelected, answers_fetch, reads_back, selects, shown, shows_selected, shows_there, takes_store}
+use Rattle.managed_module.proofs.Halves.{IsSelected, answers_fetch, reads_back, reads_number, selects, shown, shows_selected, shows_there, takes_store}
 use Rattle.port_manager.proofs.TurnCases.{IsAnyTurn}
 
 -- the operation is on device A0
@@ -136,7 +136,7 @@ module _ {C E : Type 0} (paged : Paged C E) (on : OnPage C) (inner op : Op) (sim
       needs = missing_needed on.selection needed page m;
       selected = subst (λ (op : Op). IsSelected (ticked (passed_on conduct op sim).1) page) (sym (is_first (Some page) closed m)) (selects sim page has);
       taken = λ may. ap (λ (b : Bool). taken_by b page reply) may
-          ∙ ap (taken_by true page) (gives ∙ ap (reply_of sim) (is_first (Some page) closed m) ∙ takes_store sim 126 (0 ∷ page ∷ []) has);
+          ∙ ap (taken_by true page) (gives ∙ ap (reply_of sim) (is_first (Some page) closed m) ∙ takes_store sim 126 (page / 256 ∷ page % 256 ∷ []) has);
     }
 
     link_by : (awaited : Bool) → is_awaited on.selection ≡ awaited → Link paged (trusting_if awaited paged on reply) sim_after
@@ -152,7 +152,7 @@ module _ {C E : Type 0} (paged : Paged C E) (on : OnPage C) (inner op : Op) (sim
 
   abbrev MayBe : Type 0
   MayBe = (page : ℕ) → needed ≡ Some page
-      → (finmap.contains_key sim.image (upper_key A0 0 page) ≡ true) ⊎ ((paged.may_lack ≡ true) × ((number : ℕ) → paged.lacking on.conversation number ≡ on.conversation → ⊥))
+      → (finmap.contains_key sim.image (page_key page) ≡ true) ⊎ ((paged.may_lack ≡ true) × ((number : ℕ) → paged.lacking on.conversation number ≡ on.conversation → ⊥))
 
   module _ (left : C → ℕ) (counted : Counted paged left) (wants : paged.wants on.conversation ≡ Do inner) (reply : Reply) (gives : reply ≡ reply_of sim op) (link : Link paged on sim) (may_be : MayBe) where
     abbrev Other : Type 0
@@ -165,9 +165,9 @@ module _ {C E : Type 0} (paged : Paged C E) (on : OnPage C) (inner op : Op) (sim
         sym (ap (λ (bytes : ArrayVec ℕ). bytes.items) bytes)
 
     -- the page that is needed was read
-    same_read : (other : Other) (page : ℕ) → needed ≡ Some page → shown sim ≡ 0 ∷ page ∷ [] → ⊥
+    same_read : (other : Other) (page : ℕ) → needed ≡ Some page → shown sim ≡ page / 256 ∷ page % 256 ∷ [] → ⊥
     same_read other page needs shows =
-        let known : selection_read by other.bytes.items ≡ Known page = ap (λ (by : PageAddressing). selection_read by other.bytes.items) way ∙ ap (selection_read BankAndPage) (bytes_are other ∙ shows) in
+        let known : selection_read by other.bytes.items ≡ Known page = ap (λ (by : PageAddressing). selection_read by other.bytes.items) way ∙ ap (selection_read BankAndPage) (bytes_are other ∙ shows) ∙ reads_number page in
         let none : missing_page (selection_read by other.bytes.items) needed ≡ None =
         ap (λ (known : KnownPage). missing_page known needed) known ∙ ap (missing_page (Known page)) needs ∙ ap (λ (b : Bool). if b then None else Some page) (eq-eqb page page refl) in
         let same : None ≡ Some other.page = sym none ∙ other.missing in cc
@@ -188,10 +188,10 @@ module _ {C E : Type 0} (paged : Paged C E) (on : OnPage C) (inner op : Op) (sim
 
     pub no_other : Other → ⊥
     no_other other = at (link other.awaited) where
-      there_or : (linked : IsLinkedTo paged on sim) → (finmap.contains_key sim.image (upper_key A0 0 linked.page) ≡ true) ⊎ ((paged.may_lack ≡ true) × ((number : ℕ) → paged.lacking on.conversation number ≡ on.conversation → ⊥)) → ⊥
+      there_or : (linked : IsLinkedTo paged on sim) → (finmap.contains_key sim.image (page_key linked.page) ≡ true) ⊎ ((paged.may_lack ≡ true) × ((number : ℕ) → paged.lacking on.conversation number ≡ on.conversation → ⊥)) → ⊥
       there_or linked (inl there) = same_read other linked.page linked.needs (shows_there sim linked.page there linked.selected)
       there_or linked (inr (may, never)) = shows (shows_selected sim linked.page has linked.selected) where
-        shows : (shown sim ≡ 0 ∷ linked.page ∷ []) ⊎ ((shown sim ≡ 0 ∷ 0 ∷ []) × (0 < linked.page)) → ⊥
+        shows : (shown sim ≡ linked.page / 256 ∷ linked.page % 256 ∷ []) ⊎ ((shown sim ≡ 0 ∷ 0 ∷ []) × (0 < linked.page)) → ⊥
         shows (inl e) = same_read other linked.page linked.needs e
         shows (inr (e, positive)) = lacks_it other linked.page never (zero_read other linked.page linked.needs e positive (linked.taken may))
 

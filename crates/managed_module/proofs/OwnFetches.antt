@@ -3,6 +3,7 @@ use Rattle.std.proofs.Common.{[], ◌≡◌, ℕ, zero, suc, ◌+◌, ◌-◌, �
 use Rattle.std.specs.Prelude.{slice_get, slice_index, unsigned_abs}
 use Rattle.std.specs.FinMap as finmap
 use Rattle.std.specs.List.{range_with_len}
+use Rattle.std.proofs.lemmas.Bool.{eqb-true, false_from_ne_true}
 use Rattle.std.proofs.lemmas.Bool.Decides.{nat_tests}
 use Rattle.std.proofs.lemmas.List.{ext_get_or}
 use Rattle.std.proofs.lemmas.List.FromFn.{get_or-map-range_with_len, length-map-range_with_len}
@@ -18,7 +19,7 @@ use Rattle.module_states.specs.Codes as module_codes
 use Rattle.module_states.specs.declared.state.ModuleState.{ModuleState}
 use Rattle.module_states.specs.declared.state.ModuleState.TheVariants as module_is
 use Rattle.paged_memory.specs.Images.{Memory}
-use Rattle.paged_memory.specs.Keys.{lower_key, upper_key}
+use Rattle.paged_memory.specs.Keys.{lower_key, page_key, upper_key}
 use Rattle.module_reading.specs.declared.region.Region.{Region}
 use Rattle.module_reading.specs.declared.region.Region.TheVariants.{Lower, FirstPage, Page}
 use Rattle.module_reading.specs.Regions.{operation}
@@ -50,14 +51,14 @@ high_byte sim page address high controls status =
     let upper : nat_lt address 128 ≡ false = grind (arith, nat_tests) in
     λ i. shown_high sim page address (upper i) (controls i) (status i)
 
-other_page : (sim : SimModule) (page other : ℕ) → Shows page sim → (page == other) ≡ false → is_mapped sim other ≡ false
+other_page : (sim : SimModule) (page other : ℕ) → Shows page sim → (page % 256 == other) ≡ false → is_mapped sim other ≡ false
 other_page sim page other shows differs = ap (λ (b : Bool). (sim.selection.bank == 0) && b) (ap (λ (n : ℕ). n == other) shows.number ∙ differs) ∙ and_false (sim.selection.bank == 0) where
   and_false : (b : Bool) → (b && false) ≡ false
   and_false true = refl
   and_false false = refl
 
-differs_by : (page other : ℕ) → page < 3 → 3 ≤ other → (page == other) ≡ false
-differs_by page other few far = grind (arith, nat_tests)
+differs_by : (page other : ℕ) → page < 3 → 3 ≤ other → (page % 256 == other) ≡ false
+differs_by page other few far = false_from_ne_true (page % 256 == other) (λ same. let e = eqb-true (page % 256) other same in omega (arith, few, far, e))
 
 pub read_page : (sim : SimModule) (bytes : List ℕ) (page : ℕ) → length bytes ≡ 128 → Shows page sim → page < 3 → map (shown_byte sim bytes) (range_with_len 128 128) ≡ bytes
 read_page sim bytes page whole shows few =
@@ -145,11 +146,11 @@ fetches sim FirstPage reply n has whole eight hand gives shows = absurd (not_oth
 fetches sim (Page page) reply n has whole eight hand gives shows =
     let (bytes, there, reads) = reads_mapped sim 128 128 has in
     let shown = shows page refl in
-    let key : finmap.get sim.image (upper_key A0 0 page) ≡ Some bytes = (λ i. finmap.get sim.image (upper_key A0 (sym shown.bank i) (sym shown.number i))) ∙ there in
+    let key : finmap.get sim.image (page_key page) ≡ Some bytes = (λ i. finmap.get sim.image (upper_key A0 (sym shown.bank i) (sym shown.number i))) ∙ there in
     record {
       bytes = map (shown_byte sim bytes) (range_with_len 128 128);
       reads = gives ∙ reads;
-      fits = λ few. key ∙ ap (λ (bytes : List ℕ). Some bytes) (sym (read_page sim bytes page (whole (upper_key A0 0 page) bytes key) shown few));
+      fits = λ few. key ∙ ap (λ (bytes : List ℕ). Some bytes) (sym (read_page sim bytes page (whole (page_key page) bytes key) shown few));
       lanes = λ e. shows_lanes sim bytes (subst (λ (page : ℕ). Shows page sim) (same_number page 0x11 e) shown) eight;
       state = λ e. absurd (lower_not_page page e);
     }

@@ -14,7 +14,7 @@ use Rattle.paged_memory.specs.declared.key.Key.{Key}
 use Rattle.paged_memory.specs.Families.{managed_by}
 use Rattle.paged_memory.specs.Images.{Memory, most_pages}
 use Rattle.paged_memory.specs.KeyOrder.{key_cmp}
-use Rattle.paged_memory.specs.Keys.{lower_key, upper_key}
+use Rattle.paged_memory.specs.Keys.{lower_key, page_key, upper_key}
 use Rattle.module_reading.specs.declared.halves.Halves.{Halves}
 use Rattle.module_reading.specs.declared.region.Region.{Region}
 use Rattle.module_reading.specs.declared.region.Region.TheVariants.{Lower, FirstPage, Page}
@@ -81,7 +81,7 @@ is_cmis own halves paged is = by halves.settled refl where
 abbrev pub Fits : Memory → Region → List ℕ → Type 0
 Fits own (Lower dev) bytes = (page : List ℕ) × (finmap.get own (lower_key A0) ≡ Some page) × ((address : ℕ) → is_plain address ≡ true → byte_in bytes address ≡ byte_in page address)
 Fits own FirstPage bytes = Unit {0}
-Fits own (Page page) bytes = page < 3 → finmap.get own (upper_key A0 0 page) ≡ Some bytes
+Fits own (Page page) bytes = page < 3 → finmap.get own (page_key page) ≡ Some bytes
 
 lower_kept : (own image : Memory) (key : Key) (bytes : List ℕ) → eq_by_cmp key_cmp (lower_key A0) key ≡ false → HasLower image own → HasLower (put_in image key bytes) own
 lower_kept own image key bytes other lower =
@@ -160,17 +160,17 @@ module _ (own : Memory) (halves : Halves) (is : IsOwn own halves) where
   here_not : (key : Key) → finmap.contains_key own key ≡ true → finmap.contains_key own key ≡ false → ⊥
   here_not key there none = let wrong : true ≡ false = sym there ∙ none in cc
 
-  lacks_by : (n page : ℕ) → halves.settled ≡ n → slice_get all_regions n ≡ Some (Page page) → IsPaged own → finmap.contains_key own lanes_key ≡ true → finmap.contains_key own (upper_key A0 0 page) ≡ false
+  lacks_by : (n page : ℕ) → halves.settled ≡ n → slice_get all_regions n ≡ Some (Page page) → IsPaged own → finmap.contains_key own lanes_key ≡ true → finmap.contains_key own (page_key page) ≡ false
       → IsOwn own (leaving_out (Some (Page page)) halves) × (halves.settled ≡ 3)
   lacks_by zero page e hand paged status none = absurd (let wrong : Lower A0 ≡ Page page = same_region 0 (Page page) (Lower A0) refl hand in cc)
   lacks_by (suc zero) page e hand paged status none =
       let same : Page 0x00 ≡ Page page = same_region 1 (Page page) (Page 0x00) refl hand in
       let number : 0x00 ≡ page = cc in
-      absurd (here_not (upper_key A0 0 page) (subst (λ (page : ℕ). finmap.contains_key own (upper_key A0 0 page) ≡ true) number paged.first) none)
+      absurd (here_not (page_key page) (subst (λ (page : ℕ). finmap.contains_key own (page_key page) ≡ true) number paged.first) none)
   lacks_by (suc (suc zero)) page e hand paged status none =
       let same : Page 0x01 ≡ Page page = same_region 2 (Page page) (Page 0x01) refl hand in
       let number : 0x01 ≡ page = cc in
-      absurd (here_not (upper_key A0 0 page) (subst (λ (page : ℕ). finmap.contains_key own (upper_key A0 0 page) ≡ true) number paged.second) none)
+      absurd (here_not (page_key page) (subst (λ (page : ℕ). finmap.contains_key own (page_key page) ≡ true) number paged.second) none)
   lacks_by (suc (suc (suc zero))) page e hand paged status none = (
     record {
       request = is.request;
@@ -186,10 +186,10 @@ module _ (own : Memory) (halves : Halves) (is : IsOwn own halves) where
   lacks_by (suc (suc (suc (suc zero)))) page e hand paged status none =
       let same : Page 0x11 ≡ Page page = same_region 4 (Page page) (Page 0x11) refl hand in
       let number : 0x11 ≡ page = cc in
-      absurd (here_not (upper_key A0 0 page) (subst (λ (page : ℕ). finmap.contains_key own (upper_key A0 0 page) ≡ true) number status) none)
+      absurd (here_not (page_key page) (subst (λ (page : ℕ). finmap.contains_key own (page_key page) ≡ true) number status) none)
   lacks_by (suc (suc (suc (suc (suc n))))) page e hand paged status none = absurd (let wrong : None ≡ Some (Page page) = hand in cc)
 
-  pub lacks : (page : ℕ) → slice_get all_regions halves.settled ≡ Some (Page page) → IsPaged own → finmap.contains_key own lanes_key ≡ true → finmap.contains_key own (upper_key A0 0 page) ≡ false
+  pub lacks : (page : ℕ) → slice_get all_regions halves.settled ≡ Some (Page page) → IsPaged own → finmap.contains_key own lanes_key ≡ true → finmap.contains_key own (page_key page) ≡ false
       → IsOwn own (leaving_out (Some (Page page)) halves) × (halves.settled ≡ 3)
   lacks page hand paged status none = lacks_by halves.settled page refl hand paged status none
 

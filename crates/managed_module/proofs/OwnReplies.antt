@@ -11,7 +11,7 @@ use Rattle.managed_module.proofs.OwnLower.{same_half}
 use Rattle.std.proofs.lemmas.Option.{slice_get_within}
 use Rattle.managed_module.proofs.OwnReading.{IsOwnReading, TellsState}
 use Rattle.managed_module.proofs.Waits.{answered as reading_answered, way}
-use Rattle.std.proofs.Common.{[], ◌≡◌, ℕ, suc, zero, ◌≤◌, ◌==◌, ◌&&◌, nat_lt, Bool, true, false, List, ◌∷◌, Option, Some, None, refl, sym, ap, subst, ◌∙◌, if◌then◌else◌, arith}
+use Rattle.std.proofs.Common.{[], ◌≡◌, ℕ, suc, zero, ◌/◌, ◌%◌, ◌≤◌, ◌==◌, ◌&&◌, nat_lt, Bool, true, false, List, ◌∷◌, Option, Some, None, refl, sym, ap, subst, ◌∙◌, if◌then◌else◌, arith}
 use Rattle.std.specs.Prelude.{slice_get}
 use Rattle.std.specs.FinMap as finmap
 use Rattle.std.proofs.lemmas.Bool.{eqb-true}
@@ -32,7 +32,7 @@ use Rattle.paged_memory.specs.declared.page_addressing.KnownPage.TheVariants.{Op
 use Rattle.paged_memory.specs.declared.page_addressing.PageAddressing.{PageAddressing}
 use Rattle.paged_memory.specs.declared.page_addressing.PageAddressing.TheVariants.{BankAndPage}
 use Rattle.paged_memory.specs.Images.{Memory}
-use Rattle.paged_memory.specs.Keys.{lower_key, upper_key}
+use Rattle.paged_memory.specs.Keys.{lower_key, page_key}
 use Rattle.paged_memory.specs.KnownPages.{is_awaited, is_known, missing_page, selection_read, selection_told, wanted}
 use Rattle.paged_memory.specs.PageAddressing.{read_selection}
 use Rattle.module_reading.specs.declared.halves.Halves.{Halves}
@@ -49,7 +49,7 @@ use Rattle.sim_module.specs.Modules.{conduct}
 use Rattle.sim_module.proofs.IdleModule.{Shows}
 use Rattle.managed_module.specs.Managed.{HasHalves, IsCmisFamily}
 use Rattle.managed_module.specs.Succeeds.{AreWhole}
-use Rattle.managed_module.proofs.Halves.{shown, shows_there}
+use Rattle.managed_module.proofs.Halves.{reads_number, shown, shows_there}
 use Rattle.managed_module.proofs.Links.{IsLinkedTo, is_first, is_read, told_back, undoubted}
 use Rattle.managed_module.proofs.OwnFetches.{IsFetched, awake_code, fetches, ready_awake}
 use Rattle.managed_module.proofs.OwnHalves.{IsOwn, all_regions, hand_is, is_cmis, keeps, lacks}
@@ -169,7 +169,7 @@ module _ (most : ℕ) (sim : SimModule) (has : HasHalves sim) (whole : AreWhole 
       let is : region ≡ Page linked.page = paged_region region linked.page (ap (λ (found : Option Region). reader.page_by found) (sym found.1) ∙ linked.needs) in
       let handed : reader.in_hand halves ≡ Some (Page linked.page) = found.1 ∙ ap (λ (region : Region). Some region) is in
       let at : slice_get all_regions halves.settled ≡ Some (Page linked.page) = hand ∙ ap (λ (region : Region). Some region) is in
-      by_there linked handed at (finmap.contains_key sim.image (upper_key A0 0 linked.page)) refl where
+      by_there linked handed at (finmap.contains_key sim.image (page_key linked.page)) refl where
         lacked_is : (linked : IsLinkedTo paged_halves on sim) → lacked_by (Some linked.page) (Some linked.page) (is_known (selection_read BankAndPage (shown sim)) 0) ≡ Some number
         lacked_is linked =
             sym (ap (λ (needed : Option ℕ). lacked_by needed (Some linked.page) (is_known (selection_read BankAndPage (shown sim)) 0)) linked.needs)
@@ -177,12 +177,13 @@ module _ (most : ℕ) (sim : SimModule) (has : HasHalves sim) (whole : AreWhole 
             ∙ sym (ap (λ (by : PageAddressing). lacked by needed on.taken (Bytes (record { items = shown sim }))) by)
             ∙ sym (ap (lacked (chosen (reader.addressing halves)) needed on.taken) (back awaited)) ∙ e
 
-        by_there : (linked : IsLinkedTo paged_halves on sim) → reader.in_hand halves ≡ Some (Page linked.page) → slice_get all_regions halves.settled ≡ Some (Page linked.page) → (there : Bool) → finmap.contains_key sim.image (upper_key A0 0 linked.page) ≡ there
+        by_there : (linked : IsLinkedTo paged_halves on sim) → reader.in_hand halves ≡ Some (Page linked.page) → slice_get all_regions halves.settled ≡ Some (Page linked.page) → (there : Bool) → finmap.contains_key sim.image (page_key linked.page) ≡ there
             → IsOwn sim.image (reader.after_lack halves) × (halves.settled ≡ 3)
         by_there linked handed at true there =
-            let shows : shown sim ≡ 0 ∷ linked.page ∷ [] = shows_there sim linked.page there linked.selected in
+            let shows : shown sim ≡ linked.page / 256 ∷ linked.page % 256 ∷ [] = shows_there sim linked.page there linked.selected in
             absurd (not_lacked linked.page number (linked.page == 0) refl
-            (ap (λ (bytes : List ℕ). lacked_by (Some linked.page) (Some linked.page) (is_known (selection_read BankAndPage bytes) 0)) (sym shows) ∙ lacked_is linked))
+            (ap (λ (known : KnownPage). lacked_by (Some linked.page) (Some linked.page) (is_known known 0)) (sym (reads_number linked.page))
+            ∙ ap (λ (bytes : List ℕ). lacked_by (Some linked.page) (Some linked.page) (is_known (selection_read BankAndPage bytes) 0)) (sym shows) ∙ lacked_is linked))
         by_there linked handed at false none =
             let both = lacks sim.image halves r.own linked.page at paged has.status none in
             (subst (λ (found : Option Region). IsOwn sim.image (reader.leaving_out found halves)) (sym handed) both.0, both.1)

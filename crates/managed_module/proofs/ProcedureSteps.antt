@@ -1,5 +1,5 @@
 -- One operation of provisioning or of activation: its page is selected, or it is the task's own.
-use Rattle.std.proofs.Common.{◌≡◌, ◌⊎◌, inl, inr, ℕ, ◌+◌, ◌≤◌, ◌==◌, Bool, true, false, Option, Some, None, refl, sym, ap, subst, ◌∙◌, if◌then◌else◌, arith}
+use Rattle.std.proofs.Common.{◌≡◌, ◌⊎◌, inl, inr, ℕ, ◌+◌, ◌*◌, ◌/◌, ◌%◌, ◌≤◌, ◌==◌, nat_lt, ltb-true, Bool, true, false, Option, Some, None, refl, sym, ap, subst, ◌∙◌, if◌then◌else◌, arith}
 use Rattle.std.specs.Prelude.{slice_get}
 use Rattle.std.proofs.lemmas.Bool.{eqb-true}
 use Rattle.bus_model.specs.declared.device.Dev.{Dev}
@@ -111,13 +111,17 @@ task_elsewhere (tasks.CheckActive control) e = omega (arith, e)
 task_elsewhere (tasks.AwaitActivated lanes) e = omega (arith, e)
 
 -- what is known by the selection that was read
-read_known : (bank number page : ℕ) (zeroth : Bool) → (bank == 0) ≡ zeroth → (if zeroth then Known number else Unknown) ≡ Known page → (bank ≡ 0) × (number ≡ page)
-read_known bank number page true e is = (eqb-true bank 0 e, let same : Known number ≡ Known page = is in cc)
+read_known : (bank number page : ℕ) (byte : Bool) → nat_lt number 256 ≡ byte → (if byte then Known (256 * bank + number) else Unknown) ≡ Known page → (bank ≡ page / 256) × (number ≡ page % 256)
+read_known bank number page true e is =
+    let same : Known (256 * bank + number) ≡ Known page = is in
+    let whole : 256 * bank + number ≡ page = cc in
+    let below = ltb-true number 256 e in
+    (omega (arith, whole, below), omega (arith, whole, below))
 read_known bank number page false e is = absurd cc
 
 pub known_read : (sim : SimModule) → KnownBy (selection_read BankAndPage (shown sim)) sim
 known_read sim page e =
-    let both = read_known sim.selection.bank sim.selection.page page (sim.selection.bank == 0) refl e in
+    let both = read_known sim.selection.bank sim.selection.page page (nat_lt sim.selection.page 256) refl e in
     record { bank = both.0; number = both.1 }
 
 -- a page that is needed and not missing is known

@@ -47,7 +47,7 @@ use Rattle.paged_memory.specs.declared.page_addressing.PageAddressing.{PageAddre
 use Rattle.paged_memory.specs.declared.page_addressing.PageAddressing.TheVariants.{BankAndPage}
 use Rattle.paged_memory.specs.Families.{managed_by}
 use Rattle.paged_memory.specs.Images.{Memory}
-use Rattle.paged_memory.specs.Keys.{upper_key}
+use Rattle.paged_memory.specs.Keys.{page_key}
 use Rattle.paged_memory.specs.KnownPages.{is_awaited, missing_page, selecting_first, wanted}
 use Rattle.paged_memory.specs.PageAddressing.{read_selection}
 use Rattle.port_manager.specs.declared.deciding.Goal.{Goal}
@@ -219,9 +219,9 @@ task_page (tasks.AwaitApplied lanes) page e = inr (let same : Some 0x11 ≡ Some
 task_page (tasks.CheckActive control) page e = inr (let same : Some 0x11 ≡ Some page = e in cc)
 task_page (tasks.AwaitActivated lanes) page e = inr (let same : Some 0x11 ≡ Some page = e in cc)
 
-there : (sim : SimModule) (page : ℕ) → HasHalves sim → (page ≡ 0x10) ⊎ (page ≡ 0x11) → finmap.contains_key sim.image (upper_key A0 0 page) ≡ true
-there sim page has (inl e) = ap (λ (page : ℕ). finmap.contains_key sim.image (upper_key A0 0 page)) e ∙ has.control
-there sim page has (inr e) = ap (λ (page : ℕ). finmap.contains_key sim.image (upper_key A0 0 page)) e ∙ has.status
+there : (sim : SimModule) (page : ℕ) → HasHalves sim → (page ≡ 0x10) ⊎ (page ≡ 0x11) → finmap.contains_key sim.image (page_key page) ≡ true
+there sim page has (inl e) = ap (λ (page : ℕ). finmap.contains_key sim.image (page_key page)) e ∙ has.control
+there sim page has (inr e) = ap (λ (page : ℕ). finmap.contains_key sim.image (page_key page)) e ∙ has.status
 
 -- a judgement changes where the list stands, unless it is open
 judged_moves : (work : Work) (met : ℕ) (judged : ReplyJudgement) → list_at work (judged_at (met, None) judged) ≡ list_at work (met, None) → judged ≡ NotYet
@@ -288,7 +288,7 @@ module _ (sim : SimModule) (has : HasHalves sim) (job : PatientProcedure) (op : 
   pub task_answered : reply ≡ Refused → ⊥
   task_answered is = not_refused sim op has (wanted_a0 BankAndPage tasks_on.selection (progress.page_by (hand list)) t.inner op refl t.is (subst IsOnA0 found.1.2 (task_a0 task))) (sym gives ∙ is)
 
-  page_there : (page : ℕ) → progress.page_by (hand list) ≡ Some page → finmap.contains_key sim.image (upper_key A0 0 page) ≡ true
+  page_there : (page : ℕ) → progress.page_by (hand list) ≡ Some page → finmap.contains_key sim.image (page_key page) ≡ true
   page_there page needs = there sim page has (task_page task page (ap (λ (found : Option Task). progress.page_by found) (sym hand_is) ∙ needs))
 
   vain_reads : InVain paged_tasks left_of_tasks tasks_counted tasks_on t.inner op t.wants t.is reply → reads_state op ≡ true
@@ -364,7 +364,7 @@ module _ (sim : SimModule) (has : HasHalves sim) (job : Patient (OnPage Look)) (
   look_answered : reply ≡ Refused → ⊥
   look_answered is = not_refused sim op has (wanted_a0 BankAndPage look_on.selection (looks.needed look) l.inner op refl l.is (look_a0 look.stage l.inner l.wants)) (sym gives ∙ is)
 
-  look_there : (page : ℕ) → looks.needed look ≡ Some page → finmap.contains_key sim.image (upper_key A0 0 page) ≡ true
+  look_there : (page : ℕ) → looks.needed look ≡ Some page → finmap.contains_key sim.image (page_key page) ≡ true
   look_there page needs = there sim page has (inr (look_page look.stage page needs))
 
   look_not_vain : InVain paged_look left_of_look look_counted look_on l.inner op l.wants l.is reply → ⊥

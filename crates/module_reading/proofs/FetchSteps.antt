@@ -1,5 +1,5 @@
 -- What the steps of a reading can't be, by their operations, and what they tell of the selection.
-use Rattle.std.proofs.Common.{◌≡◌, ℕ, ◌==◌, Bool, true, false, not, [], ◌∷◌, get_or, Option, Some, None, refl, sym, ap, subst, ◌∙◌, inl, inr, if◌then◌else◌, eqb-true}
+use Rattle.std.proofs.Common.{◌≡◌, ℕ, ◌==◌, Bool, true, false, not, [], ◌∷◌, Option, Some, None, refl, sym, ap, subst, ◌∙◌, inl, inr, if◌then◌else◌, eqb-true}
 use Rattle.std.proofs.lemmas.Bool.{cases_Bool, true≢false}
 use Rattle.bus_model.specs.declared.device.Dev.{Dev}
 use Rattle.bus_model.specs.declared.device.Dev.TheVariants.{A0, A2}
@@ -9,6 +9,7 @@ use Rattle.bus_model.specs.declared.operation.Step.{Step}
 use Rattle.bus_model.specs.SameOperation.{same_op}
 use Rattle.conversations.specs.Pauses.{is_refused}
 use Rattle.conversations.specs.Selecting.{IsFetch, since_refusal, trusted}
+use Rattle.conversations.proofs.OnPageLaws.{selection_stores}
 use Rattle.paged_memory.specs.declared.page_addressing.PageAddressing.{PageAddressing}
 use Rattle.paged_memory.specs.declared.page_addressing.PageAddressing.TheVariants.{BankAndPage, PageAlone}
 use Rattle.paged_memory.specs.declared.page_addressing.KnownPage.{KnownPage}
@@ -39,18 +40,6 @@ pub reads_fetch : (region : Region) → IsFetch (operation region)
 reads_fetch (Lower dev) = tt
 reads_fetch FirstPage = tt
 reads_fetch (Page page) = tt
-
-pub selection_stores : (addressing : PageAddressing) (page : ℕ) → IsFetch (selection addressing page) → ⊥
-selection_stores BankAndPage page fetch = fetch
-selection_stores PageAlone page fetch = fetch
-
-abbrev stored_at : ℕ → Op → ℕ
-stored_at place (Fetch dev offset count) = 0
-stored_at place (Store dev offset bytes) = get_or bytes.items place 0
-
-pub same_page : (addressing : PageAddressing) (page other : ℕ) → selection addressing page ≡ selection addressing other → page ≡ other
-same_page BankAndPage page other e = ap (stored_at 1) e
-same_page PageAlone page other e = ap (stored_at 0) e
 
 abbrev device_of : Op → Dev
 device_of (Fetch dev offset count) = dev

@@ -14,13 +14,13 @@ use Rattle.bus_model.specs.Operations.{Answers}
 use Rattle.bus_model.specs.SameOperation.{same_op}
 use Rattle.control_sets.specs.OutcomeSteps.{Gives}
 use Rattle.conversations.specs.Selecting.{IsFetch, IsSelecting, LacksNone, ShowsNone, WasTaken, is_on, trusted}
-use Rattle.conversations.proofs.OnPageLaws.{read_is_fetch}
+use Rattle.conversations.proofs.OnPageLaws.{read_is_fetch, selection_stores}
 use Rattle.paged_memory.specs.declared.key.Key.{Key}
 use Rattle.paged_memory.specs.declared.page_addressing.PageAddressing.{PageAddressing}
 use Rattle.paged_memory.specs.Images.{Memory}
 use Rattle.paged_memory.specs.KnownPages.{IsApart}
 use Rattle.paged_memory.specs.PageAddressing.{History, is_open, is_page, is_page_confirmed, is_read, may_select, read_selection, reads_back, selection}
-use Rattle.paged_memory.proofs.KnownPageLaws.{reads_alone, reads_itself, selects_alone}
+use Rattle.paged_memory.proofs.KnownPageLaws.{reads_alone, reads_itself, same_page, selects_alone}
 use Rattle.module_reading.specs.declared.halves.Halves.{Halves}
 use Rattle.module_reading.specs.declared.region.Region.{Region}
 use Rattle.module_reading.specs.declared.region.Region.TheVariants.{Lower, FirstPage, Page}
@@ -30,7 +30,7 @@ use Rattle.module_reading.specs.ReadImages.{IsLeftOut, IsRead, IsShown, StoresNo
 use Rattle.module_reading.proofs.KeptHalves as kept
 use Rattle.module_reading.proofs.RegionLaws.{at_most_five, first_is, none_paged, other_keys, same_regions}
 use Rattle.module_reading.proofs.HalvesLaws.{keeps_lower}
-use Rattle.module_reading.proofs.FetchSteps.{IsKnown, knows_fetch, knows_read_back, knows_selection, leaves_selection, no_read_back, reads_fetch, same_half, same_page, selection_stores, trusts_next}
+use Rattle.module_reading.proofs.FetchSteps.{IsKnown, knows_fetch, knows_read_back, knows_selection, leaves_selection, no_read_back, reads_fetch, same_half, trusts_next}
 use Rattle.module_reading.proofs.FetchUnderWay.{Fits, IsAmong, IsAt, Settles, all_of, not_before, unfinished}
 
 abbrev given_by : Reply → List ℕ

@@ -2,7 +2,7 @@
 use Rattle.std.proofs.Common.{◌≡◌, ◌≤◌, ◌<◌, ℕ, zero, suc, ◌==◌, ◌&&◌, Bool, true, false, not, List, [], ◌∷◌, length, drop, Option, Some, None, refl, sym, ap, subst, ◌∙◌, if◌then◌else◌, arith}
 use Rattle.std.proofs.lemmas.Bool.{and_parts, leb-true, true≢false}
 use Rattle.std.specs.Prelude.{nat_le, option_map, unwrap_or, unsigned_abs, pos}
-use Rattle.std.specs.List.{list_all, slice_get}
+use Rattle.std.specs.List.{AllByRecursion, list_all, slice_get}
 use Rattle.std.specs.FinMap as map
 use Rattle.std.specs.Ordering.{eq_by_cmp, is_eq}
 use Rattle.std.specs.Cmp.{eq_by_cmp_equiv}
@@ -12,11 +12,14 @@ use Rattle.bus_model.specs.declared.device.Dev.TheVariants.{A0, A2}
 use Rattle.paged_memory.specs.declared.family.Family.{Family}
 use Rattle.paged_memory.specs.declared.family.Family.TheVariants.{Cmis, Sff8636, Sff8472}
 use Rattle.paged_memory.specs.declared.key.Key.{Key}
+use Rattle.paged_memory.specs.declared.page_addressing.PageAddressing.{PageAddressing}
+use Rattle.paged_memory.specs.declared.page_addressing.PageAddressing.TheVariants.{BankAndPage, PageAlone}
 use Rattle.paged_memory.specs.Families.{managed_by}
 use Rattle.paged_memory.specs.Images.{Memory}
 use Rattle.paged_memory.specs.KeyOrder.{key_cmp}
 use Rattle.paged_memory.specs.Keys.{lower_key}
 use Rattle.paged_memory.proofs.KeyLaws.{keys_apart, keys_total}
+use Rattle.paged_memory.proofs.WindowHistories.{IsSelectable}
 use Rattle.field_tables.specs.declared.field.Field.{Field}
 use Rattle.field_tables.specs.declared.field.Field.TheVariants.{CIdentifier, CFlatMemory, QFlatMemory, SAddressChange, SDiagPresent}
 use Rattle.field_tables.specs.FieldValues.{field_key, value_in}
@@ -135,6 +138,34 @@ module _ (request : Request) (memory : Memory) (n m : ℕ) (earlier later : Regi
 
   pub none_paged : (page : ℕ) → earlier ≡ Page page → later ≡ FirstPage → ⊥
   none_paged page paged first = let never : not (is_paged (Page page) && is_first FirstPage) ≡ true = (λ i. not (is_paged (sym paged i) && is_first (sym first i))) ∙ parts.1 in cc
+
+-- ---- pages that can be selected
+
+abbrev pub CanBeSelected : PageAddressing → Region → Type 0
+CanBeSelected addressing (Lower dev) = Unit {0}
+CanBeSelected addressing FirstPage = Unit {0}
+CanBeSelected addressing (Page page) = IsSelectable addressing page
+
+by_bank : (regions : List Region) → AllByRecursion (CanBeSelected BankAndPage) regions
+by_bank [] = tt
+by_bank (Lower dev ∷ regions) = (tt, by_bank regions)
+by_bank (FirstPage ∷ regions) = (tt, by_bank regions)
+by_bank (Page page ∷ regions) = (tt, by_bank regions)
+
+-- those of a family can, in its way
+pub can_be_selected : (request : Request) (family : Option Family) (memory : Memory) → AllByRecursion (CanBeSelected (addressing_in family)) (regions_in request family memory)
+can_be_selected request (Some Cmis) memory = by_bank (regions_in request (Some Cmis) memory)
+can_be_selected request (Some Sff8636) memory = by (bit memory QFlatMemory) (wants request 4) (wants request 5) where
+  by : (flat first third : Bool) →
+      AllByRecursion (CanBeSelected PageAlone) (if flat then and_if first FirstPage lower_alone else and_if third (Page 0x03) (and_if first (Page 0x00) lower_alone))
+  by true true third = (tt, (tt, tt))
+  by true false third = (tt, tt)
+  by false true true = (tt, (refl, (refl, tt)))
+  by false true false = (tt, (refl, tt))
+  by false false true = (tt, (refl, tt))
+  by false false false = (tt, tt)
+can_be_selected request (Some Sff8472) memory = by_bank (regions_in request (Some Sff8472) memory)
+can_be_selected request None memory = by_bank lower_alone
 
 -- ---- memories with the same lower half
 

@@ -13,7 +13,7 @@ use Rattle.paged_memory.specs.declared.page_addressing.PageAddressing.{PageAddre
 use Rattle.paged_memory.specs.declared.page_addressing.PageAddressing.TheVariants.{BankAndPage, PageAlone}
 use Rattle.paged_memory.specs.Families.{managed_by}
 use Rattle.paged_memory.specs.Images.{Memory}
-use Rattle.paged_memory.specs.Keys.{lower_key, upper_key}
+use Rattle.paged_memory.specs.Keys.{lower_key, page_key, upper_key}
 use Rattle.field_tables.specs.declared.field.Field.TheVariants.{CFlatMemory, CIdentifier, QFlatMemory, SAddressChange, SDiagPresent}
 use Rattle.field_tables.specs.Readings.{bit, number}
 use Rattle.module_reading.specs.declared.region.Region.{Region}
@@ -34,7 +34,7 @@ page_of (Page page) = Some page
 abbrev pub key_of : Region → Key
 key_of (Lower dev) = lower_key dev
 key_of FirstPage = upper_key A0 0 0
-key_of (Page page) = upper_key A0 0 page
+key_of (Page page) = page_key page
 
 -- all families have the identifier in the same byte
 abbrev pub identifier : Memory → ℕ

@@ -144,7 +144,7 @@ impl NeedsPages for Halves {
 
     ghost lacking = { λ halves number. after_lack halves };
 
-    fn page(&self) -> Option<u8> {
+    fn page(&self) -> Option<u16> {
         match self.region() {
             Some(region) => region.page(),
             None => None,
@@ -163,7 +163,7 @@ impl NeedsPages for Halves {
         true
     }
 
-    fn lacks(&mut self, _number: u8) {
+    fn lacks(&mut self, _number: u16) {
         self.left_out();
     }
 }

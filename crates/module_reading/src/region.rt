@@ -11,8 +11,8 @@ pub enum Region {
     Lower(Dev),
     /// Page 00h of a module with flat memory, which shows no other page.
     FirstPage,
-    /// This page of bank 0, which has to be selected.
-    Page(u8),
+    /// The page of this number, which has to be selected.
+    Page(u16),
 }
 
 impl Default for Region {
@@ -45,8 +45,8 @@ impl Region {
         }
     }
 
-    /// The page that has to be selected for it.
-    pub fn page(self) -> Option<u8>
+    /// The number of the page that has to be selected for it.
+    pub fn page(self) -> Option<u16>
         ensures { result ≡ page_of self }
     {
         match self {
@@ -62,7 +62,7 @@ impl Region {
         match self {
             Region::Lower(dev) => Key::lower(dev),
             Region::FirstPage => Key::upper(Dev::A0, 0, 0),
-            Region::Page(page) => Key::upper(Dev::A0, 0, page),
+            Region::Page(page) => Key::of_page(page),
         }
     }
 }

@@ -136,7 +136,7 @@ impl NeedsPages for Look {
 
     ghost lacking = { λ look number. look };
 
-    fn page(&self) -> Option<u8> {
+    fn page(&self) -> Option<u16> {
         match self.stage {
             LookStage::Lanes => Some(0x11),
             LookStage::Lower | LookStage::Seen(_) => None,
@@ -151,5 +151,5 @@ impl NeedsPages for Look {
         false
     }
 
-    fn lacks(&mut self, _number: u8) {}
+    fn lacks(&mut self, _number: u16) {}
 }

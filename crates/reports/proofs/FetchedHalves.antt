@@ -25,11 +25,11 @@ use Rattle.paged_memory.specs.declared.page_addressing.PageAddressing.TheVariant
 use Rattle.paged_memory.specs.Families.{is_family, managed_by}
 use Rattle.paged_memory.specs.Images.{Memory}
 use Rattle.paged_memory.specs.ImageText.{IsImage}
-use Rattle.paged_memory.specs.Keys.{lower_key, upper_key}
+use Rattle.paged_memory.specs.Keys.{lower_key, page_key}
 use Rattle.paged_memory.specs.PageAddressing.{History, reads_back, selection}
 use Rattle.paged_memory.specs.MappedPages.{selecting_by, selecting_in, selecting_on}
 use Rattle.paged_memory.specs.Windows.{Windowed, window_fetched, started, window_conduct}
-use Rattle.paged_memory.proofs.WindowHistories.{IsOf, IsOfBank, IsSound, May, Shows, State, found, left, of_after, selecting_of, shows_confirmed, shows_fetch, shows_read_back, shows_selected, sound_after}
+use Rattle.paged_memory.proofs.WindowHistories.{IsOf, IsOfBank, IsSelectable, IsSound, May, Shows, State, found, left, of_after, selecting_of, shows_confirmed, shows_fetch, shows_read_back, shows_selected, sound_after}
 use Rattle.paged_memory.proofs.WindowReads.{before_selection, half_page, reads_lower, reads_page}
 use Rattle.paged_memory.proofs.WindowRuns.{always}
 use Rattle.field_tables.specs.declared.field.Field.TheVariants.{CIdentifier}
@@ -44,7 +44,7 @@ use Rattle.module_reading.specs.ReadImages.{IsImageOf, IsLeftOut, IsRead, IsSett
 use Rattle.module_reading.specs.Regions.{everything, has_diagnostics, key_of, operation, page_of, addressing_in, addressing_of, regions_in, regions_of, sfp_regions}
 use Rattle.module_reading.specs.declared.region.Region.{Region}
 use Rattle.module_reading.specs.declared.region.Region.TheVariants.{Lower, FirstPage, Page}
-use Rattle.module_reading.proofs.RegionLaws.{begins_lower}
+use Rattle.module_reading.proofs.RegionLaws.{CanBeSelected, begins_lower, can_be_selected}
 use Rattle.reports.proofs.SameFamilies.{AllAgree}
 use Rattle.reports.proofs.SameIf.{each_agree}
 
@@ -90,15 +90,15 @@ shows_first : (memory : Memory) (state : State) (history : History) → StoresNo
 shows_first memory state [] nothing shows = shows
 shows_first memory state (step ∷ before) nothing shows = shows_next memory 0 (left state before) step nothing.0 (shows_first memory state before nothing.1 shows)
 
-shows_chosen : (memory : Memory) (addressing : PageAddressing) → selecting_on memory A0 ≡ selecting_of addressing → (page : ℕ) (state : State) (history : History) → map.contains_key memory (upper_key A0 0 page) ≡ true → IsOf memory state.1 →
+shows_chosen : (memory : Memory) (addressing : PageAddressing) → selecting_on memory A0 ≡ selecting_of addressing → (page : ℕ) (state : State) (history : History) → IsSelectable addressing page → map.contains_key memory (page_key page) ≡ true → IsOf memory state.1 →
     May state history → WasTaken addressing page history → Shows memory page (left state history).1
-shows_chosen memory addressing by page state [] has of may selected = absurd selected
-shows_chosen memory addressing by page state (step ∷ before) has of may (inl accepted) =
+shows_chosen memory addressing by page state [] selectable has of may selected = absurd selected
+shows_chosen memory addressing by page state (step ∷ before) selectable has of may (inl accepted) =
     let there = left state before in
     let done : Done ≡ (transacted window_conduct (selection addressing page) there).0 = sym accepted.1 ∙ may.0 ∙ ap (λ (op : Op). (transacted window_conduct op there).0) accepted.0 in
-    subst (λ (op : Op). Shows memory page (transacted window_conduct op there).1.1) (sym accepted.0) (shows_selected memory addressing by page there has done (of_after memory state before of))
-shows_chosen memory addressing by page state (step ∷ before) has of may (inr (fetch, earlier)) =
-    shows_next memory page (left state before) step fetch (shows_chosen memory addressing by page state before has of may.1 earlier)
+    subst (λ (op : Op). Shows memory page (transacted window_conduct op there).1.1) (sym accepted.0) (shows_selected memory addressing by page there selectable has done (of_after memory state before of))
+shows_chosen memory addressing by page state (step ∷ before) selectable has of may (inr (fetch, earlier)) =
+    shows_next memory page (left state before) step fetch (shows_chosen memory addressing by page state before selectable has of may.1 earlier)
 
 -- ---- how its pages are selected
 
@@ -146,8 +146,8 @@ module _ (memory copy : Memory) (state : State) (history : History) (image : IsI
     bank_of BankAndPage = tt
     bank_of PageAlone = ap (λ (window : Windowed). window.selection.bank) start
 
-  same_page : (page : ℕ) (there : State) (bytes : List ℕ) → Shows memory page there.1 → (window_fetched (found there) A0 128 128).0 ≡ Some bytes → map.get copy (upper_key A0 0 page) ≡ Some bytes →
-      Agree copy memory (upper_key A0 0 page)
+  same_page : (page : ℕ) (there : State) (bytes : List ℕ) → Shows memory page there.1 → (window_fetched (found there) A0 128 128).0 ≡ Some bytes → map.get copy (page_key page) ≡ Some bytes →
+      Agree copy memory (page_key page)
   same_page page there bytes shows answer held =
       let now = found_keeps window_conduct (Shows memory page) (always (Shows memory page)) there shows in
       ap (option_map (take 128)) (held ∙ sym (reads_page memory page (found there) bytes image now answer))
@@ -168,36 +168,36 @@ module _ (memory copy : Memory) (state : State) (history : History) (image : IsI
       let shows = shows_confirmed memory addressing (by refl) page state read.before sound_start read.may.1 read.is.1 in
       same_page page (left state read.before) bytes shows (answer_of addressing (Page page) bytes state A0 128 refl read) held
 
-  lacks : (page : ℕ) → selecting_on memory A0 ≡ selecting_of addressing → 0 < page → Found (λ step before. IsTrue (reads_back addressing 0 step) × WasTaken addressing page before) state →
-      map.contains_key memory (upper_key A0 0 page) ≡ true → ⊥
-  lacks page by above out has =
+  lacks : (page : ℕ) → selecting_on memory A0 ≡ selecting_of addressing → IsSelectable addressing page → 0 < page → Found (λ step before. IsTrue (reads_back addressing 0 step) × WasTaken addressing page before) state →
+      map.contains_key memory (page_key page) ≡ true → ⊥
+  lacks page by selectable above out has =
       let there = left state out.before in
       let zeroth = (shows_read_back memory addressing by 0 there out.step out.is.0 out.may.0 (sound_after memory addressing by state out.before sound_start)).0 in
-      let chosen = found_keeps window_conduct (Shows memory page) (always (Shows memory page)) there (shows_chosen memory addressing by page state out.before has of_start out.may.1 out.is.1) in
-      omega (arith, above, zeroth.number, chosen.number)
+      let chosen = found_keeps window_conduct (Shows memory page) (always (Shows memory page)) there (shows_chosen memory addressing by page state out.before selectable has of_start out.may.1 out.is.1) in
+      omega (arith, above, zeroth.bank, zeroth.number, chosen.bank, chosen.number)
 
-  agrees_by : (region : Region) (half : Option (List ℕ)) → SelectsBy memory addressing region → map.get copy (key_of region) ≡ half →
+  agrees_by : (region : Region) (half : Option (List ℕ)) → SelectsBy memory addressing region → CanBeSelected addressing region → map.get copy (key_of region) ≡ half →
       MatchOption half (IsLeftOut false addressing region history) (λ bytes. IsRead false addressing region bytes history) → Agree copy memory (key_of region)
-  agrees_by region (Some bytes) by held read = agrees_read region bytes by (found_step _ state history may read) held
-  agrees_by (Lower dev) None by held out = absurd out
-  agrees_by FirstPage None by held out = absurd out
-  agrees_by (Page page) None by held out =
-      let key = upper_key A0 0 page in
-      let none : map.get memory key ≡ None = no_half (map.contains_key memory key) (map.get memory key) refl (lacks page (by refl) out.0 (found_step _ state history may out.1)) in
+  agrees_by region (Some bytes) by can held read = agrees_read region bytes by (found_step _ state history may read) held
+  agrees_by (Lower dev) None by can held out = absurd out
+  agrees_by FirstPage None by can held out = absurd out
+  agrees_by (Page page) None by can held out =
+      let key = page_key page in
+      let none : map.get memory key ≡ None = no_half (map.contains_key memory key) (map.get memory key) refl (lacks page (by refl) can out.0 (found_step _ state history may out.1)) in
       ap (option_map (take 128)) (held ∙ sym none)
 
-  agrees_settled : (region : Region) → SelectsBy memory addressing region → IsSettled false history copy region → Agree copy memory (key_of region)
-  agrees_settled region by settled = agrees_by region (map.get copy (key_of region)) by refl settled
+  agrees_settled : (region : Region) → SelectsBy memory addressing region → CanBeSelected addressing region → IsSettled false history copy region → Agree copy memory (key_of region)
+  agrees_settled region by can settled = agrees_by region (map.get copy (key_of region)) by can refl settled
 
   -- ---- all of them
 
-  agree_all : (regions : List Region) → ((region : Region) → SelectsBy memory addressing region) → AllByRecursion (IsSettled false history copy) regions → AllByRecursion (Agree copy memory) (map key_of regions)
-  agree_all [] by settled = tt
-  agree_all (region ∷ regions) by settled = (agrees_settled region (by region) settled.0, agree_all regions by settled.1)
+  agree_all : (regions : List Region) → ((region : Region) → SelectsBy memory addressing region) → AllByRecursion (CanBeSelected addressing) regions → AllByRecursion (IsSettled false history copy) regions → AllByRecursion (Agree copy memory) (map key_of regions)
+  agree_all [] by can settled = tt
+  agree_all (region ∷ regions) by can settled = (agrees_settled region (by region) can.0 settled.0, agree_all regions by can.1 settled.1)
 
   agree_lowers : (diagnosed : Bool) → AllByRecursion (IsSettled false history copy) (sfp_regions everything diagnosed) → AllByRecursion (Agree copy memory) (map key_of (sfp_regions everything diagnosed))
-  agree_lowers true settled = (agrees_settled (Lower A0) (λ paged. absurd cc) settled.0, (agrees_settled (Lower A2) (λ paged. absurd cc) settled.1.0, tt))
-  agree_lowers false settled = (agrees_settled (Lower A0) (λ paged. absurd cc) settled.0, tt)
+  agree_lowers true settled = (agrees_settled (Lower A0) (λ paged. absurd cc) tt settled.0, (agrees_settled (Lower A2) (λ paged. absurd cc) tt settled.1.0, tt))
+  agree_lowers false settled = (agrees_settled (Lower A0) (λ paged. absurd cc) tt settled.0, tt)
 
   same_selecting : Agree copy memory (lower_key A0) → is_absent memory (lower_key A0) ≡ false → (family : Option Family) → managed_by (identifier copy) ≡ family → selecting_in family ≡ selecting_of (addressing_in family) →
       selecting_on memory A0 ≡ selecting_of addressing
@@ -210,13 +210,15 @@ module _ (memory copy : Memory) (state : State) (history : History) (image : IsI
   agree_in : Agree copy memory (lower_key A0) → is_absent memory (lower_key A0) ≡ false → (family : Option Family) → managed_by (identifier copy) ≡ family → AllByRecursion (IsSettled false history copy) (regions_in everything family copy) →
       AllByRecursion (Agree copy memory) (map key_of (regions_in everything family copy))
   agree_in low there (Some Sff8472) is settled = agree_lowers (has_diagnostics copy) settled
-  agree_in low there other is settled = agree_all (regions_in everything other copy) (λ region paged. same_selecting low there other is refl) settled
+  agree_in low there other is settled =
+      let can = subst (λ (by : PageAddressing). AllByRecursion (CanBeSelected by) (regions_in everything other copy)) (sym (ap addressing_in is)) (can_be_selected everything other copy) in
+      agree_all (regions_in everything other copy) (λ region paged. same_selecting low there other is refl) can settled
 
   halves_agree : IsImageOf false everything history copy → AllAgree copy memory
   halves_agree is =
       let each = is.each in
       let first : IsSettled false history copy (Lower A0) = (subst (AllByRecursion (IsSettled false history copy)) (begins_lower everything copy) each).0 in
-      let low : Agree copy memory (lower_key A0) = agrees_settled (Lower A0) (λ paged. absurd cc) first in
+      let low : Agree copy memory (lower_key A0) = agrees_settled (Lower A0) (λ paged. absurd cc) tt first in
       let present : is_absent copy (lower_key A0) ≡ false = ap not (some_since (map.get copy (lower_key A0)) ⊥ (λ bytes. IsRead false (addressing_of copy) (Lower A0) bytes history) first (λ none. none)) in
       each_agree copy memory (map key_of (regions_of everything copy))
       (agree_in low (sym (same_absent copy memory (lower_key A0) low) ∙ present) (managed_by (identifier copy)) refl each)

@@ -72,7 +72,7 @@ pub struct SavedWork {
     /// 1 if the last selection was accepted and isn't read back, where a page may be lacked; else 0.
     pub taken: u8,
     /// The page of that selection, or 0.
-    pub taken_page: u8,
+    pub taken_page: u16,
     /// How far a look or a change of power has come.
     pub stage: u8,
     /// The byte that a change of power has found, or 0.
@@ -106,7 +106,7 @@ pub struct SavedPort {
     pub vain: u8,
     /// Of the page that was read to be selected: 2 if one was, and 0.
     pub selection: u8,
-    pub page: u8,
+    pub page: u16,
     pub goal: SavedGoal,
     pub left: SavedLeft,
     /// What somebody has asked: 1 to sleep, 2 to provision, 3 to deactivate, 0 nothing; and of which lanes.

@@ -94,7 +94,7 @@ fn codes_in(saved: &SavedCodes) -> LaneCodes
     }
 }
 
-pub fn page_in(number: u8, page: u8) -> KnownPage
+pub fn page_in(number: u8, page: u16) -> KnownPage
     ensures { result ≡ spec.page_in number page }
 {
     match number {

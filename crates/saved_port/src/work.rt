@@ -90,7 +90,7 @@ fn patience_in(work: &SavedWork) -> Patience
     }
 }
 
-fn taken_in(work: &SavedWork) -> Option<u8>
+fn taken_in(work: &SavedWork) -> Option<u16>
     ensures { result ≡ (if work.now.taken == 1 then Some work.now.taken_page else None) }
 {
     if work.taken == 1 {
@@ -271,7 +271,7 @@ pub fn number_of(yes: bool) -> u8
     if yes { 1 } else { 0 }
 }
 
-pub fn numbers_of_page(selected: KnownPage) -> (u8, u8)
+pub fn numbers_of_page(selected: KnownPage) -> (u8, u16)
     ensures { result ≡ spec.numbers_of_page selected }
 {
     match selected {

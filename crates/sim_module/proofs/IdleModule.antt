@@ -1,5 +1,5 @@
 -- While page 10h is out of reach and no apply is in progress, what is active stays.
-use Rattle.std.proofs.Common.{◌≡◌, ◌⊎◌, inl, inr, ℕ, zero, suc, ◌+◌, ◌-◌, ◌<◌, ◌≤◌, Bool, true, false, List, [], ◌∷◌, length, take, refl, ap, sym, subst, ◌∙◌, ◌==◌, ◌&&◌, if◌then◌else◌, nat_lt, arith}
+use Rattle.std.proofs.Common.{◌≡◌, ◌⊎◌, inl, inr, ℕ, zero, suc, ◌+◌, ◌-◌, ◌/◌, ◌%◌, ◌<◌, ◌≤◌, Bool, true, false, List, [], ◌∷◌, length, take, refl, ap, sym, subst, ◌∙◌, ◌==◌, ◌&&◌, if◌then◌else◌, nat_lt, arith}
 use Rattle.std.specs.FinMap as finmap
 use Rattle.std.proofs.lemmas.Bool.Decides.{nat_tests}
 use Rattle.bus_model.specs.declared.device.Dev.{Dev}
@@ -27,10 +27,10 @@ use Rattle.bus_model.proofs.Histories.{AnyPin}
 use Rattle.sim_module.proofs.RestingModule.{rest_lanes, rest_tick, take_fewer}
 use Rattle.sim_module.proofs.SoundModule.{either, fetched_keeps, kept_by_other, stored_keeps}
 
--- a page of bank 0 is mapped
+-- a page is mapped
 pub record Shows (page : ℕ) (sim : SimModule) : Type 0 where
-  pub bank : sim.selection.bank ≡ 0
-  pub number : sim.selection.page ≡ page
+  pub bank : sim.selection.bank ≡ page / 256
+  pub number : sim.selection.page ≡ page % 256
 
 pub high_test : (address : ℕ) → 128 ≤ address → nat_lt address 128 ≡ false
 high_test address high = grind (arith, nat_tests)

@@ -46,12 +46,12 @@ unfolding shown_byte
 shown_selection sim page = refl
 
 -- a confirmed page is mapped
-pub confirmed : (sim : SimModule) (number : ℕ) → (fetched sim A0 126 2).0 ≡ Some (0 ∷ number ∷ []) → Shows number sim
+pub confirmed : (sim : SimModule) (number : ℕ) → (fetched sim A0 126 2).0 ≡ Some (number / 256 ∷ number % 256 ∷ []) → Shows number sim
 confirmed sim number answered =
-    let read = reads sim 126 2 (0 ∷ number ∷ []) answered in
-    let same : sim.selection.bank ∷ sim.selection.page ∷ [] ≡ 0 ∷ number ∷ [] = sym (shown_selection sim read.page) ∙ read.bytes_are in
-    let bank : sim.selection.bank ≡ 0 = cc in
-    let page : sim.selection.page ≡ number = cc in
+    let read = reads sim 126 2 (number / 256 ∷ number % 256 ∷ []) answered in
+    let same : sim.selection.bank ∷ sim.selection.page ∷ [] ≡ number / 256 ∷ number % 256 ∷ [] = sym (shown_selection sim read.page) ∙ read.bytes_are in
+    let bank : sim.selection.bank ≡ number / 256 = cc in
+    let page : sim.selection.page ≡ number % 256 = cc in
     record { bank = bank; number = page }
 
 pub not_mapped : (sim : SimModule) → Shows 0x11 sim → is_mapped sim 0x10 ≡ false

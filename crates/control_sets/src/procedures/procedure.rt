@@ -207,7 +207,7 @@ impl NeedsPages for TaskList {
 
     ghost lacking = { λ list number. list };
 
-    fn page(&self) -> Option<u8> {
+    fn page(&self) -> Option<u16> {
         match self.task() {
             Some(task) => task.page(),
             None => None,
@@ -222,5 +222,5 @@ impl NeedsPages for TaskList {
         false
     }
 
-    fn lacks(&mut self, _number: u8) {}
+    fn lacks(&mut self, _number: u16) {}
 }

@@ -54,8 +54,8 @@ impl Task {
         }
     }
 
-    /// The page that has to be selected for it; none for the lower memory.
-    pub fn page(&self) -> Option<u8>
+    /// The number of the page that has to be selected for it; none for the lower memory.
+    pub fn page(&self) -> Option<u16>
         ensures { result ≡ page_of self.now }
     {
         register(self.register()).page()

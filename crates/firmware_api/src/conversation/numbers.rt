@@ -48,8 +48,8 @@ pub struct SavedConversation {
     pub doubts: u8,
     /// 1 if the last selection was accepted and isn't read back, where a page may be lacked; else 0.
     pub taken: u8,
-    /// The page of that selection, or 0.
-    pub taken_page: u8,
+    /// The number of the page of that selection, or 0.
+    pub taken_page: u16,
     /// 1 if a procedure looks at the module's state after each wait, else 0.
     pub watches: u8,
     /// 1 if it looks before its next operation, else 0.

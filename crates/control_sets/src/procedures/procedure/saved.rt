@@ -29,8 +29,8 @@ pub struct SavedProcedure {
     pub control: ControlSet,
     /// Of the page selection: 0 if nothing is known, 1 if it was stored to, 2 if a page was read back.
     pub selection: u8,
-    /// The page that was read back, or 0.
-    pub page: u8,
+    /// The number of the page that was read back, or 0.
+    pub page: u16,
     pub fault: SavedFault,
     /// 1 if a pause comes before the next operation, else 0.
     pub due: u8,
@@ -192,7 +192,7 @@ pub fn number_of_due(due: bool) -> u8
 }
 
 /// How what is known of the page selection is saved, and the page.
-pub fn numbers_of_selected(selected: KnownPage) -> (u8, u8)
+pub fn numbers_of_selected(selected: KnownPage) -> (u8, u16)
     ensures same { selected_numbered result.0 result.1 ≡ Some selected }
     ensures page { result.1 ≡ page_read_back selected }
 {
