@@ -23,7 +23,7 @@ use Rattle.paged_memory.specs.declared.page_addressing.KnownPage.{KnownPage}
 use Rattle.paged_memory.specs.declared.page_addressing.KnownPage.TheVariants.{Open, Unknown}
 use Rattle.paged_memory.specs.KnownPages.{IsApart, Tells, is_awaited, is_known, missing_page, selected_after, selecting_first, selection_read, selection_told, wanted}
 use Rattle.paged_memory.specs.PageAddressing.{History, is_open, read_selection, selection}
-use Rattle.paged_memory.proofs.KnownPageLaws.{after_read, after_selection, after_work, is_confirmed, read_closes, read_tells, same_page, step_of, tells_next, tells_nothing}
+use Rattle.paged_memory.proofs.KnownPageLaws.{after_read, after_selection, after_work, by_selection, is_confirmed, read_closes, read_tells, same_page, step_of, tells_next, tells_nothing}
 
 pub record Asks {E : Type 0} (addressing : PageAddressing) (selected : KnownPage) (page : Option ℕ) (within : Next E) (op : Op) : Type 0 where
   pub inner : Op
@@ -90,8 +90,7 @@ read_is_fetch PageAlone = tt
 
 pub selection_stores : (addressing : PageAddressing) (page : ℕ) → IsFetch (selection addressing page) → ⊥
 selection_stores BankAndPage page = λ fetch. fetch
-selection_stores PageAlone page =
-    elim (page / 256 == 0) as (λ b. IsFetch (if b then Store A0 127 (record { items = page % 256 ∷ [] }) else Store A0 126 (record { items = page / 256 ∷ page % 256 ∷ [] })) → ⊥) [ true ↦ λ fetch. fetch | false ↦ λ fetch. fetch ]
+selection_stores PageAlone page = by_selection (λ op. IsFetch op → ⊥) page (λ fetch. fetch) (λ fetch. fetch)
 
 number_is : (page number : ℕ) → ◌≡◌ {A = Option ℕ} (Some page) (Some number) → page ≡ number
 number_is page number e = cc

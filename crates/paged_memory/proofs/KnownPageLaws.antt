@@ -85,14 +85,17 @@ pub reads_alone : (addressing : PageAddressing) → may_select addressing (read_
 reads_alone BankAndPage = refl
 reads_alone PageAlone = refl
 
+-- where pages are selected alone: of what holds of both stores that there are
+pub by_selection : (P : Op → Type 0) (page : ℕ) → P (Store A0 127 (record { items = page % 256 ∷ [] })) → P (Store A0 126 (record { items = page / 256 ∷ page % 256 ∷ [] })) → P (selection PageAlone page)
+by_selection P page alone banked = elim (page / 256 == 0) as (λ b. P (if b then Store A0 127 (record { items = page % 256 ∷ [] }) else Store A0 126 (record { items = page / 256 ∷ page % 256 ∷ [] }))) [ true ↦ alone | false ↦ banked ]
+
 pub selects : (addressing : PageAddressing) (page : ℕ) → may_select addressing (selection addressing page) ≡ true
 selects BankAndPage page = refl
-selects PageAlone page = elim (page / 256 == 0) as (λ b. may_select PageAlone (if b then Store A0 127 (record { items = page % 256 ∷ [] }) else Store A0 126 (record { items = page / 256 ∷ page % 256 ∷ [] })) ≡ true) [ true ↦ refl | false ↦ refl ]
+selects PageAlone page = by_selection (λ op. may_select PageAlone op ≡ true) page refl refl
 
 pub selects_alone : (addressing : PageAddressing) (page : ℕ) → same_op (read_selection addressing) (selection addressing page) ≡ false
 selects_alone BankAndPage page = refl
-selects_alone PageAlone page =
-    elim (page / 256 == 0) as (λ b. same_op (read_selection PageAlone) (if b then Store A0 127 (record { items = page % 256 ∷ [] }) else Store A0 126 (record { items = page / 256 ∷ page % 256 ∷ [] })) ≡ false) [ true ↦ refl | false ↦ refl ]
+selects_alone PageAlone page = by_selection (λ op. same_op (read_selection PageAlone) op ≡ false) page refl refl
 
 -- the page that the store of a selection names
 abbrev named_by : List ℕ → ℕ

@@ -22,7 +22,7 @@ use Rattle.paged_memory.specs.declared.page_addressing.PageAddressing.TheVariant
 use Rattle.paged_memory.specs.declared.page_addressing.KnownPage.{KnownPage}
 use Rattle.paged_memory.specs.KnownPages.{is_awaited, missing_page, selecting_first, selection_read, wanted}
 use Rattle.paged_memory.specs.PageAddressing.{read_selection, selection}
-use Rattle.paged_memory.proofs.KnownPageLaws.{read_closes}
+use Rattle.paged_memory.proofs.KnownPageLaws.{by_selection, read_closes}
 use Rattle.port_manager.specs.Patients.{Paged, Patient, advanced, after_on, pause_after, replied, rested_if, wants_of, wants_on}
 use Rattle.port_manager.proofs.PatientLaws.{asked_on, asked_within, doubting_if, kept_on, kept_within, op_do, trusting_if, within_do}
 
@@ -69,7 +69,7 @@ repeats (Store dev offset bytes) reply fetch = absurd fetch
 -- a page is selected again after the selection was read
 again : (addressing : PageAddressing) (page : ℕ) (bytes : ArrayVec ℕ) → is_fruitless (read_selection addressing) (Bytes bytes) (Some (selection addressing page)) ≡ true
 again BankAndPage page bytes = refl
-again PageAlone page bytes = refl
+again PageAlone page bytes = by_selection (λ op. is_fruitless (read_selection PageAlone) (Bytes bytes) (Some op) ≡ true) page refl refl
 
 no_done_read : (addressing : PageAddressing) → Answers (read_selection addressing) Done → ⊥
 no_done_read BankAndPage none = none

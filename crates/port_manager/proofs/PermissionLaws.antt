@@ -1,11 +1,12 @@
 -- Lanes that are up are taken down only with permission.
-use Rattle.std.proofs.Common.{◌≡◌, ◌-◌, inl, inr, ℕ, Bool, true, false, not, ◌&&◌, ◌||◌, List, [], ◌∷◌, Some, None, refl, sym, ap, subst, ◌∙◌, arith}
+use Rattle.std.proofs.Common.{◌≡◌, ◌-◌, inl, inr, ℕ, ◌%◌, Bool, true, false, not, ◌&&◌, ◌||◌, List, [], ◌∷◌, Some, None, refl, sym, ap, subst, ◌∙◌, arith}
 use Rattle.std.specs.FinSet as set
 use Rattle.std.specs.List.{list_all, range_with_len}
 use Rattle.std.proofs.lemmas.Bool.{cases_Bool}
 use Rattle.std.proofs.lemmas.List.FromFn.{get_or-range_with_len, length-range_with_len}
 use Rattle.std.proofs.lemmas.List.Sums.{AllPass-from_list_all}
 use Rattle.bus_model.specs.declared.operation.Op.{Op}
+use Rattle.bus_model.specs.declared.device.Dev.TheVariants.{A0}
 use Rattle.bus_model.specs.declared.operation.Op.TheVariants.{Fetch, Store}
 use Rattle.conversations.specs.Selecting.{IsFetch}
 use Rattle.field_tables.specs.declared.field.Register.TheVariants.{CDPDeinit}
@@ -13,6 +14,7 @@ use Rattle.field_tables.specs.LaneSets.{IsLane, Lanes, byte_of, lanes_in}
 use Rattle.paged_memory.specs.declared.page_addressing.PageAddressing.{PageAddressing}
 use Rattle.paged_memory.specs.declared.page_addressing.PageAddressing.TheVariants.{BankAndPage, PageAlone}
 use Rattle.paged_memory.specs.PageAddressing.{History, selection}
+use Rattle.paged_memory.proofs.KnownPageLaws.{by_selection}
 use Rattle.applications.specs.Advertised.{Advertised}
 use Rattle.plan_certificate.specs.declared.path.Path.{Path}
 use Rattle.control_sets.specs.declared.procedures.power.Power.{Power}
@@ -125,11 +127,17 @@ fetch_sets (Fetch dev offset count) bits fetches (inl sets) = let none : None �
 fetch_sets (Fetch dev offset count) bits fetches (inr sets) = let none : None ≡ Some bits = sets in cc
 fetch_sets (Store dev offset bytes) bits fetches sets = fetches
 
+banked_sets : (page bits : ℕ) → Sets bits (selection BankAndPage page) → ⊥
+banked_sets page bits (inl sets) = let none : None ≡ Some bits = sets in cc
+banked_sets page bits (inr sets) = let none : None ≡ Some bits = sets in cc
+
+alone_sets : (page bits : ℕ) → Sets bits (Store A0 127 (record { items = page % 256 ∷ [] })) → ⊥
+alone_sets page bits (inl sets) = let none : None ≡ Some bits = sets in cc
+alone_sets page bits (inr sets) = let none : None ≡ Some bits = sets in cc
+
 selection_sets : (addressing : PageAddressing) (page bits : ℕ) → Sets bits (selection addressing page) → ⊥
-selection_sets BankAndPage page bits (inl sets) = let none : None ≡ Some bits = sets in cc
-selection_sets BankAndPage page bits (inr sets) = let none : None ≡ Some bits = sets in cc
-selection_sets PageAlone page bits (inl sets) = let none : None ≡ Some bits = sets in cc
-selection_sets PageAlone page bits (inr sets) = let none : None ≡ Some bits = sets in cc
+selection_sets BankAndPage page bits = banked_sets page bits
+selection_sets PageAlone page bits = by_selection (λ op. Sets bits op → ⊥) page (alone_sets page bits) (banked_sets page bits)
 
 may_takes : (story : Story) (op : Op) → May (TakesPermitted story) (TakesPermitted story) op → TakesPermitted story op
 may_takes story op (inl fetches) = λ bits lane sets within inside. absurd (fetch_sets op bits fetches sets)

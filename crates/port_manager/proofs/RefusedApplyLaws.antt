@@ -11,6 +11,7 @@ use Rattle.module_reading.specs.declared.halves.Halves.{Halves}
 use Rattle.paged_memory.specs.declared.page_addressing.PageAddressing.{PageAddressing}
 use Rattle.paged_memory.specs.declared.page_addressing.PageAddressing.TheVariants.{BankAndPage, PageAlone}
 use Rattle.paged_memory.specs.PageAddressing.{selection}
+use Rattle.paged_memory.proofs.KnownPageLaws.{by_selection}
 use Rattle.port_manager.specs.declared.deciding.Wanted.{Wanted}
 use Rattle.port_manager.specs.declared.job.Job.{Job}
 use Rattle.port_manager.specs.declared.job.Job.TheVariants as jobs
@@ -47,7 +48,7 @@ and_false false = refl
 
 selects_only : (addressing : PageAddressing) (page : ℕ) → is_apply (selection addressing page) ≡ false
 selects_only BankAndPage page = refl
-selects_only PageAlone page = refl
+selects_only PageAlone page = by_selection (λ op. is_apply op ≡ false) page refl refl
 
 stores_none : (op : Op) → StoresNothing op → is_apply op ≡ false
 stores_none (Fetch dev offset count) nothing = refl

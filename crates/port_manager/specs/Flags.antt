@@ -2,7 +2,7 @@
 -- from. (OIF-CMIS-05.0, chapter 8 "Module Management Memory Map": identifier, byte 0; MemoryModel, byte 2; flags of the lower memory,
 -- bytes 8 to 11; DPState, lane flags and ConfigStatus of page 11h, bytes 128 to 131, 134 to 152 and 202 to 205; bank and page select
 -- bytes 126 and 127)
-use Rattle.std.specs.Prelude.{◌+◌, ◌-◌, ◌/◌, ◌%◌, ◌==◌, ◌&&◌, ℕ, Bool, true, false, nat_le, nat_lt, List, Option, Some, None, drop, length, take, map, replicate, slice_index, if◌then◌else◌}
+use Rattle.std.specs.Prelude.{◌+◌, ◌-◌, ◌/◌, ◌%◌, ◌==◌, ◌&&◌, ℕ, Bool, false, nat_le, nat_lt, List, drop, length, take, map, replicate, slice_index, if◌then◌else◌}
 use Rattle.std.specs.Int.{bit_at}
 use Rattle.std.specs.List.{range_with_len}
 use Rattle.bus_model.specs.declared.device.Dev.TheVariants.{A0, A2}

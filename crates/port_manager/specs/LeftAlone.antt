@@ -1,5 +1,5 @@
 -- A module that is left alone is read and judged anew. (this project's own)
-use Rattle.std.specs.Prelude.{◌≡◌, ◌*◌, ◌≤◌, ◌==◌, ℕ, false}
+use Rattle.std.specs.Prelude.{◌≡◌, ◌≤◌, ◌==◌, ℕ, false}
 use Rattle.bus_model.specs.declared.operation.Op.{Op}
 use Rattle.conversations.specs.declared.next.Next.TheVariants.{Do}
 use Rattle.port_manager.specs.declared.deciding.LeftBecause.{LeftBecause}

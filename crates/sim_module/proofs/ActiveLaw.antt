@@ -1,6 +1,6 @@
 -- After steps that end as a success of provisioning does, what was read of the Active Control Set is active. Steps stand
 -- with the newest first.
-use Rattle.std.proofs.Common.{◌≡◌, ◌⊎◌, inl, inr, ℕ, ◌≤◌, Bool, true, false, Some, List, [], ◌∷◌, ◌++◌, reverse, ap, sym, subst, ◌∙◌, arith}
+use Rattle.std.proofs.Common.{◌≡◌, ◌⊎◌, inl, inr, ℕ, ◌/◌, ◌%◌, ◌≤◌, Bool, true, false, Some, List, [], ◌∷◌, ◌++◌, reverse, ap, sym, subst, ◌∙◌, arith}
 use Rattle.std.specs.List.{AllByRecursion}
 use Rattle.bus_model.specs.declared.device.Dev.TheVariants.{A0}
 use Rattle.bus_model.specs.declared.operation.Op.{Op}
@@ -83,12 +83,12 @@ sound_after state steps sound =
 -- the page that the steps confirm is mapped after them
 shows_after : (number : ℕ) (state : State) (steps : List Step) → Confirms number steps → May state steps → Shows number (left state steps).1
 shows_after number state steps confirms may =
-    let step = read 126 2 (0 ∷ number ∷ []) in
+    let step = read 126 2 (number / 256 ∷ number % 256 ∷ []) in
     let since = confirms.since in
     let before = confirms.before in
     let there = left state before in
     let here : May state (step ∷ before) = may_older (script_rules conduct) state since (step ∷ before) (subst (May state) confirms.split may) in
-    let answer = fetched_at conduct A0 126 2 (record { items = 0 ∷ number ∷ [] }) there here.0 in
+    let answer = fetched_at conduct A0 126 2 (record { items = number / 256 ∷ number % 256 ∷ [] }) there here.0 in
     let shows : Shows number (found there) = confirmed (found there) number answer.answer in
     let next : Shows number (left state (step ∷ before)).1 = subst (Shows number) (sym answer.left) ((shows_kept number).tick _ (shows_fetched number (found there) A0 126 2 shows)) in
     let last : Shows number (left (left state (step ∷ before)) since).1 =

@@ -1,5 +1,5 @@
 -- A module stays sound, whatever happens to it.
-use Rattle.std.proofs.Common.{◌≡◌, ℕ, zero, suc, ◌+◌, ◌-◌, Bool, true, false, Option, Some, None, is_some, List, [], ◌∷◌, get_or, set, map, take, refl, sym, subst, ◌∙◌, ◌==◌, if◌then◌else◌, nat_lt}
+use Rattle.std.proofs.Common.{◌≡◌, ℕ, zero, suc, ◌+◌, ◌-◌, Bool, true, false, Option, Some, None, is_some, List, [], ◌∷◌, get_or, set, map, take, refl, sym, subst, ◌∙◌, if◌then◌else◌, nat_lt}
 use Rattle.std.specs.FinMap as finmap
 use Rattle.std.proofs.Math.ListN.{length-set}
 use Rattle.std.proofs.lemmas.List.FromFn.{length-map-range_with_len}
