@@ -54,7 +54,7 @@ IsHarmless op = ((dev : Dev) × (offset : ℕ) × (count : ℕ) × (op ≡ Fetch
 
 pub harmless_leaves : (op : Op) (sim : SimModule) → IsHarmless op → LeavesIt sim (passed_on conduct op sim).1
 harmless_leaves op sim (inl (dev, offset, count, is)) = subst (λ (op : Op). LeavesIt sim (passed_on conduct op sim).1) (sym is) (leaves sim dev offset count)
-harmless_leaves op sim (inr (page, is)) = subst (λ (op : Op). LeavesIt sim (passed_on conduct op sim).1) (sym is) (leaves_selected sim 0 page)
+harmless_leaves op sim (inr (page, is)) = subst (λ (op : Op). LeavesIt sim (passed_on conduct op sim).1) (sym is) (leaves_selected sim (page / 256) (page % 256))
 
 pub fetch_is_harmless : (op : Op) → IsFetch op → IsHarmless op
 fetch_is_harmless (Fetch dev offset count) fetch = inl (dev, offset, count, refl)
