@@ -1,6 +1,6 @@
 -- Where the id is stored, the whole message is known.
 use Rattle.std.proofs.Common.{◌≡◌, ◌<◌, ◌≤◌, ℕ, zero, suc, ◌+◌, ◌-◌, ◌&&◌, nat_le, nat_lt, Bool, true, false, cond, List, [], ◌∷◌, length, take, Option, Some, None, arith, refl, sym, subst, ap, inl, inr, ◌∙◌}
-use Rattle.std.specs.Prelude.{drop, max, min, slice_get, slice_range}
+use Rattle.std.specs.Prelude.{drop, min, slice_get, slice_range}
 use Rattle.std.proofs.lemmas.Bool.{and_from, and_parts, cond_both, le-leb, leb-true, lt-ltb, ltb-false, ltb-true}
 use Rattle.std.proofs.lemmas.List.{length-drop, length-take}
 use Rattle.bus_model.specs.declared.operation.Step.{Step}
@@ -13,10 +13,10 @@ use Rattle.command_block.specs.declared.attempt.Timing.{Timing}
 use Rattle.command_block.specs.declared.message.Message.{Message}
 use Rattle.command_block.specs.declared.outcome.Outcome.{Outcome}
 use Rattle.command_block.specs.AttemptEvents.{EachIsWanted, HasCome, IsInPhase, attempt_after}
-use Rattle.command_block.specs.Attempts.{Gives, History, IsAccepted, IsFilled, IsHeaded}
+use Rattle.command_block.specs.Attempts.{History, IsFilled, IsHeaded}
 use Rattle.command_block.specs.KnownBlocks.{IsTriggeredOver, KnowsBlock, block, byte_after, byte_among, byte_known}
 use Rattle.command_block.specs.Messages.{check_code}
-use Rattle.command_block.specs.Operations.{head, piece, read_back, trigger}
+use Rattle.command_block.specs.Operations.{trigger}
 use Rattle.command_block.specs.Phases.{next_at, wants_by}
 use Rattle.command_block.proofs.Known.{comes, keeps_message, keeps_timing, trigger_at}
 

@@ -13,7 +13,7 @@ use conversations::{Conversation, NeedsPages, Next};
 use paged_memory::PageAddressing;
 
 /// The page that shows the command data block.
-pub const PAGE: u8 = 0x9f;
+pub const PAGE: u16 = 0x9f;
 
 /// How long an attempt waits, in milliseconds, besides the pauses after fruitless transactions.
 #[derive(Clone, Copy, Debug, PartialEq, Eq, Drop)]
@@ -195,7 +195,7 @@ impl NeedsPages for Attempt {
 
     ghost lacking = { λ attempt number. lacking attempt };
 
-    fn page(&self) -> Option<u8> {
+    fn page(&self) -> Option<u16> {
         match (&self.outcome, self.phase) {
             (
                 None,
@@ -217,7 +217,7 @@ impl NeedsPages for Attempt {
         true
     }
 
-    fn lacks(&mut self, _number: u8) {
+    fn lacks(&mut self, _number: u16) {
         self.lacking();
     }
 }
