@@ -1,6 +1,5 @@
 -- An update about a file stays so: a stage that has room is followed by stages that have, and the Start that it sends has room.
-use Rattle.std.proofs.Common.{◌≡◌, ℕ, ◌≤◌, ◌+◌, ◌-◌, ◌==◌, nat_lt, Bool, true, false, cond, List, length, Option, Some, None, refl, sym, subst, ap, ◌∙◌}
-use Rattle.arrayvec.specs.ArrayVec.{ArrayVec}
+use Rattle.std.proofs.Common.{◌≡◌, ℕ, ◌≤◌, ◌==◌, nat_lt, Bool, true, false, cond, List, length, Option, Some, None, refl, sym, subst, ◌∙◌}
 use Rattle.command_block.specs.declared.delivery.Delivery.{Delivery}
 use Rattle.command_block.specs.declared.outcome.Outcome.{Outcome}
 use Rattle.command_block.specs.declared.outcome.Outcome.TheVariants.{Succeeded, Failed}
@@ -10,7 +9,7 @@ use Rattle.conversations.specs.declared.next.Next.{Next}
 use Rattle.conversations.specs.declared.next.Next.TheVariants.{Do, Wait, End}
 use Rattle.firmware_update.specs.declared.bank.Bank.{Bank}
 use Rattle.firmware_update.specs.declared.command.Command.{Command}
-use Rattle.firmware_update.specs.declared.command.Command.TheVariants.{Features, Info, Start, Block, Complete, Abort, Run, Commit}
+use Rattle.firmware_update.specs.declared.command.Command.TheVariants.{Block, Complete}
 use Rattle.firmware_update.specs.declared.durations.Durations.{Durations}
 use Rattle.firmware_update.specs.declared.judgement.Judgement.{Judgement}
 use Rattle.firmware_update.specs.declared.judgement.Judgement.TheVariants.{On, Again, Fails}
