@@ -246,7 +246,7 @@ impl NeedsPages for ChangingLanes {
 
     ghost lacking = { λ changing number. changing };
 
-    fn page(&self) -> Option<u8> {
+    fn page(&self) -> Option<u16> {
         match self.stage {
             LaneStage::Unread | LaneStage::Admitted(_) => Some(CONTROLS_PAGE),
             LaneStage::Found(_) => Some(STATES_PAGE),
@@ -262,11 +262,11 @@ impl NeedsPages for ChangingLanes {
         false
     }
 
-    fn lacks(&mut self, _number: u8) {}
+    fn lacks(&mut self, _number: u16) {}
 }
 
 /// Controls of lanes.
-const CONTROLS_PAGE: u8 = 0x10;
+const CONTROLS_PAGE: u16 = 0x10;
 
 /// States of lanes and paths.
-const STATES_PAGE: u8 = 0x11;
+const STATES_PAGE: u16 = 0x11;

@@ -60,7 +60,7 @@ impl NeedsPages for LinkTest {
 
     ghost lacking = { λ test number. test };
 
-    fn page(&self) -> Option<u8> {
+    fn page(&self) -> Option<u16> {
         match self.stage {
             TestStage::Advertised => Some(ADVERTISING_PAGE),
             TestStage::Paths => Some(STATES_PAGE),
@@ -82,17 +82,17 @@ impl NeedsPages for LinkTest {
         false
     }
 
-    fn lacks(&mut self, _number: u8) {}
+    fn lacks(&mut self, _number: u16) {}
 }
 
 /// What the module has.
-const ADVERTISING_PAGE: u8 = 0x01;
+const ADVERTISING_PAGE: u16 = 0x01;
 
 /// States of lanes and paths.
-const STATES_PAGE: u8 = 0x11;
+const STATES_PAGE: u16 = 0x11;
 
 /// Patterns and loopbacks.
-const DIAGNOSTICS_PAGE: u8 = 0x13;
+const DIAGNOSTICS_PAGE: u16 = 0x13;
 
 /// What was counted.
-const RESULTS_PAGE: u8 = 0x14;
+const RESULTS_PAGE: u16 = 0x14;

@@ -53,7 +53,7 @@ impl NeedsPages for ChangingSettings {
 
     ghost lacking = { λ changing number. changing };
 
-    fn page(&self) -> Option<u8> {
+    fn page(&self) -> Option<u16> {
         match self.stage {
             SettingsStage::States
             | SettingsStage::Controls
@@ -72,11 +72,11 @@ impl NeedsPages for ChangingSettings {
         false
     }
 
-    fn lacks(&mut self, _number: u8) {}
+    fn lacks(&mut self, _number: u16) {}
 }
 
 /// Controls of lanes.
-const CONTROLS_PAGE: u8 = 0x10;
+const CONTROLS_PAGE: u16 = 0x10;
 
 /// States of lanes and paths, and the active set.
-const STATES_PAGE: u8 = 0x11;
+const STATES_PAGE: u16 = 0x11;
