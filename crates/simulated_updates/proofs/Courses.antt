@@ -1,5 +1,5 @@
 -- What the simulated module becomes by the own events of an attempt: selections, pauses, losses of power and resets come in between.
-use Rattle.std.proofs.Common.{◌≡◌, ℕ, Bool, true, false, [], ◌∷◌, Option, Some, None, sym, subst, inl, inr}
+use Rattle.std.proofs.Common.{◌≡◌, ℕ, ◌/◌, ◌%◌, Bool, true, false, [], ◌∷◌, Option, Some, None, sym, subst, inl, inr}
 use Rattle.bus_model.specs.declared.device.Dev.TheVariants.{A0}
 use Rattle.bus_model.specs.declared.operation.Op.{Op}
 use Rattle.bus_model.specs.declared.operation.Step.{Step}
@@ -56,7 +56,7 @@ read_back step old new is (chance, e) = fetch_drifts chance A0 126 2 step.op old
 selecting : (needed : Option ℕ) (history : History) (step : Step) (old new : Module) → IsSelecting BankAndPage needed step.op history → MayStep old step new → Drifts old new
 selecting needed history step old new (inl (open_now, is)) made = read_back step old new is made
 selecting needed history step old new (inr (closed, (page, needs, missing, is))) (chance, e) =
-    select_drifts_on chance (record { items = 0 ∷ page ∷ [] }) step.op old step.reply new is e
+    select_drifts_on chance (record { items = page / 256 ∷ page % 256 ∷ [] }) step.op old step.reply new is e
 
 -- without the selections
 pub unpaged : (doubts may : Bool) (needs : Events → Option ℕ) (paged own : Events) (old new : Module)
