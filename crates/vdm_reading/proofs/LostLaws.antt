@@ -1,5 +1,5 @@
 -- A page is lost by its own refusals alone, and little that is refused loses nothing.
-use Rattle.std.proofs.Common.{◌≡◌, ◌≤◌, ◌<◌, ◌⊎◌, ℕ, ◌+◌, ◌-◌, ◌==◌, ◌&&◌, Bool, true, false, not, List, [], ◌∷◌, length, Option, Some, refl, sym, ap, subst, ◌∙◌, inl, inr, if◌then◌else◌, cond, nat_lt, arith}
+use Rattle.std.proofs.Common.{◌≡◌, ◌≤◌, ◌<◌, ◌⊎◌, ℕ, ◌+◌, ◌*◌, ◌-◌, ◌/◌, ◌%◌, ◌==◌, ◌&&◌, Bool, true, false, not, List, [], ◌∷◌, length, Option, Some, refl, sym, ap, subst, ◌∙◌, inl, inr, if◌then◌else◌, cond, nat_lt, arith}
 use Rattle.std.specs.Prelude.{is_some}
 use Rattle.std.specs.FinMap as map
 use Rattle.std.specs.Ordering.{eq_by_cmp}
@@ -372,9 +372,12 @@ each_put now pages todo image page bytes history each other among = elim (each o
 
 -- ---- one transaction more
 
+named_whole : (page : ℕ) → 256 * (page / 256) + page % 256 ≡ page
+named_whole page = omega arith
+
 page_is : (page : ℕ) (history : History) → IsTaken page history → page_taken history ≡ page
 page_is page [] taken = absurd taken
-page_is page (step ∷ before) taken = ap page_named taken.0
+page_is page (step ∷ before) taken = ap page_named taken.0 ∙ named_whole page
 
 count_more : (now : VdmStage) (left hindered polled more again : ℕ) → hindered ≤ more → polled ≤ again → CountAt now left hindered polled → CountAt now left more again
 count_more stage.Advertised left hindered polled more again grows polls count = omega (arith, grows, count)

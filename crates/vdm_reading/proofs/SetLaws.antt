@@ -1,5 +1,5 @@
 -- What was read belongs together where it is called frozen.
-use Rattle.std.proofs.Common.{◌≡◌, ◌≢◌, ◌⊎◌, ℕ, ◌==◌, ◌&&◌, Bool, true, false, List, [], ◌∷◌, Some, None, refl, sym, ap, subst, ◌∙◌, inl, inr, if◌then◌else◌, cond, nat_lt}
+use Rattle.std.proofs.Common.{◌≡◌, ◌≢◌, ◌⊎◌, ℕ, ◌/◌, ◌%◌, ◌==◌, ◌&&◌, Bool, true, false, List, [], ◌∷◌, Some, None, refl, sym, ap, subst, ◌∙◌, inl, inr, if◌then◌else◌, cond, nat_lt, arith}
 use Rattle.std.specs.FinMap as map
 use Rattle.std.specs.declared.cmp.Ordering.{Ordering}
 use Rattle.std.specs.declared.cmp.Ordering.TheVariants.{Less, Equal, Greater}
@@ -43,7 +43,11 @@ is_equal Equal e = refl
 is_equal Greater e = cc
 
 pub same_page : (page other : ℕ) → eq_by_cmp key_cmp (key_of other) (key_of page) ≡ true → other ≡ page
-same_page page other e = ap (λ (key : Key). key.page) (keys_apart (key_of other) (key_of page) (is_equal (key_cmp (key_of other) (key_of page)) e))
+same_page page other e =
+    let same = keys_apart (key_of other) (key_of page) (is_equal (key_cmp (key_of other) (key_of page)) e) in
+    let bank : other / 256 ≡ page / 256 = ap (λ (key : Key). key.bank) same in
+    let number : other % 256 ≡ page % 256 = ap (λ (key : Key). key.page) same in
+    omega (arith, bank, number)
 
 module _ (image : Memory) (page : ℕ) (bytes : List ℕ) (other : ℕ) (found : List ℕ) where
   abbrev Found : Memory → Type 0

@@ -1,6 +1,6 @@
 -- The statistics that are read over a scripted bus with a window of a memory are that memory's.
-use Rattle.std.proofs.Common.{◌≡◌, ◌∙◌, ℕ, ◌&&◌, ◌||◌, ◌==◌, Bool, true, false, not, if◌then◌else◌, List, [], ◌∷◌, Option, Some, None, is_some, refl, sym, ap, subst, inl, inr}
-use Rattle.std.proofs.lemmas.Bool.{eq-eqb}
+use Rattle.std.proofs.Common.{◌≡◌, ◌∙◌, ℕ, ◌/◌, ◌%◌, ◌&&◌, ◌||◌, ◌==◌, Bool, true, false, not, if◌then◌else◌, List, [], ◌∷◌, Option, Some, None, is_some, refl, sym, ap, subst, inl, inr}
+use Rattle.std.proofs.lemmas.Bool.{and_from, eq-eqb}
 use Rattle.std.specs.FinMap as map
 use Rattle.bus_model.specs.declared.device.Dev.TheVariants.{A0}
 use Rattle.bus_model.specs.declared.operation.Op.{Op}
@@ -86,7 +86,7 @@ module _ (memory : Memory) (image : IsImage memory) (by : selecting_on memory A0
   shown_taken page (step ∷ before) has may (op, reply) =
       let there = left state before in
       let done : Done ≡ (transacted window_conduct (selection BankAndPage page) there).0 = sym reply ∙ may.0 ∙ ap (λ (op : Op). (transacted window_conduct op there).0) op in
-      subst (λ (op : Op). Shows memory page (transacted window_conduct op there).1.1) (sym op) (shows_selected memory BankAndPage by page there has done (of_after memory state before of))
+      subst (λ (op : Op). Shows memory page (transacted window_conduct op there).1.1) (sym op) (shows_selected memory BankAndPage by page there tt has done (of_after memory state before of))
 
   reads_selected : (page : ℕ) (there : State) (reply : Reply) → Shows memory page there.1 → is_refused reply ≡ false → Answers (read_selection BankAndPage) reply → reply ≡ (transacted window_conduct (read_selection BankAndPage) there).0
       → is_page BankAndPage page reply ≡ true
@@ -95,7 +95,8 @@ module _ (memory : Memory) (image : IsImage memory) (by : selecting_on memory A0
       let window = found there in
       let answer = (fetched_at window_conduct A0 126 2 bytes there given).answer in
       let two = shown_two (selecting_on window.memory A0) window.selection (half_at window A0 126) bytes.items (ap (λ (m : Memory). selecting_on m A0) now.memory_is ∙ by) answer in
-      ap (is_selection_of BankAndPage page) two ∙ ap (λ (bank : ℕ). bank == 0 && window.selection.page == page) now.bank ∙ eq-eqb window.selection.page page now.number
+      ap (is_selection_of BankAndPage page) two ∙ and_from (window.selection.bank == page / 256) (window.selection.page == page % 256) (eq-eqb window.selection.bank (page / 256) now.bank)
+      (eq-eqb window.selection.page (page % 256) now.number)
   reads_selected page there Done shows answered kind given = absurd kind
   reads_selected page there Refused shows answered kind given = absurd cc
 

@@ -1,7 +1,7 @@
 -- What steps on a module's bus say of its statistics (VDM), the newest first: which pages were read, whether the statistics were frozen
 -- then, and whether they may be frozen still. (OIF-CMIS-05.0, "VDM Advertisement and Control", page 2Fh: FreezeRequest in bit 7 of byte
 -- 144, FreezeDone and UnfreezeDone in bits 7 and 6 of byte 145)
-use Rattle.std.specs.Prelude.{◌≡◌, ◌≢◌, ◌⊎◌, ℕ, ◌+◌, ◌/◌, ◌%◌, ◌==◌, ◌&&◌, ◌||◌, nat_lt, not, Bool, true, false, List, [], ◌∷◌, Some, if◌then◌else◌, slice_index}
+use Rattle.std.specs.Prelude.{◌≡◌, ◌≢◌, ◌⊎◌, ℕ, ◌+◌, ◌*◌, ◌/◌, ◌%◌, ◌==◌, ◌&&◌, ◌||◌, nat_lt, not, Bool, true, false, List, [], ◌∷◌, Some, if◌then◌else◌, slice_index}
 use Rattle.std.specs.FinMap as map
 use Rattle.bus_model.specs.declared.device.Dev.TheVariants.{A0, A2}
 use Rattle.bus_model.specs.declared.operation.Op.{Op}
@@ -14,7 +14,7 @@ use Rattle.conversations.specs.Pauses.{is_refused}
 use Rattle.conversations.specs.Selecting.{IsFetch, since_refusal}
 use Rattle.paged_memory.specs.declared.page_addressing.PageAddressing.TheVariants.{BankAndPage}
 use Rattle.paged_memory.specs.Images.{Memory}
-use Rattle.paged_memory.specs.Keys.{upper_key}
+use Rattle.paged_memory.specs.Keys.{page_key}
 use Rattle.paged_memory.specs.PageAddressing.{History, is_page, is_page_confirmed, read_selection, selection}
 
 -- ---- operations
@@ -43,7 +43,7 @@ is_unfreeze_done bytes = slice_index bytes 0 / 64 % 2 == 1
 
 -- ---- what was read
 
--- the page of bank 0 was read back as selected since the newest refusal, and the selection was left alone since
+-- the page was read back as selected since the newest refusal, and the selection was left alone since
 abbrev pub IsShown : ℕ → History → Type 0
 IsShown page before = is_page_confirmed BankAndPage page (since_refusal before) ≡ true
 
@@ -119,7 +119,7 @@ IsSetPage frozen page bytes (step ∷ before) =
 -- each page of the image but those that advertise was read so
 abbrev pub AreSet : Bool → Memory → History → Type 0
 AreSet frozen image history =
-    (page : ℕ) (bytes : List ℕ) → page ≢ 0x01 → page ≢ 0x2F → map.get image (upper_key A0 0 page) ≡ Some bytes → IsSetPage frozen page bytes history
+    (page : ℕ) (bytes : List ℕ) → page ≢ 0x01 → page ≢ 0x2F → map.get image (page_key page) ≡ Some bytes → IsSetPage frozen page bytes history
 
 -- all of them between the same two requests, or since the last one
 abbrev pub WereSet : Bool → Memory → History → Type 0
@@ -140,9 +140,9 @@ IsPageRefused page step before =
     ⊎ (((step.op ≡ read_selection BankAndPage) × (is_page BankAndPage page step.reply ≡ false) × IsTaken page before)
     ⊎ ((step.op ≡ read_half) × (step.reply ≡ Refused) × IsShown page before))
 
--- the page that a store of the selection names
+-- the number of the page that a store of the selection names
 abbrev pub page_named : Op → ℕ
-page_named (Store dev offset bytes) = slice_index bytes.items 1
+page_named (Store dev offset bytes) = 256 * slice_index bytes.items 0 + slice_index bytes.items 1
 page_named (Fetch dev offset count) = 0
 
 abbrev pub page_taken : History → ℕ

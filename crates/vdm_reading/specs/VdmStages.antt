@@ -2,7 +2,6 @@
 -- "Frozen statistics"; this project's own)
 use Rattle.std.specs.Prelude.{ℕ, ◌-◌, ◌==◌, ◌&&◌, nat_lt, Bool, true, false, List, [], ◌∷◌, Option, Some, None, if◌then◌else◌, slice_index}
 use Rattle.std.specs.FinMap as finite
-use Rattle.bus_model.specs.declared.device.Dev.TheVariants.{A0}
 use Rattle.bus_model.specs.declared.operation.Op.{Op}
 use Rattle.bus_model.specs.declared.operation.Reply.{Reply}
 use Rattle.bus_model.specs.declared.operation.Reply.TheVariants.{Bytes, Done, Refused}
@@ -14,7 +13,7 @@ use Rattle.paged_memory.specs.declared.key.Key.{Key}
 use Rattle.paged_memory.specs.declared.page_addressing.PageAddressing.TheVariants.{BankAndPage}
 use Rattle.paged_memory.specs.declared.page_addressing.KnownPage.TheVariants as selected
 use Rattle.paged_memory.specs.Images.{Memory, most_pages}
-use Rattle.paged_memory.specs.Keys.{upper_key}
+use Rattle.paged_memory.specs.Keys.{page_key}
 use Rattle.paged_memory.specs.KnownPages.{is_awaited, is_known, missing_page, selection_read, wanted}
 use Rattle.vdm_reading.specs.declared.reading.VdmReading.{VdmReading}
 use Rattle.vdm_reading.specs.declared.end.Release.{Release}
@@ -51,7 +50,7 @@ most_transactions = 759
 -- ---- what is kept
 
 abbrev pub key_of : ℕ → Key
-key_of page = upper_key A0 0 page
+key_of page = page_key page
 
 -- where the image has room
 abbrev pub put_in : Memory → ℕ → List ℕ → Memory

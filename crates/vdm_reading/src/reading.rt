@@ -133,7 +133,7 @@ impl VdmReading {
         if self.due {
             return Next::Wait(self.pause);
         }
-        let page = Some(self.stage.page());
+        let page = Some(u16::from(self.stage.page()));
         Next::Do(self.selection.wanted(PageAddressing::BankAndPage, page, op))
     }
 
@@ -156,7 +156,7 @@ fn missing(pages: &[u8], image: &Image) -> ArrayVec<u8, MAX_PAGES>
 {
     let mut missing = ArrayVec::new();
     for page in pages {
-        let absent = !image.has(Key::upper(Dev::A0, 0, *page));
+        let absent = !image.has(Key::of_page(u16::from(*page)));
         and_if(absent, *page, &mut missing);
     }
     missing

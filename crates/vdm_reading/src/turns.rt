@@ -10,7 +10,7 @@ ghost use Rattle.vdm_reading.specs.VdmStages as spec;
 use crate::end::{MAX_PAGES, Release, Statistics};
 use crate::reading::{VdmReading, VdmStage};
 use arrayvec::ArrayVec;
-use bus_model::{Dev, Reply};
+use bus_model::Reply;
 use observables::{advertised_pages, has_observables};
 use paged_memory::{Image, Key, KnownPage, PAGE_LEN, Page, PageAddressing};
 
@@ -24,7 +24,7 @@ impl VdmReading {
             self.read_back(reply);
             return;
         }
-        match self.selection.missing(Some(self.stage.page())) {
+        match self.selection.missing(Some(u16::from(self.stage.page()))) {
             Some(_page) => self.selected(reply),
             None => self.worked(reply),
         }
@@ -104,7 +104,7 @@ impl VdmReading {
         ensures { self.new ≡ spec.after_read_back self.old reply.now }
     {
         match reply {
-            Reply::Bytes(bytes) => self.confirm(shows(bytes, self.stage.page())),
+            Reply::Bytes(bytes) => self.confirm(shows(bytes, u16::from(self.stage.page()))),
             _ => self.fail(),
         }
     }
@@ -113,7 +113,7 @@ impl VdmReading {
         ensures { self.new ≡ spec.confirmed shows self.old }
     {
         if shows {
-            self.selection = KnownPage::Page(self.stage.page());
+            self.selection = KnownPage::Page(u16::from(self.stage.page()));
         } else {
             self.fail();
         }
@@ -187,7 +187,7 @@ impl VdmReading {
         half.copy_from_slice(bytes);
         let _full = self
             .image
-            .put(Key::upper(Dev::A0, 0, page), Page::from(half));
+            .put(Key::of_page(u16::from(page)), Page::from(half));
     }
 
     fn advertised(&mut self, bytes: &[u8])
@@ -245,7 +245,7 @@ fn advertised(image: &Image) -> ArrayVec<u8, MAX_PAGES>
 }
 
 // Whether a read back of these bytes shows the page.
-fn shows(bytes: &[u8], page: u8) -> bool
+fn shows(bytes: &[u8], page: u16) -> bool
     ensures { result ≡ is_known (selection_read BankAndPage bytes.now) page }
 {
     KnownPage::of(PageAddressing::BankAndPage, bytes)
