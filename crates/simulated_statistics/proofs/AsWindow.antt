@@ -1,6 +1,6 @@
 -- What steps on a scripted bus make of the module, they make of a window of its image; and which page the window then shows is read as
 -- the image has it. Steps stand with the newest first.
-use Rattle.std.proofs.Common.{◌≡◌, ◌≢◌, ◌⊎◌, inl, inr, ℕ, zero, suc, ◌+◌, ◌<◌, ◌≤◌, nat_le, nat_lt, arith, length, Bool, true, false, not, ◌&&◌, ◌||◌, ◌==◌, List, [], ◌∷◌, take, reverse, Option, Some, None, refl, sym, ap, subst, ◌∙◌, if◌then◌else◌}
+use Rattle.std.proofs.Common.{◌≡◌, ◌≢◌, ◌⊎◌, inl, inr, ℕ, zero, suc, ◌+◌, ◌/◌, ◌%◌, ◌<◌, ◌≤◌, nat_le, nat_lt, arith, length, Bool, true, false, not, ◌&&◌, ◌||◌, ◌==◌, List, [], ◌∷◌, take, reverse, Option, Some, None, refl, sym, ap, subst, ◌∙◌, if◌then◌else◌}
 use Rattle.std.proofs.lemmas.Bool.{cases_lt, eqb-true}
 use Rattle.std.proofs.lemmas.Bool.Decides.{nat_tests}
 use Rattle.std.proofs.lemmas.List.{length-take}
@@ -29,7 +29,7 @@ use Rattle.paged_memory.specs.declared.page_addressing.PageAddressing.{PageAddre
 use Rattle.paged_memory.specs.declared.page_addressing.PageAddressing.TheVariants.{BankAndPage, PageAlone}
 use Rattle.paged_memory.specs.Images.{Memory}
 use Rattle.paged_memory.specs.ImageText.{IsImage}
-use Rattle.paged_memory.specs.Keys.{upper_key}
+use Rattle.paged_memory.specs.Keys.{page_key}
 use Rattle.paged_memory.specs.MappedPages.{selecting_on}
 use Rattle.paged_memory.specs.PageAddressing.{History, is_page, is_page_confirmed, may_select, read_selection, reads_back}
 use Rattle.paged_memory.specs.Windows.{Windowed, half_at, started, window_conduct, window_fetched}
@@ -192,34 +192,37 @@ reads_plain : (sim : FreezingModule) → request_on sim A0 ≡ None → (fetched
 reads_plain sim plain = ap (λ (r : Option Request). option_map (bytes_from (selecting_on sim.image A0) sim.selection r 128 128) (half_at (window_of sim) A0 128)) plain
 
 read_plain : (image : Memory) (page : ℕ) (sim : FreezingModule) (bytes : List ℕ) → IsImage image → Shows image page (window_of sim) → request_on sim A0 ≡ None → (fetched sim A0 128 128).0 ≡ Some bytes →
-    finmap.get image (upper_key A0 0 page) ≡ Some bytes
+    finmap.get image (page_key page) ≡ Some bytes
 read_plain image page sim bytes is shows plain answer = reads_page image page (window_of sim) bytes is shows (sym (reads_plain sim plain) ∙ answer)
 
-not_control : (sim : FreezingModule) (page : ℕ) → sim.selection.page ≡ page → page ≢ 0x2F → request_on sim A0 ≡ None
-not_control sim page shows other = by_tests (sim.selection.bank == 0) (sim.selection.page == 0x2F) refl where
-  by_tests : (a b : Bool) → (sim.selection.page == 0x2F) ≡ b → (if a && b then sim.request else None) ≡ None
-  by_tests true true e = absurd (other (sym shows ∙ eqb-true sim.selection.page 0x2F e))
-  by_tests true false e = refl
-  by_tests false b e = refl
+not_control : (sim : FreezingModule) (page : ℕ) → sim.selection.bank ≡ page / 256 → sim.selection.page ≡ page % 256 → page ≢ 0x2F → request_on sim A0 ≡ None
+not_control sim page bank number other = by_tests (sim.selection.bank == 0) (sim.selection.page == 0x2F) refl refl where
+  by_tests : (a b : Bool) → (sim.selection.bank == 0) ≡ a → (sim.selection.page == 0x2F) ≡ b → (if a && b then sim.request else None) ≡ None
+  by_tests true true of at =
+      let first = eqb-true sim.selection.bank 0 of in
+      let control = eqb-true sim.selection.page 0x2F at in
+      absurd (other (omega (arith, bank, number, first, control)))
+  by_tests true false of at = refl
+  by_tests false b of at = refl
 
 -- it is read if nothing of a request is shown
 reads_unless : (image : Memory) (delay : ℕ) (addressing : PageAddressing) (script : List Directive) (before : History) (page : ℕ) (bytes : ArrayVec ℕ) → IsImage image → selecting_on image A0 ≡ Some addressing →
     MayInTurn (script_rules conduct) (script, begun image delay) (reverse (fetch_step A0 128 128 (Some bytes) ∷ before)) → is_page_confirmed addressing page before ≡ true →
-    ((sim : FreezingModule) → sim ≡ found_module (after (script_rules conduct) (script, begun image delay) before) → sim.selection.page ≡ page → request_on sim A0 ≡ None) →
-    finmap.get image (upper_key A0 0 page) ≡ Some bytes.items
+    ((sim : FreezingModule) → sim ≡ found_module (after (script_rules conduct) (script, begun image delay) before) → sim.selection.bank ≡ page / 256 → sim.selection.page ≡ page % 256 → request_on sim A0 ≡ None) →
+    finmap.get image (page_key page) ≡ Some bytes.items
 reads_unless image delay addressing script before page bytes is by in_turn confirmed plain =
     let start : State = (script, begun image delay) in
     let there = after (script_rules conduct) start before in
     let may = may_each (script_rules conduct) start (fetch_step A0 128 128 (Some bytes) ∷ before) in_turn in
     let shows = shows_page image delay addressing script before page by may.1 confirmed in
     let sim = found_module there in
-    read_plain image page sim bytes.items is shows (plain sim refl shows.number) (fetched_at conduct A0 128 128 bytes there may.0).answer
+    read_plain image page sim bytes.items is shows (plain sim refl shows.bank shows.number) (fetched_at conduct A0 128 128 bytes there may.0).answer
 
 pub reads_elsewhere : (image : Memory) (delay : ℕ) (addressing : PageAddressing) (script : List Directive) (before : History) (page : ℕ) (bytes : ArrayVec ℕ) → IsImage image → selecting_on image A0 ≡ Some addressing →
     MayInTurn (script_rules conduct) (script, begun image delay) (reverse (fetch_step A0 128 128 (Some bytes) ∷ before)) → is_page_confirmed addressing page before ≡ true → page ≢ 0x2F →
-    finmap.get image (upper_key A0 0 page) ≡ Some bytes.items
+    finmap.get image (page_key page) ≡ Some bytes.items
 reads_elsewhere image delay addressing script before page bytes is by in_turn confirmed other =
-    reads_unless image delay addressing script before page bytes is by in_turn confirmed (λ sim found shows. not_control sim page shows other)
+    reads_unless image delay addressing script before page bytes is by in_turn confirmed (λ sim found bank number. not_control sim page bank number other)
 
 -- ---- until something is asked of it
 
@@ -261,9 +264,9 @@ none_shown false request unasked = refl
 
 pub reads_unasked : (image : Memory) (delay : ℕ) (addressing : PageAddressing) (script : List Directive) (before : History) (page : ℕ) (bytes : ArrayVec ℕ) → IsImage image → selecting_on image A0 ≡ Some addressing →
     MayInTurn (script_rules conduct) (script, begun image delay) (reverse (fetch_step A0 128 128 (Some bytes) ∷ before)) → is_page_confirmed addressing page before ≡ true →
-    AllByRecursion (λ step. may_request step.op ≡ false) before → finmap.get image (upper_key A0 0 page) ≡ Some bytes.items
+    AllByRecursion (λ step. may_request step.op ≡ false) before → finmap.get image (page_key page) ≡ Some bytes.items
 reads_unasked image delay addressing script before page bytes is by in_turn confirmed each =
     let start : State = (script, begun image delay) in
     let there = after (script_rules conduct) start before in
     let unasked = found_keeps conduct IsUnasked in_time there (steps_keep conduct IsUnasked in_time before (each_unasked before each) start refl) in
-    reads_unless image delay addressing script before page bytes is by in_turn confirmed (λ sim found shows. none_shown (shows_control sim A0) sim.request (ap (λ (s : FreezingModule). s.request) found ∙ unasked))
+    reads_unless image delay addressing script before page bytes is by in_turn confirmed (λ sim found bank number. none_shown (shows_control sim A0) sim.request (ap (λ (s : FreezingModule). s.request) found ∙ unasked))

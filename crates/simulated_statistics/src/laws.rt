@@ -12,7 +12,7 @@ ghost use Rattle.bus_model.specs.ScriptedBus.{script_rules, ticked_times};
 ghost use Rattle.paged_memory.specs.declared.page_addressing.PageAddressing.{PageAddressing};
 ghost use Rattle.paged_memory.specs.Images.{Memory};
 ghost use Rattle.paged_memory.specs.ImageText.{IsImage};
-ghost use Rattle.paged_memory.specs.Keys.{upper_key};
+ghost use Rattle.paged_memory.specs.Keys.{page_key};
 ghost use Rattle.paged_memory.specs.MappedPages.{selecting_on};
 ghost use Rattle.paged_memory.specs.PageAddressing.{History, is_page_confirmed};
 ghost use Rattle.paged_memory.specs.Windows.{half_at, window_fetched, window_stored};
@@ -62,10 +62,10 @@ pub fn confirmed_pages_are_read_as_they_are()
     ensures elsewhere { (image : Memory) (delay : ℕ) (addressing : PageAddressing) (script : List Directive) (before : History) (page : ℕ) (bytes : ArrayVec ℕ) →
         IsImage image → selecting_on image A0 ≡ Some addressing →
         MayInTurn (script_rules conduct) (script, begun image delay) (reverse (fetch_step A0 128 128 (Some bytes) ∷ before)) →
-        is_page_confirmed addressing page before ≡ true → page ≢ 0x2F → map.get image (upper_key A0 0 page) ≡ Some bytes.items }
+        is_page_confirmed addressing page before ≡ true → page ≢ 0x2F → map.get image (page_key page) ≡ Some bytes.items }
     ensures unasked { (image : Memory) (delay : ℕ) (addressing : PageAddressing) (script : List Directive) (before : History) (page : ℕ) (bytes : ArrayVec ℕ) →
         IsImage image → selecting_on image A0 ≡ Some addressing →
         MayInTurn (script_rules conduct) (script, begun image delay) (reverse (fetch_step A0 128 128 (Some bytes) ∷ before)) →
         is_page_confirmed addressing page before ≡ true → AllByRecursion (λ step. may_request step.op ≡ false) before →
-        map.get image (upper_key A0 0 page) ≡ Some bytes.items }
+        map.get image (page_key page) ≡ Some bytes.items }
 {}
