@@ -22,7 +22,7 @@ pub struct SavedVdm {
     pub stage_page: u8,
     /// 2 if this page was read back, 1 if that is awaited, else 0.
     pub selection: u8,
-    pub page: u8,
+    pub page: u16,
     /// 1 if it is to pause before the next operation, else 0.
     pub due: u8,
     /// Byte 144 of page 2Fh as it was read.

@@ -99,7 +99,7 @@ fn stage_in(number: u8, page: u8) -> VdmStage
     }
 }
 
-fn page_in(number: u8, page: u8) -> KnownPage
+fn page_in(number: u8, page: u16) -> KnownPage
     ensures { result ≡ spec.page_in number page }
 {
     match number {

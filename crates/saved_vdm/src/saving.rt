@@ -61,7 +61,7 @@ fn numbers_of_stage(stage: VdmStage) -> (u8, u8)
     }
 }
 
-fn numbers_of_page(selected: KnownPage) -> (u8, u8)
+fn numbers_of_page(selected: KnownPage) -> (u8, u16)
     ensures { spec.page_in result.0 result.1 ≡ selected }
 {
     match selected {

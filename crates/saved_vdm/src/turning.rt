@@ -27,7 +27,7 @@ pub fn page_given(reading: &VdmReading, reply: &Reply) -> Option<u8>
     let selects = reading.selection.is_open()
         || reading
             .selection
-            .missing(Some(reading.stage.page()))
+            .missing(Some(u16::from(reading.stage.page())))
             .is_some();
     match reply {
         Reply::Bytes(_) if !selects => page_read(reading.stage),
