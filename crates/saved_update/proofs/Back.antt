@@ -27,11 +27,10 @@ use Rattle.firmware_update.specs.Sessions.{HasRoomAt, IsSending}
 use Rattle.firmware_update.proofs.Room.{at_about}
 use Rattle.saved_update.specs.declared.numbers.SavedDelivery.{SavedDelivery}
 use Rattle.saved_update.specs.declared.numbers.SavedUpdate.{SavedUpdate}
-use Rattle.saved_update.specs.declared.work.Ending.{Ending}
 use Rattle.saved_update.specs.declared.work.Ending.TheVariants.{Updated}
 use Rattle.saved_update.specs.declared.work.Question.{Question}
 use Rattle.saved_update.specs.declared.work.Work.TheVariants as works
-use Rattle.saved_update.specs.SavedDeliveries.{AreNumbers, AreNumbersOf, delivery_in, number_of, outcome_by, outcome_in, padded, page_in, phase_in, taken_in}
+use Rattle.saved_update.specs.SavedDeliveries.{AreNumbers, AreNumbersOf, number_of, outcome_by, outcome_in, padded, page_in, phase_in, taken_in}
 use Rattle.saved_update.specs.SavedUpdates.{asking_in, closing_in, delivery_by, durations_in, fault_in, is_sound, question_in, session_at, session_in, stage_in, update_in, update_magic, work_by, work_in}
 use Rattle.saved_update.specs.Works.{IsOf, answered, begun_update, message_of_question, updated}
 

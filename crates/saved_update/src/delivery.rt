@@ -28,7 +28,7 @@ pub fn delivery_in(message: Message, duration: u32, delay: u32, saved: &SavedDel
     delivery
 }
 
-fn page_in(number: u8, page: u8) -> KnownPage
+fn page_in(number: u8, page: u16) -> KnownPage
     ensures { result ≡ spec.page_in number page }
 {
     match number {
@@ -38,7 +38,7 @@ fn page_in(number: u8, page: u8) -> KnownPage
     }
 }
 
-fn taken_in(number: u8, page: u8) -> Option<u8>
+fn taken_in(number: u8, page: u16) -> Option<u16>
     ensures { result ≡ spec.taken_in number page }
 {
     if number == 1 { Some(page) } else { None }
@@ -207,7 +207,7 @@ pub fn number_of(yes: bool) -> u8
     if yes { 1 } else { 0 }
 }
 
-fn numbers_of_page(selected: KnownPage) -> (u8, u8)
+fn numbers_of_page(selected: KnownPage) -> (u8, u16)
     ensures { spec.page_in result.0 result.1 ≡ selected }
 {
     match selected {
@@ -217,7 +217,7 @@ fn numbers_of_page(selected: KnownPage) -> (u8, u8)
     }
 }
 
-fn numbers_of_taken(taken: Option<u8>) -> (u8, u8)
+fn numbers_of_taken(taken: Option<u16>) -> (u8, u16)
     ensures { spec.taken_in result.0 result.1 ≡ taken }
 {
     match taken {

@@ -28,10 +28,10 @@ pub struct SavedDelivery {
     pub due: u8,
     /// 2 if this page was read back, 1 if that is awaited, else 0.
     pub selection: u8,
-    pub page: u8,
+    pub page: u16,
     /// 1 if the selection of that page was accepted and isn't read back, else 0.
     pub taken: u8,
-    pub taken_page: u8,
+    pub taken_page: u16,
     /// 0 if nothing came of it yet; 1 if it succeeded, 2 if it failed, 3 if it was not sent, 4 if that is unknown.
     pub outcome: u8,
     /// With which status it failed, or 0.
