@@ -1,5 +1,5 @@
 -- The numbers of the parts of a change stand for it.
-use Rattle.std.proofs.Common.{◌≡◌, ℕ, ◌==◌, ◌&&◌, Bool, true, Some, None, cond, ap, ◌∙◌}
+use Rattle.std.proofs.Common.{◌≡◌, ◌==◌, ◌&&◌, Bool, true, Some, None, cond, ap, ◌∙◌}
 use Rattle.std.proofs.lemmas.Bool.{eq-eqb}
 use Rattle.lane_controls.specs.declared.lane_change.ChangingLanes.{ChangingLanes}
 use Rattle.saved_lanes.specs.declared.numbers.SavedChanging.{SavedChanging}

@@ -1,5 +1,5 @@
 -- The numbers of the parts of a change of settings stand for it.
-use Rattle.std.proofs.Common.{◌≡◌, ℕ, List, ◌==◌, ◌&&◌, Bool, true, Some, None, cond, ap, ◌∙◌}
+use Rattle.std.proofs.Common.{◌≡◌, ◌==◌, Bool, true, Some, None, cond, ap, ◌∙◌}
 use Rattle.std.proofs.lemmas.Bool.{eq-eqb}
 use Rattle.field_tables.specs.LaneSets.{lanes_in}
 use Rattle.lane_controls.specs.declared.settings_change.ChangingSettings.{ChangingSettings}

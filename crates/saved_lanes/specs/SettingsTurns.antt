@@ -1,6 +1,6 @@
 -- A change of settings on a bus: how it begins, what it wants, and what a reply makes of it. (docs/lanes.md, "From C and Python"; this
 -- project's own)
-use Rattle.std.specs.Prelude.{ℕ, Bool, Some, false}
+use Rattle.std.specs.Prelude.{Bool, Some, false}
 use Rattle.bus_model.specs.declared.operation.Reply.{Reply}
 use Rattle.conversations.specs.declared.next.Next.{Next}
 use Rattle.conversations.specs.declared.on_page.OnPage.{OnPage}

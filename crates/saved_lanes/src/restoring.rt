@@ -127,7 +127,7 @@ fn end_in(number: u8, byte: u8, lanes: u8) -> LaneEnd
     }
 }
 
-pub(crate) fn page_in(number: u8, page: u8) -> KnownPage
+pub(crate) fn page_in(number: u8, page: u16) -> KnownPage
     ensures { result ≡ spec.page_in number page }
 {
     match number {
@@ -137,7 +137,7 @@ pub(crate) fn page_in(number: u8, page: u8) -> KnownPage
     }
 }
 
-pub(crate) fn taken_in(number: u8, page: u8) -> Option<u8>
+pub(crate) fn taken_in(number: u8, page: u16) -> Option<u16>
     ensures { result ≡ spec.taken_in number page }
 {
     if number == 1 { Some(page) } else { None }

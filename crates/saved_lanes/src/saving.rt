@@ -142,7 +142,7 @@ pub(crate) fn number_of(yes: bool) -> u8
     if yes { 1 } else { 0 }
 }
 
-pub(crate) fn numbers_of_page(selected: KnownPage) -> (u8, u8)
+pub(crate) fn numbers_of_page(selected: KnownPage) -> (u8, u16)
     ensures { spec.page_in result.0 result.1 ≡ selected }
 {
     match selected {
@@ -152,7 +152,7 @@ pub(crate) fn numbers_of_page(selected: KnownPage) -> (u8, u8)
     }
 }
 
-pub(crate) fn numbers_of_taken(taken: Option<u8>) -> (u8, u8)
+pub(crate) fn numbers_of_taken(taken: Option<u16>) -> (u8, u16)
     ensures { spec.taken_in result.0 result.1 ≡ taken }
 {
     match taken {

@@ -77,10 +77,10 @@ pub struct SavedSettings {
     pub doubts: u8,
     /// 2 if this page was read back, 1 if that is awaited, else 0.
     pub selection: u8,
-    pub page: u8,
+    pub page: u16,
     /// 1 if the selection of that page was accepted and isn't read back, else 0.
     pub taken: u8,
-    pub taken_page: u8,
+    pub taken_page: u16,
     /// Bytes 153 to 173 of page 10h as they are wanted.
     pub settings: [u8; SETTINGS],
     /// Bytes 145 to 173 as they were read.
