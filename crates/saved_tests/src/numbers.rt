@@ -82,10 +82,10 @@ pub struct SavedTest {
     pub doubts: u8,
     /// 2 if this page was read back, 1 if that is awaited, else 0.
     pub selection: u8,
-    pub page: u8,
+    pub page: u16,
     /// 1 if the selection of that page was accepted and isn't read back, else 0.
     pub taken: u8,
-    pub taken_page: u8,
+    pub taken_page: u16,
     pub flags: [u8; 8],
     pub on: [SavedChange; 16],
     pub still_on: [SavedChange; 16],

@@ -185,7 +185,7 @@ fn fault_in(number: u8, control: u8) -> Option<TestFault>
     }
 }
 
-fn page_in(number: u8, page: u8) -> KnownPage
+fn page_in(number: u8, page: u16) -> KnownPage
     ensures { result ≡ spec.page_in number page }
 {
     match number {
@@ -195,7 +195,7 @@ fn page_in(number: u8, page: u8) -> KnownPage
     }
 }
 
-fn taken_in(number: u8, page: u8) -> Option<u8>
+fn taken_in(number: u8, page: u16) -> Option<u16>
     ensures { result ≡ spec.taken_in number page }
 {
     if number == 1 { Some(page) } else { None }

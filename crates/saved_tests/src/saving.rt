@@ -185,7 +185,7 @@ fn number_of(yes: bool) -> u8
     if yes { 1 } else { 0 }
 }
 
-fn numbers_of_page(selected: KnownPage) -> (u8, u8)
+fn numbers_of_page(selected: KnownPage) -> (u8, u16)
     ensures { spec.page_in result.0 result.1 ≡ selected }
 {
     match selected {
@@ -195,7 +195,7 @@ fn numbers_of_page(selected: KnownPage) -> (u8, u8)
     }
 }
 
-fn numbers_of_taken(taken: Option<u8>) -> (u8, u8)
+fn numbers_of_taken(taken: Option<u16>) -> (u8, u16)
     ensures { spec.taken_in result.0 result.1 ≡ taken }
 {
     match taken {
