@@ -133,8 +133,9 @@ impl KnownPage {
         ensures { result ≡ selection_read addressing bytes.now }
     {
         match (addressing, bytes) {
-            (PageAddressing::BankAndPage, [bank, page]) =>
-                KnownPage::Page(u16::from(*bank) * 256 + u16::from(*page)),
+            (PageAddressing::BankAndPage, [bank, page]) => KnownPage::Page(
+                u16::from(*bank) * 256 + u16::from(*page),
+            ),
             (PageAddressing::PageAlone, [page]) => KnownPage::Page(u16::from(*page)),
             _ => KnownPage::Unknown,
         }
