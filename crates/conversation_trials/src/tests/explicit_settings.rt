@@ -39,7 +39,7 @@ fn provision(board: &mut Pages, applied: LaneSet, tries: u8) -> Option<Option<Ex
     for _ in 0..80u8 {
         match tasks.next() {
             Next::Do(op) => {
-                let page = tasks.page().unwrap_or(0);
+                let page = tasks.page().unwrap_or(0) as u8;
                 let reply = board.answer(page, &op);
                 let _fits = try_take(&mut tasks, &reply);
             }

@@ -24,7 +24,7 @@ fn change(board: &mut Pages, change: LaneChange) -> Option<LaneEnd> {
     for _ in 0..30u8 {
         match changing.next() {
             Next::Do(op) => {
-                let page = changing.page().unwrap_or(0);
+                let page = changing.page().unwrap_or(0) as u8;
                 let reply = board.answer(page, &op);
                 let _fits = try_take(&mut changing, &reply);
             }
@@ -136,7 +136,7 @@ fn tune(board: &mut Pages, lanes: LaneSet) -> Option<SettingsEnd> {
     for _ in 0..60u8 {
         match changing.next() {
             Next::Do(op) => {
-                let page = changing.page().unwrap_or(0);
+                let page = changing.page().unwrap_or(0) as u8;
                 let reply = board.answer(page, &op);
                 let _fits = try_take(&mut changing, &reply);
             }

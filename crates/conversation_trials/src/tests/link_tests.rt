@@ -68,7 +68,7 @@ fn carry_out(test: &mut LinkTest, board: &mut Pages, stop_after: u32) -> (Option
         }
         match test.next() {
             Next::Do(op) => {
-                let page = test.page().unwrap_or(0);
+                let page = test.page().unwrap_or(0) as u8;
                 let reply = board.answer(page, &op);
                 let _fits = try_take(test, &reply);
             }
