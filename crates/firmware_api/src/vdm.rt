@@ -19,7 +19,7 @@ use crate::conversation::{WAITED, reply_to};
 use crate::half::{HalfBytes, image_of};
 use crate::operation::Operation;
 use crate::status::{DONE, ENDED, NO_CONVERSATION, NO_REPLY, NOT_ENDED};
-use bus_model::{Dev, Reply};
+use bus_model::Reply;
 use conversations::{Conversation, Next};
 use paged_memory::Key;
 use saved_vdm::{
@@ -159,7 +159,7 @@ fn put_page(page: Option<u8>, reply: &Reply, halves: &mut [HalfBytes; MAX_HALVES
 {
     match (page, reply) {
         (Some(page), Reply::Bytes(bytes)) => put_in_front(
-            half_at(Key::upper(Dev::A0, 0, page), bytes),
+            half_at(Key::of_page(u16::from(page)), bytes),
             halves,
         ),
         _ => {}

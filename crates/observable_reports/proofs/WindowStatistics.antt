@@ -55,11 +55,17 @@ HasPage P (Lower dev) = Unit {0}
 HasPage P FirstPage = P 0
 HasPage P (Page page) = P page
 
+one_number : (page other : ℕ) → key_of page ≡ key_of other → page ≡ other
+one_number page other e =
+    let bank : page / 256 ≡ other / 256 = ap (λ (key : Key). key.bank) e in
+    let number : page % 256 ≡ other % 256 = ap (λ (key : Key). key.page) e in
+    omega (arith, bank, number)
+
 among_page : (P : ℕ → Type 0) (page : ℕ) (regions : List Region) → AllByRecursion (HasPage P) regions → IsKeyAmong regions (key_of page) → P page
 among_page P page [] all among = absurd among
 among_page P page (Lower dev ∷ regions) all (inl is) = absurd (let apart : halves.Upper ≡ halves.Lower = ap (λ (key : Key). key.half) is in cc)
-among_page P page (FirstPage ∷ regions) all (inl is) = subst P (sym (ap (λ (key : Key). key.page) is)) all.0
-among_page P page (Page other ∷ regions) all (inl is) = subst P (sym (ap (λ (key : Key). key.page) is)) all.0
+among_page P page (FirstPage ∷ regions) all (inl is) = subst P (sym (one_number page 0 is)) all.0
+among_page P page (Page other ∷ regions) all (inl is) = subst P (sym (one_number page other is)) all.0
 among_page P page (region ∷ regions) all (inr later) = among_page P page regions all.1 later
 
 abbrev IsLow : ℕ → Type 0

@@ -4,7 +4,7 @@ ghost use Rattle.std.specs.FinMap as map;
 ghost use Rattle.paged_memory.specs.Images.{most_large, most_pages};
 ghost use Rattle.observable_reports.specs.FetchedObservables.{IsObserving, with_page, with_pages, with_statistics};
 
-use bus_model::{Bus, Dev};
+use bus_model::Bus;
 use control_sets::MAX_STEPS;
 use conversations::{Within, run};
 use observables::has_observables;
@@ -58,7 +58,7 @@ fn put_page(image: &mut LargeImage, from: &Image, page: u8)
     ensures put { image.new ≡ with_page from.now page image.old }
     ensures few { map.len image.new ≤ map.len image.old + 1 }
 {
-    let key = Key::upper(Dev::A0, 0, page);
+    let key = Key::of_page(u16::from(page));
     if let Some(half) = from.page(key) {
         image.put(key, Page::from(*half.bytes())).unwrap();
     }

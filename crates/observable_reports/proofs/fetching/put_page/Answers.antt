@@ -5,5 +5,5 @@ use Rattle.observable_reports.proofs.fetching.put_page.Goals as goal
 
 pub returns-in-Some-clause-few : goal.returns-in-Some-clause-few
 returns-in-Some-clause-few c =
-    let put : c.put.new.self ≡ map.insert c.args.image.now c.upper-key.result c.from.result = search rules in
-    rw put (insert_few c.args.image.now c.upper-key.result c.from.result)
+    let put : c.put.new.self ≡ map.insert c.args.image.now c.of_page-key.result c.from.result = search rules in
+    rw put (insert_few c.args.image.now c.of_page-key.result c.from.result)
