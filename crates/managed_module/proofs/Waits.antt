@@ -1,5 +1,5 @@
 -- At a simulated module each operation of a job brings it nearer to its end, or reads a state.
-use Rattle.std.proofs.Common.{◌≡◌, ◌≤◌, ◌⊎◌, inl, inr, ◌+◌, ◌++◌, ◌∷◌, ℕ, Bool, true, false, List, [], Option, Some, None, zero, suc, refl, sym, ap, subst, ◌∙◌, arith}
+use Rattle.std.proofs.Common.{◌≡◌, ◌≤◌, ◌⊎◌, inl, inr, ◌+◌, ◌++◌, ◌∷◌, ℕ, Bool, true, false, List, [], Option, Some, None, zero, suc, refl, sym, ap, subst, ◌∙◌, if◌then◌else◌, arith}
 use Rattle.std.specs.Prelude.{◌==◌, if◌then◌else◌, slice_get, slice_index}
 use Rattle.std.specs.FinMap as finmap
 use Rattle.std.specs.List.{AllByRecursion}
@@ -114,14 +114,19 @@ and_if_a0 : (wanted : Bool) (region : Region) (list : List Region) → IsRegionO
 and_if_a0 true region list on all = one_more_a0 list region on all
 and_if_a0 false region list on all = all
 
+either_a0 : (b : Bool) (list other : List Region) → AllByRecursion IsRegionOnA0 list → AllByRecursion IsRegionOnA0 other → AllByRecursion IsRegionOnA0 (if b then list else other)
+either_a0 true list other all others = all
+either_a0 false list other all others = others
+
 on_a0 : (request : Request) (family : Option Family) (memory : Memory) → IsCmisFamily family → AllByRecursion IsRegionOnA0 (regions.regions_in request family memory)
 on_a0 request None memory cmis = (tt, tt)
 on_a0 request (Some Cmis) memory cmis = by (regions.is_flat memory) where
   by : (flat : Bool) → AllByRecursion IsRegionOnA0 (regions.cmis_regions request flat)
   by true = and_if_a0 (regions.wants request 0) FirstPage regions.lower_alone tt (tt, tt)
-  by false =
-      and_if_a0 (regions.wants request 3) (Page 0x11) _ tt (and_if_a0 (regions.wants request 2) (Page 0x02) _ tt
-      (and_if_a0 (regions.wants request 1) (Page 0x01) _ tt (and_if_a0 (regions.wants request 0) (Page 0x00) regions.lower_alone tt (tt, tt))))
+  by false = either_a0 (regions.wants request 7) _ _
+      (and_if_a0 (regions.wants request 2) (Page 0x311) _ tt (and_if_a0 (regions.wants request 1) (Page 0x211) _ tt (and_if_a0 (regions.wants request 0) (Page 0x111) regions.lower_alone tt (tt, tt))))
+      (and_if_a0 (regions.wants request 3) (Page 0x11) _ tt (and_if_a0 (regions.wants request 2) (Page 0x02) _ tt
+      (and_if_a0 (regions.wants request 1) (Page 0x01) _ tt (and_if_a0 (regions.wants request 0) (Page 0x00) regions.lower_alone tt (tt, tt)))))
 on_a0 request (Some Sff8636) memory cmis = absurd cmis
 on_a0 request (Some Sff8472) memory cmis = absurd cmis
 

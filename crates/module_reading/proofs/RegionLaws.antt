@@ -89,12 +89,18 @@ two test e a b = both (test a) (both (λ a. all_two (test a)) e a) b
 four : (test : Bool → Bool → Bool → Bool → Bool) → all_two (λ a. all_two (λ b. all_two (λ c. all_two (test a b c)))) ≡ true → (a b c d : Bool) → test a b c d ≡ true
 four test e a b c d = two (test a b) (two (λ a b. all_two (λ c. all_two (test a b c))) e a b) c d
 
+three : (test : Bool → Bool → Bool → Bool) → all_two (λ a. all_two (λ b. all_two (test a b))) ≡ true → (a b c : Bool) → test a b c ≡ true
+three test e a b c = two (test a) (both (λ a. all_two (λ b. all_two (test a b))) e a) b c
+
 -- the lower half of A0 comes first, any two are apart, and there are five at most
 abbrev is_fit : List Region → Bool
 is_fit regions = all_apart regions && (eq_by_cmp key_cmp (lower_key A0) (key_of (unwrap_or (slice_get regions 0) FirstPage)) && nat_le (length regions) 5)
 
 abbrev paged : Bool → Bool → Bool → Bool → List Region
 paged a b c d = and_if d (Page 0x11) (and_if c (Page 0x02) (and_if b (Page 0x01) (and_if a (Page 0x00) lower_alone)))
+
+abbrev banked : Bool → Bool → Bool → List Region
+banked a b c = and_if c (Page 0x311) (and_if b (Page 0x211) (and_if a (Page 0x111) lower_alone))
 
 all_fit : (request : Request) (memory : Memory) → is_fit (regions_of request memory) ≡ true
 all_fit request memory = by (managed_by (identifier memory)) where
@@ -104,7 +110,8 @@ all_fit request memory = by (managed_by (identifier memory)) where
 
   by : (family : Option Family) → is_fit (regions_in request family memory) ≡ true
   by (Some Cmis) = choose (is_flat memory) _ _ (both (λ a. is_fit (and_if a FirstPage lower_alone)) refl (wants request 0))
-      (four (λ a b c d. is_fit (paged a b c d)) refl (wants request 0) (wants request 1) (wants request 2) (wants request 3))
+      (choose (wants request 7) _ _ (three (λ a b c. is_fit (banked a b c)) refl (wants request 0) (wants request 1) (wants request 2))
+      (four (λ a b c d. is_fit (paged a b c d)) refl (wants request 0) (wants request 1) (wants request 2) (wants request 3)))
   by (Some Sff8636) = choose (bit memory QFlatMemory) _ _ (both (λ a. is_fit (and_if a FirstPage lower_alone)) refl (wants request 4))
       (two (λ a b. is_fit (and_if b (Page 0x03) (and_if a (Page 0x00) lower_alone))) refl (wants request 4) (wants request 5))
   by (Some Sff8472) = choose (has_diagnostics memory) _ _ (both (λ a. is_fit (and_if a (Lower A2) lower_alone)) refl (wants request 6)) refl

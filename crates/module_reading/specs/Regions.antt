@@ -1,7 +1,7 @@
 -- The halves of a module that are read over a bus: the lower one of A0, and those that are requested of the ones that its fields stand
 -- in. (docs/bus.md, "Reading an image"; OIF-CMIS-05.0, "Management Memory Map"; SFF-8636, "Memory Map"; SFF-8472, "Memory Organization"
 -- and "Diagnostic Monitoring Type")
-use Rattle.std.specs.Prelude.{ℕ, ◌==◌, ◌&&◌, not, Bool, List, [], ◌∷◌, ◌++◌, Option, Some, None, if◌then◌else◌}
+use Rattle.std.specs.Prelude.{ℕ, ◌==◌, ◌&&◌, nat_lt, not, Bool, List, [], ◌∷◌, ◌++◌, Option, Some, None, if◌then◌else◌}
 use Rattle.std.specs.Int.{bit_at}
 use Rattle.bus_model.specs.declared.device.Dev.TheVariants.{A0, A2}
 use Rattle.bus_model.specs.declared.operation.Op.{Op}
@@ -55,10 +55,15 @@ and_if wanted region regions = if wanted then regions ++ region ∷ [] else regi
 abbrev pub lower_alone : List Region
 lower_alone = Lower A0 ∷ []
 
--- bits 0 to 3
+-- page 11h of banks 1, 2 and 3: bits 0, 1 and 2
+abbrev pub bank_regions : Request → List Region
+bank_regions request = and_if (wants request 2) (Page 0x311) (and_if (wants request 1) (Page 0x211) (and_if (wants request 0) (Page 0x111) lower_alone))
+
+-- bits 0 to 3; bit 7 asks for further banks in place of bank 0
 abbrev pub cmis_regions : Request → Bool → List Region
 cmis_regions request flat =
     if flat then and_if (wants request 0) FirstPage lower_alone
+    else if wants request 7 then bank_regions request
     else and_if (wants request 3) (Page 0x11) (and_if (wants request 2) (Page 0x02) (and_if (wants request 1) (Page 0x01) (and_if (wants request 0) (Page 0x00) lower_alone)))
 
 -- bits 4 and 5
@@ -71,9 +76,13 @@ qsfp_regions request flat =
 abbrev pub sfp_regions : Request → Bool → List Region
 sfp_regions request diagnosed = if diagnosed then and_if (wants request 6) (Lower A2) lower_alone else lower_alone
 
--- each bit is 1
+-- each bit is 1 but that for further banks
 abbrev pub everything : Request
 everything = record { halves = 0x7F }
+
+-- page 11h of each further bank of a module that has so many banks
+abbrev pub of_banks : ℕ → Request
+of_banks count = record { halves = if nat_lt 3 count then 0x87 else if nat_lt 2 count then 0x83 else if nat_lt 1 count then 0x81 else 0x80 }
 
 -- device A2 has diagnostics, and they can be read without an address change
 abbrev pub has_diagnostics : Memory → Bool

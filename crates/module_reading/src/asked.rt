@@ -35,6 +35,10 @@ fn cmis_regions(request: Request, flat: bool) -> ArrayVec<Region, MOST>
     let mut regions = lower_alone();
     if flat {
         and_if(request.wants(0), Region::FirstPage, &mut regions);
+    } else if request.wants(7) {
+        and_if(request.wants(0), Region::Page(0x111), &mut regions);
+        and_if(request.wants(1), Region::Page(0x211), &mut regions);
+        and_if(request.wants(2), Region::Page(0x311), &mut regions);
     } else {
         and_if(request.wants(0), Region::Page(0x00), &mut regions);
         and_if(request.wants(1), Region::Page(0x01), &mut regions);

@@ -5,16 +5,30 @@ ghost use Rattle.module_reading.specs.Regions as spec;
 #[derive(Clone, Copy, Debug, PartialEq, Eq)]
 pub struct Request {
     /// A bit for each. From bit 0 on: pages 00h, 01h, 02h and 11h of CMIS modules, pages 00h and 03h of SFF-8636 modules, and the
-    /// diagnostics of SFF-8472 modules.
+    /// diagnostics of SFF-8472 modules. If bit 7 is 1, a CMIS module with pages is asked for page 11h of banks 1 to 3 in place of pages of
+    /// bank 0, by bits 0 to 2.
     pub halves: u8,
 }
 
 impl Request {
-    /// All of them.
+    /// All of them, but for further banks.
     pub fn everything() -> Request
         ensures { result ≡ spec.everything }
     {
         Request { halves: 0x7F }
+    }
+
+    /// Page 11h of each further bank of a CMIS module that has so many banks, up to four.
+    pub fn of_banks(count: u8) -> Request
+        ensures { result ≡ spec.of_banks count }
+    {
+        let halves = match count {
+            0 | 1 => 0x80,
+            2 => 0x81,
+            3 => 0x83,
+            _ => 0x87,
+        };
+        Request { halves }
     }
 
     // Whether it has this bit.

@@ -7,18 +7,23 @@ use Rattle.paged_memory.specs.Images.{Memory}
 use Rattle.paged_memory.specs.PageAddressing.{History}
 use Rattle.module_reading.specs.ReadImages.{IsGivenUp, IsImageOf, IsReading, IsUnfinished}
 use Rattle.module_reading.specs.Regions.{everything}
+use Rattle.module_reading.specs.declared.request.Request.{Request}
 use Rattle.reports.specs.declared.fault.ReportFault.{ReportFault}
 use Rattle.reports.specs.declared.fault.ReportFault.TheVariants.{Bus, GaveUp}
 
 -- what is answered: the image, or that it isn't finished after all steps that may be made, or on a full list of steps
-abbrev pub IsAnswered : Type 0 → History → Result Memory ReportFault → Type 0
-IsAnswered full history (Ok image) = IsImageOf false everything history image
-IsAnswered full history (Err GaveUp) = IsGivenUp false everything history
-IsAnswered full history (Err (Bus fault)) = (fault ≡ TraceFull) × full × (length history < most_steps) × IsUnfinished false everything history
+abbrev pub IsAnswered : Request → Type 0 → History → Result Memory ReportFault → Type 0
+IsAnswered request full history (Ok image) = IsImageOf false request history image
+IsAnswered request full history (Err GaveUp) = IsGivenUp false request history
+IsAnswered request full history (Err (Bus fault)) = (fault ≡ TraceFull) × full × (length history < most_steps) × IsUnfinished false request history
 -- no other fault is answered
-IsAnswered full history (Err fault) = ⊥
+IsAnswered request full history (Err fault) = ⊥
 
--- these steps and this answer are the reading of an image; full says that the bus's list is full after them
-pub record IsFetching (full : Type 0) (history : History) (answer : Result Memory ReportFault) : Type 0 where
-  pub reading : IsReading false everything history
-  pub answered : IsAnswered full history answer
+-- these steps and this answer are the reading of what is requested; full says that the bus's list is full after them
+pub record AreFetched (request : Request) (full : Type 0) (history : History) (answer : Result Memory ReportFault) : Type 0 where
+  pub reading : IsReading false request history
+  pub answered : IsAnswered request full history answer
+
+-- of an image that has all that reports speak of
+abbrev pub IsFetching : Type 0 → History → Result Memory ReportFault → Type 0
+IsFetching = AreFetched everything
