@@ -2,4 +2,5 @@ mod StatisticsRead
 pub mod ExactTexts
 pub mod JsonDepths
 pub mod WordNumbers
+pub mod BanksRead
 pub mod WindowStatistics
