@@ -5,8 +5,8 @@ ghost use Rattle.module_reading.specs.Regions as spec;
 #[derive(Clone, Copy, Debug, PartialEq, Eq)]
 pub struct Request {
     /// A bit for each. From bit 0 on: pages 00h, 01h, 02h and 11h of CMIS modules, pages 00h and 03h of SFF-8636 modules, and the
-    /// diagnostics of SFF-8472 modules. If bit 7 is 1, a CMIS module with pages is asked for page 11h of banks 1 to 3 in place of pages of
-    /// bank 0, by bits 0 to 2.
+    /// diagnostics of SFF-8472 modules. If it is 80h to 87h, a CMIS module with pages is asked for page 11h of banks 1 to 3 in place of
+    /// pages of bank 0, by bits 0 to 2.
     pub halves: u8,
 }
 
@@ -29,6 +29,13 @@ impl Request {
             _ => 0x87,
         };
         Request { halves }
+    }
+
+    // Whether it is for further banks.
+    pub fn asks_banks(self) -> bool
+        ensures { result ≡ spec.asks_banks self }
+    {
+        self.halves / 8 == 16
     }
 
     // Whether it has this bit.
