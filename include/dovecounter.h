@@ -806,7 +806,11 @@ enum dovecounter_requested {
     DOVECOUNTER_CMIS_PAGE_11 = 8,
     DOVECOUNTER_SFF8636_PAGE_00 = 16,
     DOVECOUNTER_SFF8636_PAGE_03 = 32,
-    DOVECOUNTER_SFF8472_DIAGNOSTICS = 64 /* the lower half of 0xA2 */
+    DOVECOUNTER_SFF8472_DIAGNOSTICS = 64, /* the lower half of 0xA2 */
+    /* in place of these: page 11h of further banks, for lanes 9 to 16, 17 to 24 and 25 to 32 of a module that has so many */
+    DOVECOUNTER_CMIS_BANK_1 = 0x81,
+    DOVECOUNTER_CMIS_BANK_2 = 0x82,
+    DOVECOUNTER_CMIS_BANK_3 = 0x84
 };
 
 /* Begins to read only the lower half of 0xA0 and the requested halves that the module has, in the order of the bits. */
