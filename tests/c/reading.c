@@ -9,10 +9,11 @@
 
 struct module {
     const char *name;
-    uint8_t lower[2][128];   /* of 0xA0 and 0xA2 */
-    uint8_t upper[256][128]; /* pages of 0xA0 */
-    bool has_page[256];      /* a page that it lacks shows as page 00h */
-    bool selects_by_page;    /* byte 127 alone: SFF-8636 */
+    uint8_t lower[2][128];      /* of 0xA0 and 0xA2 */
+    uint8_t upper[4][256][128]; /* pages of 0xA0, by bank */
+    bool has_page[256];         /* a page that it lacks shows as page 00h of bank 0 */
+    unsigned banks;             /* so does one of a further bank */
+    bool selects_by_page;       /* byte 127 alone: SFF-8636 */
     unsigned wanted_halves;
 };
 
@@ -24,8 +25,9 @@ static void make(const char *name, uint8_t identifier, uint8_t byte_2, unsigned 
     for (int i = 0; i < 2 * 128; i++) module.lower[i / 128][i % 128] = (uint8_t)(rand() / 7);
     for (int page = 0; page < 256; page++) {
         module.has_page[page] = true;
-        for (int i = 0; i < 128; i++) module.upper[page][i] = (uint8_t)(rand() / 7);
+        for (int i = 0; i < 4 * 128; i++) module.upper[i / 128][page][i % 128] = (uint8_t)(rand() / 7);
     }
+    module.banks = 3;
     module.lower[0][0] = identifier;
     module.lower[0][2] = byte_2;
     module.lower[0][126] = module.lower[0][127] = 0;
@@ -34,8 +36,7 @@ static void make(const char *name, uint8_t identifier, uint8_t byte_2, unsigned 
 
 static uint8_t byte_at(uint8_t device, unsigned address) {
     if (address < 128) return module.lower[device == 0xA2][address];
-    uint8_t page = module.lower[0][127];
-    return module.upper[module.has_page[page] ? page : 0][address - 128];
+    return module.upper[module.lower[0][126]][module.lower[0][127]][address - 128];
 }
 
 static uint8_t carry_out(const struct dovecounter_operation *operation, uint8_t bytes[128]) {
@@ -46,8 +47,10 @@ static uint8_t carry_out(const struct dovecounter_operation *operation, uint8_t 
         return DOVECOUNTER_FETCHED;
     }
     expect("a store on the selection", module.selects_by_page ? 127 : 126, operation->offset);
-    uint8_t page = operation->bytes[operation->count - 1];
-    module.lower[0][127] = module.has_page[page] ? page : 0;
+    uint8_t page = operation->bytes[operation->count - 1], bank = operation->count > 1 ? operation->bytes[0] : 0;
+    bool is_there = module.has_page[page] && bank < module.banks;
+    module.lower[0][126] = is_there ? bank : 0;
+    module.lower[0][127] = is_there ? page : 0;
     return DOVECOUNTER_STORED;
 }
 
@@ -55,7 +58,8 @@ static uint8_t carry_out(const struct dovecounter_operation *operation, uint8_t 
 
 static bool is_of_module(const struct dovecounter_half *half) {
     if (half->upper)
-        return half->device == 0xA0 && half->bank == 0 && memcmp(half->bytes, module.upper[half->page], 128) == 0;
+        return half->device == 0xA0 && half->bank < module.banks &&
+               memcmp(half->bytes, module.upper[half->bank][half->page], 128) == 0;
     struct dovecounter_half shown = *half; /* the selection changes while the module is read */
     if (half->device == 0xA0) memcpy(shown.bytes + 126, module.lower[0] + 126, 2);
     return memcmp(shown.bytes, module.lower[half->device == 0xA2], 128) == 0;
@@ -276,18 +280,23 @@ static void try_refusals(void) {
         }
 }
 
-/* What is requested is read alone, after the lower half; bits for modules of other families request nothing. */
+/* What is requested is read alone, after the lower half; bits for modules of other families request nothing, nor does a bank that the
+   module lacks. */
 static void try_requests(void) {
     static const struct {
         uint8_t requested;
         unsigned operations, halves;
-        uint8_t newest;
+        uint8_t bank, newest;
     } requests[] = {
-        {0, 1, 1, 0x00},
-        {DOVECOUNTER_CMIS_PAGE_11, 4, 2, 0x11},
-        {DOVECOUNTER_CMIS_PAGE_00 | DOVECOUNTER_CMIS_PAGE_02, 7, 3, 0x02},
-        {DOVECOUNTER_SFF8636_PAGE_00 | DOVECOUNTER_SFF8636_PAGE_03 | DOVECOUNTER_SFF8472_DIAGNOSTICS, 1, 1, 0x00},
-        {0x7F, 13, 5, 0x11},
+        {0, 1, 1, 0, 0x00},
+        {DOVECOUNTER_CMIS_PAGE_11, 4, 2, 0, 0x11},
+        {DOVECOUNTER_CMIS_PAGE_00 | DOVECOUNTER_CMIS_PAGE_02, 7, 3, 0, 0x02},
+        {DOVECOUNTER_SFF8636_PAGE_00 | DOVECOUNTER_SFF8636_PAGE_03 | DOVECOUNTER_SFF8472_DIAGNOSTICS, 1, 1, 0, 0x00},
+        {0x7F, 13, 5, 0, 0x11},
+        {0xFF, 13, 5, 0, 0x11},
+        {DOVECOUNTER_CMIS_BANK_1, 4, 2, 1, 0x11},
+        {DOVECOUNTER_CMIS_BANK_2, 4, 2, 2, 0x11},
+        {DOVECOUNTER_CMIS_BANK_1 | DOVECOUNTER_CMIS_BANK_2 | DOVECOUNTER_CMIS_BANK_3, 9, 3, 2, 0x11},
     };
     struct dovecounter_ending ending;
     make("requests", 0x18, 0, 5);
@@ -303,6 +312,7 @@ static void try_requests(void) {
         expect("operations", requests[i].operations, bus.operations);
         expect("halves", requests[i].halves, reading.halves);
         expect("the newest", requests[i].newest, halves[0].page);
+        expect("of this bank", requests[i].bank, halves[0].bank);
         for (int k = 0; k < reading.halves; k++) expect("a half of the module", 1, is_of_module(&halves[k]));
     }
 }
