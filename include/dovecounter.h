@@ -806,14 +806,18 @@ enum dovecounter_requested {
     DOVECOUNTER_CMIS_PAGE_11 = 8,
     DOVECOUNTER_SFF8636_PAGE_00 = 16,
     DOVECOUNTER_SFF8636_PAGE_03 = 32,
-    DOVECOUNTER_SFF8472_DIAGNOSTICS = 64, /* the lower half of 0xA2 */
-    /* in place of these: page 11h of further banks, for lanes 9 to 16, 17 to 24 and 25 to 32 of a module that has so many */
+    DOVECOUNTER_SFF8472_DIAGNOSTICS = 64 /* the lower half of 0xA2 */
+};
+
+/* In place of these, page 11h of further banks, for lanes 9 to 16, 17 to 24 and 25 to 32 of a CMIS module that has so many. */
+enum dovecounter_requested_bank {
     DOVECOUNTER_CMIS_BANK_1 = 0x81,
     DOVECOUNTER_CMIS_BANK_2 = 0x82,
     DOVECOUNTER_CMIS_BANK_3 = 0x84
 };
 
-/* Begins to read only the lower half of 0xA0 and the requested halves that the module has, in the order of the bits. */
+/* Begins to read only the lower half of 0xA0 and the requested halves that the module has, in the order of the bits; `requested` is an or
+   of values of one of these. */
 uint32_t dovecounter_read_some_begin(uint8_t requested, uint8_t most, const struct dovecounter_patience *patience,
                                      struct dovecounter_conversation *conversation);
 
