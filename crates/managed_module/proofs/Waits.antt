@@ -123,7 +123,7 @@ on_a0 request None memory cmis = (tt, tt)
 on_a0 request (Some Cmis) memory cmis = by (regions.is_flat memory) where
   by : (flat : Bool) → AllByRecursion IsRegionOnA0 (regions.cmis_regions request flat)
   by true = and_if_a0 (regions.wants request 0) FirstPage regions.lower_alone tt (tt, tt)
-  by false = either_a0 (regions.asks_banks request) _ _
+  by false = either_a0 (regions.is_for_banks request) _ _
       (and_if_a0 (regions.wants request 2) (Page 0x311) _ tt (and_if_a0 (regions.wants request 1) (Page 0x211) _ tt (and_if_a0 (regions.wants request 0) (Page 0x111) regions.lower_alone tt (tt, tt))))
       (and_if_a0 (regions.wants request 3) (Page 0x11) _ tt (and_if_a0 (regions.wants request 2) (Page 0x02) _ tt
       (and_if_a0 (regions.wants request 1) (Page 0x01) _ tt (and_if_a0 (regions.wants request 0) (Page 0x00) regions.lower_alone tt (tt, tt)))))

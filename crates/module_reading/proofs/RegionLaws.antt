@@ -24,7 +24,7 @@ use Rattle.field_tables.specs.declared.field.Field.{Field}
 use Rattle.field_tables.specs.declared.field.Field.TheVariants.{CIdentifier, CFlatMemory, QFlatMemory, SAddressChange, SDiagPresent}
 use Rattle.field_tables.specs.FieldValues.{field_key, value_in}
 use Rattle.field_tables.specs.Readings.{bit, number, reading_at}
-use Rattle.module_reading.specs.Regions.{and_if, asks_banks, cmis_regions, has_diagnostics, identifier, is_flat, key_of, lower_alone, addressing_in, addressing_of, qsfp_regions, regions_in, regions_of, sfp_regions, wants}
+use Rattle.module_reading.specs.Regions.{and_if, is_for_banks, cmis_regions, has_diagnostics, identifier, is_flat, key_of, lower_alone, addressing_in, addressing_of, qsfp_regions, regions_in, regions_of, sfp_regions, wants}
 use Rattle.module_reading.specs.declared.region.Region.{Region}
 use Rattle.module_reading.specs.declared.request.Request.{Request}
 use Rattle.module_reading.specs.declared.region.Region.TheVariants.{Lower, FirstPage, Page}
@@ -110,7 +110,7 @@ all_fit request memory = by (managed_by (identifier memory)) where
 
   by : (family : Option Family) → is_fit (regions_in request family memory) ≡ true
   by (Some Cmis) = choose (is_flat memory) _ _ (both (λ a. is_fit (and_if a FirstPage lower_alone)) refl (wants request 0))
-      (choose (asks_banks request) _ _ (three (λ a b c. is_fit (banked a b c)) refl (wants request 0) (wants request 1) (wants request 2))
+      (choose (is_for_banks request) _ _ (three (λ a b c. is_fit (banked a b c)) refl (wants request 0) (wants request 1) (wants request 2))
       (four (λ a b c d. is_fit (paged a b c d)) refl (wants request 0) (wants request 1) (wants request 2) (wants request 3)))
   by (Some Sff8636) = choose (bit memory QFlatMemory) _ _ (both (λ a. is_fit (and_if a FirstPage lower_alone)) refl (wants request 4))
       (two (λ a b. is_fit (and_if b (Page 0x03) (and_if a (Page 0x00) lower_alone))) refl (wants request 4) (wants request 5))

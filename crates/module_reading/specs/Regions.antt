@@ -59,15 +59,15 @@ lower_alone = Lower A0 ∷ []
 abbrev pub bank_regions : Request → List Region
 bank_regions request = and_if (wants request 2) (Page 0x311) (and_if (wants request 1) (Page 0x211) (and_if (wants request 0) (Page 0x111) lower_alone))
 
--- bit 7 asks for further banks in place of bank 0, if no half is requested by bits 3 to 6
-abbrev pub asks_banks : Request → Bool
-asks_banks request = request.halves / 8 == 16
+-- bit 7 is for further banks in place of bank 0, if no half is requested by bits 3 to 6
+abbrev pub is_for_banks : Request → Bool
+is_for_banks request = request.halves / 8 == 16
 
 -- bits 0 to 3
 abbrev pub cmis_regions : Request → Bool → List Region
 cmis_regions request flat =
     if flat then and_if (wants request 0) FirstPage lower_alone
-    else if asks_banks request then bank_regions request
+    else if is_for_banks request then bank_regions request
     else and_if (wants request 3) (Page 0x11) (and_if (wants request 2) (Page 0x02) (and_if (wants request 1) (Page 0x01) (and_if (wants request 0) (Page 0x00) lower_alone)))
 
 -- bits 4 and 5

@@ -35,7 +35,7 @@ fn cmis_regions(request: Request, flat: bool) -> ArrayVec<Region, MOST>
     let mut regions = lower_alone();
     if flat {
         and_if(request.wants(0), Region::FirstPage, &mut regions);
-    } else if request.asks_banks() {
+    } else if request.is_for_banks() {
         and_if(request.wants(0), Region::Page(0x111), &mut regions);
         and_if(request.wants(1), Region::Page(0x211), &mut regions);
         and_if(request.wants(2), Region::Page(0x311), &mut regions);

@@ -31,14 +31,14 @@ impl Request {
         Request { halves }
     }
 
-    // Whether it is for further banks.
-    pub fn asks_banks(self) -> bool
-        ensures { result ≡ spec.asks_banks self }
+    /// Whether it is for further banks.
+    pub fn is_for_banks(self) -> bool
+        ensures { result ≡ spec.is_for_banks self }
     {
         self.halves / 8 == 16
     }
 
-    // Whether it has this bit.
+    /// Whether it has this bit, of which there are eight.
     pub fn wants(self, number: u8) -> bool
         requires { number < 8 }
         ensures { result ≡ spec.wants self number }
