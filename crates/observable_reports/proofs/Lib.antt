@@ -2,5 +2,4 @@ mod StatisticsRead
 pub mod ExactTexts
 pub mod JsonDepths
 pub mod WordNumbers
-pub mod BanksRead
 pub mod WindowStatistics

@@ -18,7 +18,8 @@ use Rattle.vdm_reading.specs.declared.reading.VdmStage.TheVariants.{Over}
 use Rattle.vdm_reading.specs.VdmAccounts.{EachIsWanted, HasEnded, IsTold, reading_after}
 use Rattle.vdm_reading.specs.VdmStages.{begun, turn_by, wants, work_at}
 use Rattle.vdm_reading.proofs.EndingLaws.{few}
-use Rattle.observable_reports.specs.FetchedObservables.{AreLanesFetched, AreStatisticsRead, IsFollowed}
+use Rattle.reports.specs.FetchedImages.{IsFetching}
+use Rattle.observable_reports.specs.FetchedObservables.{AreStatisticsRead, IsFollowed}
 
 abbrev topic_of : Within VdmReading → ℕ × ℕ
 topic_of reading = (reading.limit, reading.conversation.pause)
@@ -58,7 +59,7 @@ module _ (old new : Within VdmReading) (events : Events) (began : old ≡ at_sta
   pub is_unfinished : (op : Op) → next_within new.steps new.limit (wants new.conversation) ≡ Do op → (reading_after 0 events).stage ≢ Over
   is_unfinished op wanted over = no_more new.conversation.stage new.steps new.limit op (ap (λ (reading : VdmReading). reading.stage) is_after ∙ over) wanted
 
-module _ {S : Type 0} (rules : Rules S) (old mid : Seen S) (memory : Memory) (fetched : AreLanesFetched rules old mid (Ok memory)) where
+module _ {S : Type 0} (rules : Rules S) (old mid : Seen S) (memory : Memory) (fetched : IsFetching rules old mid (Ok memory)) where
   -- a module that advertises none
   pub unread : (has : Bool) → has ≡ false → AreStatisticsRead has rules mid mid memory (Ok memory)
   unread false none = (refl, refl)

@@ -14,8 +14,8 @@ pub fn each_word_is_a_number()
     ensures { EachWordIsANumber }
 {}
 
-/// Over a scripted bus with a new window of an image, whatever the script refuses or cuts short: each page of statistics that
-/// `fetch_observables` answers is as in the window's image.
+/// Over a scripted bus with a new window of an image, whatever the script refuses or cuts short: each page of statistics, or
+/// of a further bank, that `fetch_observables` answers is as in the window's image.
 pub fn statistics_are_read_as_the_module_has_them()
     ensures { StatisticsSame }
 {}

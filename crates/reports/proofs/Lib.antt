@@ -1,4 +1,8 @@
+pub mod BanksRead
+pub mod FetchFaults
 pub mod FetchedHalves
+pub mod FetchedLanes
+pub mod FetchedPages
 pub mod SameFamilies
 pub mod SameApps
 mod SameDetailRows
@@ -6,4 +10,5 @@ pub mod SameIf
 pub mod SameContents
 pub mod FetchedReports
 pub mod SameRows
+pub mod PutPages
 mod UniqueDetails

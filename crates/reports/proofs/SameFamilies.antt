@@ -1,6 +1,6 @@
 -- Memories that agree in the halves that are read of a module are of the same family, and have the same report if those of the family
 -- have.
-use Rattle.std.proofs.Common.{◌≡◌, ℕ, ◌==◌, ◌&&◌, Bool, true, false, List, [], ◌∷◌, map, Option, Some, None, refl, sym, ap, subst, ◌∙◌, if◌then◌else◌}
+use Rattle.std.proofs.Common.{◌≡◌, ℕ, ◌<◌, ◌≤◌, ◌==◌, ◌&&◌, Bool, true, false, List, [], ◌∷◌, map, Option, Some, None, refl, ap, subst, ◌∙◌, if◌then◌else◌}
 use Rattle.std.proofs.lemmas.Bool.{not-false}
 use Rattle.std.specs.Prelude.{is_some, not, option_map}
 use Rattle.std.specs.List.{AllByRecursion}
@@ -11,7 +11,7 @@ use Rattle.paged_memory.specs.declared.family.Family.TheVariants.{Cmis, Sff8636,
 use Rattle.paged_memory.specs.declared.key.Key.{Key}
 use Rattle.paged_memory.specs.Families.{family_by, is_family, is_other_cmis, managed_by}
 use Rattle.paged_memory.specs.Images.{Memory}
-use Rattle.paged_memory.specs.Keys.{lower_key}
+use Rattle.paged_memory.specs.Keys.{lower_key, upper_key}
 use Rattle.field_tables.specs.declared.field.Field.TheVariants.{CFlatMemory, CIdentifier, CRevision, QFlatMemory, SAddressChange, SDiagPresent}
 use Rattle.field_tables.specs.FirstFault.{first_fault}
 use Rattle.field_tables.specs.Readings.{bit, number}
@@ -24,6 +24,7 @@ use Rattle.module_decoding.specs.ModuleFamilies.{identifier, known}
 use Rattle.module_reading.specs.declared.region.Region.{Region}
 use Rattle.module_reading.specs.Regions.{cmis_regions, everything, has_diagnostics, key_of, qsfp_regions, regions_in, regions_of, sfp_regions}
 use Rattle.module_reading.proofs.RegionLaws.{begins_lower}
+use Rattle.observables.specs.Banks.{bank_count}
 use Rattle.reports.specs.SameReports.{IsSame}
 use Rattle.reports.proofs.SameIf.{KeysAgree, SameIf, is_among}
 
@@ -72,6 +73,11 @@ FamilyAgrees a b family = (which : Bool) → tells family a ≡ which → KeysAg
 -- and of one that is found to be of it, or of none
 abbrev pub AllAgree : Memory → Memory → Type 0
 AllAgree a b = KeysAgree a b (map key_of (regions_of everything a))
+
+-- and page 11h of each further bank that one of them advertises
+pub record LanesAgree (a b : Memory) : Type 0 where
+  pub all : AllAgree a b
+  pub banks : (bank : ℕ) → 1 ≤ bank → bank < bank_count a → Agree a b (upper_key A0 bank 0x11)
 
 pub low_agrees : (a b : Memory) → AllAgree a b → Agree a b (lower_key A0)
 low_agrees a b all = all.half (lower_key A0) (ap (λ (regions : List Region). is_among (map key_of regions) (lower_key A0)) (begins_lower everything a))

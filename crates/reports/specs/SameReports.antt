@@ -1,12 +1,11 @@
 -- When two memories have the same reports, and that what is read of an image over a scripted bus has the image's.
 -- (docs/bus.md, "Reading an image"; docs/formats.md, "inventory", "apps", "monitors", "flags" and "details"; this project's own)
-use Rattle.std.specs.Prelude.{◌≡◌, List, Option, None, Ok, reverse}
+use Rattle.std.specs.Prelude.{◌≡◌, List, Option, None, Ok}
 use Rattle.bus_model.specs.declared.script.Directive.{Directive}
-use Rattle.bus_model.specs.Runs.{IsFull, Ran, Seen}
+use Rattle.bus_model.specs.Runs.{Seen}
 use Rattle.bus_model.specs.ScriptedBus.{script_rules}
 use Rattle.paged_memory.specs.Images.{Memory}
 use Rattle.paged_memory.specs.ImageText.{IsImage}
-use Rattle.paged_memory.specs.PageAddressing.{History}
 use Rattle.paged_memory.specs.Windows.{Windowed, started, window_conduct}
 use Rattle.applications.specs.Advertised.{advertised_by}
 use Rattle.reports.specs.Apps.{apps_entries, apps_fault}
@@ -28,10 +27,9 @@ pub record ReportsSame (memory other : Memory) : Type 0 where
   pub details : IsSame details_fault details_entries memory other
   pub each_flag : IsSame flags_fault flag_states memory other
 
--- whatever a script refuses: if the steps on its bus over a new window of an image are the reading of an image, the
--- reports of what was read are those of the window's image
+-- whatever a script refuses: the reports of what is read over its bus, with a new window of an image, are those of the window's image
 abbrev pub FetchedReportsSame : Type 0
 FetchedReportsSame =
-    (old new : Seen (List Directive × Windowed)) (history : History) (memory fetched : Memory) → IsImage memory → old.state.1 ≡ started memory
-    → Ran (script_rules window_conduct) old new (reverse history) → IsFetching (IsFull new) history (Ok fetched)
+    (old new : Seen (List Directive × Windowed)) (memory fetched : Memory) → IsImage memory → old.state.1 ≡ started memory
+    → IsFetching (script_rules window_conduct) old new (Ok fetched)
     → ReportsSame fetched memory

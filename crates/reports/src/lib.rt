@@ -13,7 +13,7 @@ mod tables;
 pub use cmis_apps::{apps, apps_json};
 pub use detail_report::{details, details_json};
 pub use fault::ReportFault;
-pub use fetching::{fetch_halves, fetch_image};
+pub use fetching::{fetch_image, put_page};
 pub use report::{
     flag_states, flags, flags_entries, flags_json, inventory, inventory_entries, inventory_json,
     monitors, monitors_entries, monitors_json,

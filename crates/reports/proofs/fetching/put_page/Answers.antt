@@ -1,7 +1,7 @@
 use Rattle.std.proofs.Common.{◌≡◌, rules}
 use Rattle.std.specs.FinMap as map
 use Rattle.observables.proofs.BankLanes.{insert_few}
-use Rattle.observable_reports.proofs.fetching.put_page.Goals as goal
+use Rattle.reports.proofs.fetching.put_page.Goals as goal
 
 pub returns-in-Some-clause-few : goal.returns-in-Some-clause-few
 returns-in-Some-clause-few c =
