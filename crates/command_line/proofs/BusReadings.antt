@@ -1,8 +1,7 @@
 -- What there is to report of, by what reading an image over a bus answers.
-use Rattle.std.proofs.Common.{◌≡◌, ◌∙◌, ℕ, Bool, true, false, List, [], Result, Ok, Err, refl, ap, subst}
+use Rattle.std.proofs.Common.{◌≡◌, ◌∙◌, ◌*◌, ℕ, Bool, true, false, List, [], Result, Ok, Err, refl, ap, subst}
 use Rattle.std.specs.Prelude.{IfOk, MatchResult}
 use Rattle.text_lines.specs.Lines.{lines_of}
-use Rattle.bus_model.specs.Runs.{IsFull}
 use Rattle.bus_model.specs.ScriptBuses.{Scripted, seen_at}
 use Rattle.bus_model.specs.ScriptedBus.{script_rules}
 use Rattle.bus_model.specs.declared.script.Directive.{Directive}
@@ -11,7 +10,6 @@ use Rattle.paged_memory.specs.Images.{Memory}
 use Rattle.paged_memory.specs.ImageText.{IsTextOf}
 use Rattle.paged_memory.specs.Windows.{Windowed, started, window_conduct}
 use Rattle.control_sets.specs.OutcomeAnswers.{most_steps}
-use Rattle.control_sets.specs.Procedures.{MakesHistory}
 use Rattle.reports.specs.FetchedImages.{IsFetching}
 use Rattle.reports.specs.declared.fault.ReportFault.{ReportFault}
 use Rattle.reports.specs.declared.fault.ReportFault.TheVariants as report
@@ -22,14 +20,14 @@ use Rattle.command_line.specs.declared.fault.Fault.TheVariants as fault
 
 -- a new bus with a new window is where a reading begins
 pub begins : {E : Type 0} (memory : Memory) (window : Windowed) (script : List Directive) (made : Result (Scripted Windowed) E) → window ≡ started memory → script ≡ []
-    → IfOk made (λ bus. bus ≡ record { device = window; script = script; steps = []; room = most_steps }) → IfOk made (λ bus. seen_at bus ≡ window_at_start memory)
-begins memory window script (Ok bus) shows none new = ap seen_at new ∙ (λ i. record { steps = []; room = most_steps; state = (none i, shows i) })
+    → IfOk made (λ bus. bus ≡ record { device = window; script = script; steps = []; room = 2 * most_steps }) → IfOk made (λ bus. seen_at bus ≡ window_at_start memory)
+begins memory window script (Ok bus) shows none new = ap seen_at new ∙ (λ i. record { steps = []; room = 2 * most_steps; state = (none i, shows i) })
 begins memory window script (Err refused) shows none new = tt
 
 pub fetched_from : (memory : Memory) (bus : Scripted Windowed) (after : WindowBus) (answer : Result Memory ReportFault) → seen_at bus ≡ window_at_start memory
-    → MakesHistory (script_rules window_conduct) (seen_at bus) after (λ history. IsFetching (IsFull after) history answer) → IsFetchedFrom memory answer
+    → IsFetching (script_rules window_conduct) (seen_at bus) after answer → IsFetchedFrom memory answer
 fetched_from memory bus after answer start made =
-    (after, subst (λ (before : WindowBus). MakesHistory (script_rules window_conduct) before after (λ history. IsFetching (IsFull after) history answer)) start made)
+    (after, subst (λ (before : WindowBus). IsFetching (script_rules window_conduct) before after answer) start made)
 
 pub observed_from : (memory : Memory) (bus : Scripted Windowed) (after : WindowBus) (answer : Result Memory ReportFault) → seen_at bus ≡ window_at_start memory
     → IsObserving (script_rules window_conduct) (seen_at bus) after answer → IsObservedFrom memory answer

@@ -1,15 +1,15 @@
 -- A report over a bus is the one without, where what is read over it has the reports of the image.
-use Rattle.std.proofs.Common.{◌≡◌, ◌≢◌, ◌∙◌, ℕ, Bool, true, false, List, [], ◌∷◌, Option, Some, None, Result, Ok, Err, refl, sym, ap, length, arith}
+use Rattle.std.proofs.Common.{◌≡◌, ◌≢◌, ◌∙◌, ℕ, Bool, true, false, List, [], ◌∷◌, Option, Some, None, Result, Ok, Err, refl, sym, ap, arith}
 use Rattle.std.specs.Prelude.{MatchOption}
-use Rattle.std.proofs.lemmas.List.{length-reverse}
 use Rattle.text_lines.specs.Lines.{lines_of}
-use Rattle.bus_model.specs.declared.bus.BusFault.{BusFault}
+use Rattle.bus_model.specs.ScriptedBus.{script_rules}
 use Rattle.paged_memory.specs.Images.{Memory}
 use Rattle.paged_memory.specs.ImageFaults.{IsAnswer}
 use Rattle.paged_memory.specs.ImageText.{IsImage, IsTextOf}
 use Rattle.paged_memory.specs.declared.fault.ImageFault.{ImageFault}
-use Rattle.paged_memory.specs.PageAddressing.{History}
+use Rattle.paged_memory.specs.Windows.{window_conduct}
 use Rattle.paged_memory.proofs.OneAnswer.{same_answer}
+use Rattle.reports.proofs.FetchFaults.{fetching_gives_up}
 use Rattle.reports.proofs.FetchedReports.{fetched_reports}
 use Rattle.reports.specs.SameReports.{IsSame, ReportsSame}
 use Rattle.reports.specs.declared.fault.ReportFault.{ReportFault}
@@ -29,22 +29,12 @@ use Rattle.command_line.specs.declared.fault.Fault.{Fault}
 use Rattle.command_line.specs.declared.fault.Fault.TheVariants as fault
 use Rattle.command_line.proofs.OwnAnswers.{cut_fault, judged}
 
--- the bus has room for all steps of a reading
-never_full : (memory : Memory) (g : BusFault) → ¬ (IsFetchedFrom memory (Err (report.Bus g)))
-never_full memory g (after, (history, ran, is)) =
-    let made = ap (λ (steps : History). length steps) ran.steps in
-    let full = is.answered.1 in
-    let few = is.answered.2 in
-    absurd (omega (arith, ran.room, length-reverse history))
-
--- so it has one fault
+-- the bus has room for both readings, so they have one fault
 pub reading_fault : (memory : Memory) (f : ReportFault) → IsFetchedFrom memory (Err f) → f ≡ report.GaveUp
-reading_fault memory report.GaveUp is = refl
-reading_fault memory (report.Bus g) is = absurd (never_full memory g is)
-reading_fault memory f (after, (history, ran, is)) = absurd is.answered
+reading_fault memory f (after, is) = fetching_gives_up (script_rules window_conduct) (window_at_start memory) (omega arith) after f is
 
 pub same_reports : (memory fetched : Memory) → IsImage memory → IsFetchedFrom memory (Ok fetched) → ReportsSame fetched memory
-same_reports memory fetched image (after, (history, ran, is)) = fetched_reports (window_at_start memory) after history memory fetched image refl ran is
+same_reports memory fetched image (after, is) = fetched_reports (window_at_start memory) after memory fetched image refl is
 
 -- ---- a command that reads an image alone, by what it tells of what there is to report of, with the flag and without it
 

@@ -1,9 +1,9 @@
 -- What a report speaks of: the memory of the image that is given, or what is read of its module over a bus that refuses
 -- nothing by itself; for observables the statistics (VDM) too. (docs/formats.md, "Reports over a bus"; docs/bus.md, "Windows" and "Reading
 -- an image"; this project's own)
-use Rattle.std.specs.Prelude.{◌≡◌, ℕ, Bool, true, false, List, [], Result, Ok, Err}
+use Rattle.std.specs.Prelude.{◌≡◌, ◌*◌, ℕ, Bool, true, false, List, [], Result, Ok, Err}
 use Rattle.text_lines.specs.Lines.{lines_of}
-use Rattle.bus_model.specs.Runs.{IsFull, Seen}
+use Rattle.bus_model.specs.Runs.{Seen}
 use Rattle.bus_model.specs.ScriptedBus.{script_rules}
 use Rattle.bus_model.specs.declared.script.Directive.{Directive}
 use Rattle.paged_memory.specs.Images.{Memory}
@@ -11,7 +11,6 @@ use Rattle.paged_memory.specs.ImageText.{IsTextOf}
 use Rattle.paged_memory.specs.ImageFaults.{IsFirstFault}
 use Rattle.paged_memory.specs.Windows.{Windowed, started, window_conduct}
 use Rattle.control_sets.specs.OutcomeAnswers.{most_steps}
-use Rattle.control_sets.specs.Procedures.{MakesHistory}
 use Rattle.observable_reports.specs.FetchedObservables.{IsObserving}
 use Rattle.reports.specs.FetchedImages.{IsFetching}
 use Rattle.reports.specs.declared.fault.ReportFault.{ReportFault}
@@ -22,14 +21,13 @@ use Rattle.command_line.specs.declared.fault.Fault.TheVariants as fault
 abbrev pub WindowBus : Type 0
 WindowBus = Seen (List Directive × Windowed)
 
--- before any step, without a script, with a new window of a memory
+-- before any step, with room for two readings, without a script, with a new window of a memory
 abbrev pub window_at_start : Memory → WindowBus
-window_at_start memory = record { steps = []; room = most_steps; state = ([], started memory) }
+window_at_start memory = record { steps = []; room = 2 * most_steps; state = ([], started memory) }
 
 -- to read the module of this memory over that bus is answered so
 abbrev pub IsFetchedFrom : Memory → Result Memory ReportFault → Type 0
-IsFetchedFrom memory answer =
-    (after : WindowBus) × MakesHistory (script_rules window_conduct) (window_at_start memory) after (λ history. IsFetching (IsFull after) history answer)
+IsFetchedFrom memory answer = (after : WindowBus) × IsFetching (script_rules window_conduct) (window_at_start memory) after answer
 
 -- the same for its observables
 abbrev pub IsObservedFrom : Memory → Result Memory ReportFault → Type 0

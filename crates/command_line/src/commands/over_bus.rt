@@ -13,8 +13,8 @@ use paged_memory::{Image, LARGE, LargeImage, Window};
 use reports::fetch_image;
 use std::alloc::{AllocError, Global};
 
-/// The most steps: as many as the reading of an image may make. The statistics of a module that refuses nothing fit in as well.
-const ROOM: usize = MAX_STEPS as usize;
+/// The most steps: as many as the two readings of a module's halves may make. The statistics of a module that refuses nothing fit in as well.
+const ROOM: usize = 2 * MAX_STEPS as usize;
 
 /// The image of this text, or, over a bus, what is read of the module that has it.
 pub fn image_to_report(alloc: Global, text: &[u8], is_over_bus: bool) -> Result<LargeImage, Fault>
@@ -46,7 +46,7 @@ fn read_for_reports(alloc: Global, image: &Image) -> Result<LargeImage, Fault>
     ensures { MatchResult result (λ read. IsFetchedFrom image.now (Ok read)) (IsBusRefusal IsFetchedFrom image.now) }
 {
     let mut bus = bus_to(alloc, image)?;
-    Ok(LargeImage::of(&fetch_image(&mut bus)?.view()).unwrap())
+    Ok(fetch_image(&mut bus)?)
 }
 
 // The same for its observables.
