@@ -6,12 +6,13 @@ use Rattle.std.specs.Option.{option_or}
 use Rattle.text_lines.specs.Lines.{lines_of, text_of}
 use Rattle.paged_memory.specs.Images.{Memory}
 use Rattle.paged_memory.specs.ImageText.{IsTextOf}
+use Rattle.module_decoding.specs.declared.report.Report.TheVariants.{Flags, Monitors}
 use Rattle.module_metrics.specs.Answers.{code_of, first_fault, metrics_of, requested_flags}
 use Rattle.module_metrics.specs.Exposition.{Label, Metric, exposition, metric_lines, metrics_lines}
 use Rattle.module_metrics.specs.ModuleMetrics.{module_metrics}
 use Rattle.module_metrics.specs.Unless.{unless}
 use Rattle.module_metrics.specs.VdmMetrics.{vdm_metrics, vdm_seen}
-use Rattle.reports.specs.Reports.{flag_states, flags_entries, flags_fault, inventory_entries, inventory_fault, monitors_entries, monitors_fault}
+use Rattle.reports.specs.Reports.{all_lanes_entries, all_lanes_flag_states, flags_fault, inventory_entries, inventory_fault, monitors_fault}
 use Rattle.reports.specs.SameReports.{IsSame, ReportsSame}
 use Rattle.reports.specs.declared.fault.ReportFault.{ReportFault}
 use Rattle.command_line.specs.MetricsCommand.{metrics_reported}
@@ -40,15 +41,15 @@ module _ (a b : Memory) (same : ReportsSame a b) where
 
   flags_same : (all : Bool) → requested_flags all a ≡ requested_flags all b
   unfolding requested_flags
-  flags_same true = content_same flags_fault flag_states a b same.each_flag
+  flags_same true = content_same flags_fault all_lanes_flag_states a b same.each_flag
   flags_same false = refl
 
   metrics_same : (all : Bool) → metrics_of all false a ≡ metrics_of all false b
   unfolding metrics_of
   metrics_same all =
       let identity = content_same inventory_fault inventory_entries a b same.inventory in
-      let measured = content_same monitors_fault monitors_entries a b same.monitors in
-      let warned = content_same flags_fault flags_entries a b same.flags in
+      let measured = content_same monitors_fault (all_lanes_entries Monitors) a b same.all_monitors in
+      let warned = content_same flags_fault (all_lanes_entries Flags) a b same.all_flags in
       λ i. module_metrics all (flags_same all i) (identity i) (measured i) (warned i) (option_map code_of (first_same i)) ++ []
 
 -- ---- the metrics of VDM follow
@@ -66,8 +67,8 @@ abbrev report_metrics : Bool → Memory → List Metric
 report_metrics all memory =
     module_metrics all (requested_flags all memory)
     (unless (inventory_fault memory) (inventory_entries memory))
-    (unless (monitors_fault memory) (monitors_entries memory))
-    (unless (flags_fault memory) (flags_entries memory))
+    (unless (monitors_fault memory) (all_lanes_entries Monitors memory))
+    (unless (flags_fault memory) (all_lanes_entries Flags memory))
     (option_map code_of (first_fault memory))
 
 followed : (all : Bool) (labels : List Label) (memory : Memory) → exposition labels (metrics_of all true memory) ≡ exposition labels (metrics_of all false memory) ++ vdm_text labels memory

@@ -15,6 +15,7 @@ use Rattle.field_tables.specs.Units.{floor_div, millis_of}
 use Rattle.module_decoding.specs.Amounts.{amount_at, length_in, unit_of}
 use Rattle.module_decoding.specs.PaddedTexts.{trimmed}
 use Rattle.paged_memory.specs.Images.{Memory}
+use Rattle.report_entries.specs.Banks.{over_banks}
 use Rattle.report_entries.specs.Entries.{Entry, entry, fact}
 use Rattle.report_entries.specs.Facts as facts
 use Rattle.report_entries.specs.Facts.{Fact}
@@ -102,9 +103,9 @@ level_fact power = option_map facts.level power
 abbrev pub milliwatts_fact : Option ℕ → Option Fact
 milliwatts_fact power = option_map facts.milliwatts power
 
--- no Application: the lane is in no data path
-abbrev pub first_lane_fact : ℕ → ℕ → Option Fact
-first_lane_fact app path = if_any (nat_lt 0 app) (facts.number (path + 1))
+-- the first lane of the data path by its place in the bank; without an Application the lane is in no data path
+abbrev pub first_lane_fact : ℕ → ℕ → ℕ → Option Fact
+first_lane_fact bank app path = if_any (nat_lt 0 app) (facts.number (8 * bank + (path + 1)))
 
 -- in thousandths of a gigabaud
 abbrev pub bit_rate : ℕ → ℕ → ℕ
@@ -113,38 +114,38 @@ bit_rate rate more = if rate == 255 then more * 250 else rate * 100
 abbrev pub bit_rate_fact : ℕ → Option Fact
 bit_rate_fact rate = amount_fact (pos rate) units.Gigabaud
 
-unfoldable pub fact_at : Memory → Item → ℕ → Option Fact
-fact_at memory (Word w) i = Some (facts.word w)
-fact_at memory (Either field one other) i = Some (facts.word (if bit_at memory field i then one else other))
-fact_at memory (Yes field) i = Some (facts.yes (bit_at memory field i))
-fact_at memory (Named table field) i = Some (named_fact table (number_at memory field i))
-fact_at memory (Names table field first) i = names_fact (names_of memory table field first)
-fact_at memory (Number field more) i = Some (facts.number (number_at memory field i + more))
-fact_at memory (Revision field) i = Some (facts.revision (number_at memory field i))
-fact_at memory (Version field) i = Some (facts.version (number_at memory field i) (number_at memory field (i + 1)))
-fact_at memory (Text field) i = text_fact (readings.text memory field)
-fact_at memory (Oui field) i = Some (facts.oui (all_numbers memory field))
-fact_at memory (Amount field power) i = Some (facts.amount (amount_at memory field power i) (printed_in (unit_of field)))
-fact_at memory (Steps field step unit) i = Some (steps_fact (reading_at memory field i) step unit)
-fact_at memory (StepsIfAny field step unit) i = if_any (is_positive (reading_at memory field i)) (steps_fact (reading_at memory field i) step unit)
-fact_at memory (PairIfAny field step unit) i = pair_fact (pair (number_at memory field i) (number_at memory field (i + 1))) step unit
-fact_at memory (TenthsIfAny base power unit) i = amount_fact (length_in memory base power) unit
-fact_at memory (Celsius field) i = Some (celsius_fact (number_at memory field i))
-fact_at memory (Percent field) i = Some (percent_fact (reading_at memory field i))
-fact_at memory (Temperature field) i = Some (temperature_fact (reading_at memory field i))
-fact_at memory (Level field) i = Some (facts.level (unsigned_abs (reading_at memory field i)))
-fact_at memory (Milliwatts field) i = Some (facts.milliwatts (unsigned_abs (reading_at memory field i)))
-fact_at memory (Measured monitor field) i = measured_fact memory monitor field i
-fact_at memory (MeasuredLevel monitor field) i = level_fact (measured_power memory monitor field i)
-fact_at memory (MeasuredMilliwatts monitor field) i = milliwatts_fact (measured_power memory monitor field i)
-fact_at memory (Calibrates monitor) i = Some (facts.yes (calibrates memory monitor))
-fact_at memory (ModuleState field) i = Some (facts.module_state (number_at memory field i))
-fact_at memory (PathState field) i = Some (facts.path_state (number_at memory field i))
-fact_at memory (ConfigStatus field) i = Some (facts.config_status (number_at memory field i))
-fact_at memory (FirstLane apps paths) i = first_lane_fact (number_at memory apps i) (number_at memory paths i)
-fact_at memory (BitRate rate more) i = bit_rate_fact (bit_rate (number_at memory rate 1) (number_at memory more 1))
-fact_at memory PowerClass i = Some (facts.number (power_class memory))
-fact_at memory ClassPower i = Some (facts.amount (pos (class_power memory)) units.Watt)
+unfoldable pub fact_at : Memory → ℕ → Item → ℕ → Option Fact
+fact_at memory bank (Word w) i = Some (facts.word w)
+fact_at memory bank (Either field one other) i = Some (facts.word (if bit_at memory field i then one else other))
+fact_at memory bank (Yes field) i = Some (facts.yes (bit_at memory field i))
+fact_at memory bank (Named table field) i = Some (named_fact table (number_at memory field i))
+fact_at memory bank (Names table field first) i = names_fact (names_of memory table field first)
+fact_at memory bank (Number field more) i = Some (facts.number (number_at memory field i + more))
+fact_at memory bank (Revision field) i = Some (facts.revision (number_at memory field i))
+fact_at memory bank (Version field) i = Some (facts.version (number_at memory field i) (number_at memory field (i + 1)))
+fact_at memory bank (Text field) i = text_fact (readings.text memory field)
+fact_at memory bank (Oui field) i = Some (facts.oui (all_numbers memory field))
+fact_at memory bank (Amount field power) i = Some (facts.amount (amount_at memory field power i) (printed_in (unit_of field)))
+fact_at memory bank (Steps field step unit) i = Some (steps_fact (reading_at memory field i) step unit)
+fact_at memory bank (StepsIfAny field step unit) i = if_any (is_positive (reading_at memory field i)) (steps_fact (reading_at memory field i) step unit)
+fact_at memory bank (PairIfAny field step unit) i = pair_fact (pair (number_at memory field i) (number_at memory field (i + 1))) step unit
+fact_at memory bank (TenthsIfAny base power unit) i = amount_fact (length_in memory base power) unit
+fact_at memory bank (Celsius field) i = Some (celsius_fact (number_at memory field i))
+fact_at memory bank (Percent field) i = Some (percent_fact (reading_at memory field i))
+fact_at memory bank (Temperature field) i = Some (temperature_fact (reading_at memory field i))
+fact_at memory bank (Level field) i = Some (facts.level (unsigned_abs (reading_at memory field i)))
+fact_at memory bank (Milliwatts field) i = Some (facts.milliwatts (unsigned_abs (reading_at memory field i)))
+fact_at memory bank (Measured monitor field) i = measured_fact memory monitor field i
+fact_at memory bank (MeasuredLevel monitor field) i = level_fact (measured_power memory monitor field i)
+fact_at memory bank (MeasuredMilliwatts monitor field) i = milliwatts_fact (measured_power memory monitor field i)
+fact_at memory bank (Calibrates monitor) i = Some (facts.yes (calibrates memory monitor))
+fact_at memory bank (ModuleState field) i = Some (facts.module_state (number_at memory field i))
+fact_at memory bank (PathState field) i = Some (facts.path_state (number_at memory field i))
+fact_at memory bank (ConfigStatus field) i = Some (facts.config_status (number_at memory field i))
+fact_at memory bank (FirstLane apps paths) i = first_lane_fact bank (number_at memory apps i) (number_at memory paths i)
+fact_at memory bank (BitRate rate more) i = bit_rate_fact (bit_rate (number_at memory rate 1) (number_at memory more 1))
+fact_at memory bank PowerClass i = Some (facts.number (power_class memory))
+fact_at memory bank ClassPower i = Some (facts.amount (pos (class_power memory)) units.Watt)
 
 -- ---- rows
 
@@ -161,17 +162,20 @@ most_lanes identifier =
     else if identifier == 0x1E then 4
     else 8
 
-abbrev pub has_lane : Memory → ℕ → Bool
-has_lane memory lane = nat_le lane (most_lanes (number memory CIdentifier))
+abbrev pub has_lane : ℕ → ℕ → Bool
+has_lane identifier lane = nat_le lane (most_lanes identifier)
 
--- of a lane that the module has
-unfoldable pub lane_entries : Memory → List ℕ → Item → ℕ → List Entry
-lane_entries memory name item lane = if has_lane memory lane then fact_entries name (Lane lane) (fact_at memory item lane) else []
+-- of a lane of a bank, from the memory of the bank's lanes, if a module with this identifier has such a lane
+unfoldable pub lane_entries : ℕ → List ℕ → Item → ℕ → Memory → ℕ → List Entry
+lane_entries identifier name item bank lanes i = if has_lane identifier i then fact_entries name (Lane (8 * bank + i)) (fact_at lanes bank item i) else []
 
--- of these values
-abbrev pub values_entries : Memory → List ℕ → Item → Values → List Entry
-values_entries memory name item (One i) = fact_entries name Module (fact_at memory item i)
-values_entries memory name item (Lanes n) = flat_map (lane_entries memory name item) (range_with_len 1 n)
+abbrev pub bank_entries : ℕ → List ℕ → Item → ℕ → ℕ → Memory → List Entry
+bank_entries identifier name item n bank lanes = flat_map (lane_entries identifier name item bank lanes) (range_with_len 1 n)
+
+-- of these values, with the lanes of bank 0 and of these further banks
+abbrev pub values_entries : Memory → List ℕ → List ℕ → Item → Values → List Entry
+values_entries memory banks name item (One i) = fact_entries name Module (fact_at memory 0 item i)
+values_entries memory banks name item (Lanes n) = over_banks memory banks (bank_entries (number memory CIdentifier) name item n)
 
 abbrev pub is_within : ℕ → ℕ → ℕ → Bool
 is_within low high n = nat_le low n && nat_le n high
@@ -186,8 +190,8 @@ applies memory (LacksSince field i since first) = not (bit_at memory field i) &&
 abbrev pub is_left_out : Memory → Bool → Row → Bool
 is_left_out memory flat row = row.paged && flat || list_any (applies memory) row.cases
 
-unfoldable pub row_entries : Memory → Bool → Row → List Entry
-row_entries memory flat row = if is_left_out memory flat row then [] else values_entries memory row.name row.item row.values
+unfoldable pub row_entries : Memory → List ℕ → Bool → Row → List Entry
+row_entries memory banks flat row = if is_left_out memory flat row then [] else values_entries memory banks row.name row.item row.values
 
-abbrev pub rows_entries : Memory → Bool → List Row → List Entry
-rows_entries memory flat rows = flat_map (row_entries memory flat) rows
+abbrev pub rows_entries : Memory → List ℕ → Bool → List Row → List Entry
+rows_entries memory banks flat rows = flat_map (row_entries memory banks flat) rows

@@ -9,7 +9,7 @@ use crate::tables::{cmis_table, qsfp_table, sfp_table};
 use field_tables::{Field, bit};
 use module_decoding::is_flat;
 use paged_memory::Image;
-use report_entries::Entry;
+use report_entries::{Entry, further_banks};
 use std::alloc::{AllocError, Global};
 
 /// All that a CMIS module says of itself.
@@ -18,12 +18,19 @@ pub fn cmis_details(alloc: Global, image: &Image) -> Result<Vec<Entry>, AllocErr
     ensures { IfOk result (λ entries. as_entries entries ≡ cmis_entries image.now) }
 {
     let flat = is_flat(image);
+    let banks = further_banks(image, flat);
     let mut entries = Vec::new(alloc);
-    add_rows(&mut entries, image, flat, cmis_table::identity())?;
-    add_rows(&mut entries, image, flat, cmis_table::characteristics())?;
-    add_rows(&mut entries, image, flat, cmis_table::controls())?;
-    add_rows(&mut entries, image, flat, cmis_table::status())?;
-    add_rows(&mut entries, image, flat, cmis_table::lanes())?;
+    add_rows(&mut entries, image, banks, flat, cmis_table::identity())?;
+    add_rows(
+        &mut entries,
+        image,
+        banks,
+        flat,
+        cmis_table::characteristics(),
+    )?;
+    add_rows(&mut entries, image, banks, flat, cmis_table::controls())?;
+    add_rows(&mut entries, image, banks, flat, cmis_table::status())?;
+    add_rows(&mut entries, image, banks, flat, cmis_table::lanes())?;
     add_apps(&mut entries, image)?;
     Ok(entries)
 }
@@ -34,10 +41,10 @@ pub fn qsfp_details(alloc: Global, image: &Image) -> Result<Vec<Entry>, AllocErr
     ensures { IfOk result (λ entries. as_entries entries ≡ qsfp_entries image.now) }
 {
     let mut entries = Vec::new(alloc);
-    add_rows(&mut entries, image, false, qsfp_table::identity())?;
-    add_rows(&mut entries, image, false, qsfp_table::compliance())?;
-    add_rows(&mut entries, image, false, qsfp_table::options())?;
-    add_rows(&mut entries, image, false, qsfp_table::status())?;
+    add_rows(&mut entries, image, &[], false, qsfp_table::identity())?;
+    add_rows(&mut entries, image, &[], false, qsfp_table::compliance())?;
+    add_rows(&mut entries, image, &[], false, qsfp_table::options())?;
+    add_rows(&mut entries, image, &[], false, qsfp_table::status())?;
     Ok(entries)
 }
 
@@ -48,11 +55,23 @@ pub fn sfp_details(alloc: Global, image: &Image) -> Result<Vec<Entry>, AllocErro
 {
     let undiagnosed = lacks_diagnostics(image);
     let mut entries = Vec::new(alloc);
-    add_rows(&mut entries, image, undiagnosed, sfp_table::identity())?;
-    add_rows(&mut entries, image, undiagnosed, sfp_table::compliance())?;
-    add_rows(&mut entries, image, undiagnosed, sfp_table::options())?;
-    add_rows(&mut entries, image, undiagnosed, sfp_table::status())?;
-    add_rows(&mut entries, image, undiagnosed, sfp_table::calibrated())?;
+    add_rows(&mut entries, image, &[], undiagnosed, sfp_table::identity())?;
+    add_rows(
+        &mut entries,
+        image,
+        &[],
+        undiagnosed,
+        sfp_table::compliance(),
+    )?;
+    add_rows(&mut entries, image, &[], undiagnosed, sfp_table::options())?;
+    add_rows(&mut entries, image, &[], undiagnosed, sfp_table::status())?;
+    add_rows(
+        &mut entries,
+        image,
+        &[],
+        undiagnosed,
+        sfp_table::calibrated(),
+    )?;
     Ok(entries)
 }
 

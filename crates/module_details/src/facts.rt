@@ -17,11 +17,12 @@ use module_decoding::{amount_at, length_in, trimmed, unit_of};
 use paged_memory::Image;
 use report_entries::{Fact, PrintedUnit};
 
-/// The fact of value `index` of an item's field, if there is anything to say.
+/// The fact of value `index` of an item's field, if there is anything to say. The image has this bank's lanes.
 #[tactic(auto, unfolding(crate::specs::Details::fact_at))]
-pub fn fact_at(image: &Image, item: &Item<&'static str>, index: u8) -> Option<Fact>
-    requires { IsTrue (item_fits (item_in item.now) index) }
-    ensures { option_map fact_of result ≡ spec.fact_at image.now (item_in item.now) index }
+pub fn fact_at(image: &Image, bank: u8, item: &Item<&'static str>, index: u8) -> Option<Fact>
+    requires bank { bank ≤ 3 }
+    requires item { IsTrue (item_fits (item_in item.now) index) }
+    ensures { option_map fact_of result ≡ spec.fact_at image.now bank (item_in item.now) index }
 {
     match *item {
         Item::Word(word) => Some(Fact::Word(word)),
@@ -76,10 +77,8 @@ pub fn fact_at(image: &Image, item: &Item<&'static str>, index: u8) -> Option<Fa
         Item::PathState(field) => Some(Fact::PathState(number_at(image, field, index))),
         Item::ConfigStatus(field) => Some(Fact::ConfigStatus(number_at(image, field, index))),
         Item::FirstLane(apps, paths) => {
-            first_lane_if_any(
-                number_at(image, apps, index),
-                number_at(image, paths, index),
-            )
+            let app = number_at(image, apps, index);
+            first_lane_if_any(bank, app, number_at(image, paths, index))
         }
         Item::BitRate(rate, more) => {
             bit_rate_if_any(number_at(image, rate, 1), number_at(image, more, 1))
@@ -223,11 +222,13 @@ fn milliwatts_if_any(power: Option<u16>) -> Option<Fact>
     }
 }
 
-fn first_lane_if_any(app: u8, path: u8) -> Option<Fact>
-    ensures { option_map fact_of result ≡ spec.first_lane_fact app path }
+fn first_lane_if_any(bank: u8, app: u8, path: u8) -> Option<Fact>
+    requires { bank ≤ 3 }
+    ensures { option_map fact_of result ≡ spec.first_lane_fact bank app path }
 {
     if app > 0 {
-        Some(Fact::Number(u16::from(path) + 1))
+        let lane = 8 * u16::from(bank) + (u16::from(path) + 1);
+        Some(Fact::Number(lane))
     } else {
         None
     }

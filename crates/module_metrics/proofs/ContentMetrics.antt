@@ -91,13 +91,13 @@ lane_right : (common : List Label) → AreAdded common → (unit : PrintedUnit) 
 unfolding lane_sample sample label
 lane_right common added unit l = labels_right common (label (codes "lane") (decimal l.0) ∷ []) added lane_own (tt, tt)
 
-lanes_apart : (unit : PrintedUnit) (values : List ℤ) → length values ≤ 8 → AreApart (map labels_of (lane_samples unit values))
+lanes_apart : (unit : PrintedUnit) (values : List ℤ) → length values ≤ 32 → AreApart (map labels_of (lane_samples unit values))
 unfolding lane_sample sample label
 lanes_apart unit values few =
     subst (λ ls. AreApart ls) (fused (lane_sample unit) labels_of (enumerate_from 1 values))
     (numbered_apart (λ (l : ℕ × ℤ). label (codes "lane") (decimal l.0) ∷ []) (λ l. refl) 1 values (omega (arith, few)))
 
-pub lanes_right : (common : List Label) → AreAdded common → (name : List ℕ) (unit : PrintedUnit) (values : List ℤ) → length values ≤ 8 → IsMetric common (lanes_metric name unit values)
+pub lanes_right : (common : List Label) → AreAdded common → (name : List ℕ) (unit : PrintedUnit) (values : List ℤ) → length values ≤ 32 → IsMetric common (lanes_metric name unit values)
 unfolding lanes_metric metric
 lanes_right common added name unit values few = record {
   named = amount_named Lane name unit;
@@ -153,13 +153,13 @@ path_right : (common : List Label) → AreAdded common → (l : ℕ × LaneState
 unfolding path_sample sample label
 path_right common added l = labels_right common _ added path_own (tested (codes "lane" ∷ codes "state" ∷ []) refl)
 
-paths_apart : (states : List LaneState) → length states ≤ 8 → AreApart (map labels_of (map path_sample (enumerate_from 1 states)))
+paths_apart : (states : List LaneState) → length states ≤ 32 → AreApart (map labels_of (map path_sample (enumerate_from 1 states)))
 unfolding path_sample sample label
 paths_apart states few =
     subst (λ ls. AreApart ls) (fused path_sample labels_of (enumerate_from 1 states))
     (numbered_apart (λ (l : ℕ × LaneState). labels_of (path_sample l)) (λ l. refl) 1 states (omega (arith, few)))
 
-pub paths_right : (common : List Label) → AreAdded common → (states : List LaneState) → length states ≤ 8 → IsMetric common (paths_metric states)
+pub paths_right : (common : List Label) → AreAdded common → (states : List LaneState) → length states ≤ 32 → IsMetric common (paths_metric states)
 unfolding paths_metric metric paths_name paths_help
 paths_right common added states few = record {
   named = refl;
@@ -172,13 +172,13 @@ status_right : (common : List Label) → AreAdded common → (l : ℕ × LaneSta
 unfolding status_sample sample label
 status_right common added l = labels_right common _ added status_own (tested (codes "lane" ∷ codes "status" ∷ []) refl)
 
-statuses_apart : (states : List LaneState) → length states ≤ 8 → AreApart (map labels_of (map status_sample (enumerate_from 1 states)))
+statuses_apart : (states : List LaneState) → length states ≤ 32 → AreApart (map labels_of (map status_sample (enumerate_from 1 states)))
 unfolding status_sample sample label
 statuses_apart states few =
     subst (λ ls. AreApart ls) (fused status_sample labels_of (enumerate_from 1 states))
     (numbered_apart (λ (l : ℕ × LaneState). labels_of (status_sample l)) (λ l. refl) 1 states (omega (arith, few)))
 
-pub statuses_right : (common : List Label) → AreAdded common → (states : List LaneState) → length states ≤ 8 → IsMetric common (statuses_metric states)
+pub statuses_right : (common : List Label) → AreAdded common → (states : List LaneState) → length states ≤ 32 → IsMetric common (statuses_metric states)
 unfolding statuses_metric metric statuses_name statuses_help
 statuses_right common added states few = record {
   named = refl;
@@ -245,10 +245,10 @@ all_flags_right common added shown apart =
 
 -- ---- what an entry says
 
--- no more lanes than eight, and no flag twice
+-- no more lanes than four banks have, and no flag twice
 abbrev pub IsPlain : Content → Type 0
-IsPlain (lanes values unit) = length values ≤ 8
-IsPlain (lane_states states) = length states ≤ 8
+IsPlain (lanes values unit) = length values ≤ 32
+IsPlain (lane_states states) = length states ≤ 32
 IsPlain (flags raised) = AreApart (map flag_labels (each_raised raised))
 IsPlain (word w) = ⊤
 IsPlain (right is_right) = ⊤

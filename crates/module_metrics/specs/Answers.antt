@@ -3,11 +3,12 @@
 use Rattle.std.specs.Prelude.{ℕ, ◌++◌, Bool, if◌then◌else◌, get_or, List, [], Option, Some, option_map}
 use Rattle.std.specs.Option.{option_or}
 use Rattle.paged_memory.specs.Images.{Memory}
+use Rattle.module_decoding.specs.declared.report.Report.TheVariants.{Flags, Monitors}
 use Rattle.report_entries.specs.declared.flag.Flag.{Flag}
 use Rattle.report_entries.specs.Shown.{printable}
 use Rattle.reports.specs.declared.fault.ReportFault.{ReportFault}
 use Rattle.reports.specs.FaultWords.{report_fault_words}
-use Rattle.reports.specs.Reports.{flag_states, flags_entries, flags_fault, inventory_entries, inventory_fault, monitors_entries, monitors_fault}
+use Rattle.reports.specs.Reports.{all_lanes_entries, all_lanes_flag_states, flags_fault, inventory_entries, inventory_fault, monitors_fault}
 use Rattle.module_metrics.specs.Exposition.{Label, Metric, exposition}
 use Rattle.module_metrics.specs.ModuleMetrics.{fault_metrics, module_metrics}
 use Rattle.module_metrics.specs.Unless.{unless}
@@ -23,15 +24,15 @@ first_fault memory = option_or (option_or (inventory_fault memory) (monitors_fau
 
 -- each flag with its state, only if that is requested
 unfoldable pub requested_flags : Bool → Memory → List (Flag × Bool)
-requested_flags all memory = if all then unless (flags_fault memory) (flag_states memory) else []
+requested_flags all memory = if all then unless (flags_fault memory) (all_lanes_flag_states memory) else []
 
--- with those of VDM, or without
+-- with the lanes of all banks; with those of VDM, or without
 unfoldable pub metrics_of : Bool → Bool → Memory → List Metric
 metrics_of all with_vdm memory =
     module_metrics all (requested_flags all memory)
     (unless (inventory_fault memory) (inventory_entries memory))
-    (unless (monitors_fault memory) (monitors_entries memory))
-    (unless (flags_fault memory) (flags_entries memory))
+    (unless (monitors_fault memory) (all_lanes_entries Monitors memory))
+    (unless (flags_fault memory) (all_lanes_entries Flags memory))
     (option_map code_of (first_fault memory))
     ++ listed_metrics with_vdm memory
 

@@ -52,7 +52,7 @@ pub fn add_lanes(
     unit: PrintedUnit,
     values: &[i64],
 ) -> Result<(), AllocError>
-    requires { length values.now ≤ 8 }
+    requires { length values.now ≤ 32 }
     ensures { OnOk result (metrics_in metrics.new
         ≡ metrics_in metrics.old ++ lanes_metric name.now unit values.now ∷ []) }
 {
@@ -61,7 +61,7 @@ pub fn add_lanes(
 }
 
 fn lane_samples(alloc: Global, unit: PrintedUnit, values: &[i64]) -> Result<Vec<Sample>, AllocError>
-    requires { length values.now ≤ 8 }
+    requires { length values.now ≤ 32 }
     ensures { IfOk result (λ samples. samples_in samples ≡ lane_samples unit values.now) }
 {
     let mut samples = no_samples(alloc);

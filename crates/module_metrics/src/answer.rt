@@ -1,11 +1,12 @@
 // What is answered to an image.
 ghost use Rattle.std.specs.Prelude.{◌≡◌, ◌++◌, [], List, Option, IfErr, IfOk, OnOk, None, Some, get_or, option_map, map};
 ghost use Rattle.std.specs.Option.{option_or};
+ghost use Rattle.module_decoding.specs.declared.report.Report.TheVariants.{Flags, Monitors};
 ghost use Rattle.report_entries.specs.Entries.{Entry as SpecEntry, as_entries, entry_of};
 ghost use Rattle.reports.specs.declared.fault.ReportFault.{ReportFault as SpecFault};
 ghost use Rattle.reports.specs.declared.fault.ReportFault.TheVariants.{Memory};
 ghost use Rattle.reports.specs.Answered.{AreEntries};
-ghost use Rattle.reports.specs.Reports.{flags_entries, flags_fault, inventory_entries, inventory_fault, monitors_entries, monitors_fault};
+ghost use Rattle.reports.specs.Reports.{all_lanes_entries, flags_fault, inventory_entries, inventory_fault, monitors_fault};
 ghost use Rattle.module_metrics.specs.AddedLabels.{AreAdded};
 ghost use Rattle.module_metrics.specs.Answers.{code_of, fault_text, first_fault, metrics_of, requested_flags};
 ghost use Rattle.module_metrics.specs.Unless.{unless};
@@ -21,7 +22,9 @@ use crate::scale::Scale;
 use crate::vdm_metrics::add_listed;
 use paged_memory::Image;
 use report_entries::{Entry, Flag, TextIn};
-use reports::{ReportFault, flag_states, flags_entries, inventory_entries, monitors_entries};
+use reports::{
+    ReportFault, all_lanes_flag_states, all_lanes_flags, all_lanes_monitors, inventory_entries,
+};
 use std::alloc::{AllocError, Global};
 use text_lines::{PrintedWords, ToWords};
 
@@ -87,30 +90,30 @@ fn identity(
     entries_or_none(alloc, first, inventory_entries(alloc, image))
 }
 
-// What it measures.
+// What it measures, on the lanes of all banks.
 fn measured(
     alloc: Global,
     image: &Image,
     first: &mut Option<ReportFault>,
 ) -> Result<Vec<Entry>, ReportFault>
-    ensures entries { IfOk result (λ found. as_entries found ≡ unless (monitors_fault image.now) (monitors_entries image.now)) }
+    ensures entries { IfOk result (λ found. as_entries found ≡ unless (monitors_fault image.now) (all_lanes_entries Monitors image.now)) }
     ensures first { OnOk result (first.new ≡ option_or first.old (monitors_fault image.now)) }
     ensures memory { IfErr result (λ refusal. refusal ≡ Memory) }
 {
-    entries_or_none(alloc, first, monitors_entries(alloc, image))
+    entries_or_none(alloc, first, all_lanes_monitors(alloc, image))
 }
 
-// Its states, and the flags that are raised.
+// Its states, and the flags that are raised, on the lanes of all banks.
 fn warned(
     alloc: Global,
     image: &Image,
     first: &mut Option<ReportFault>,
 ) -> Result<Vec<Entry>, ReportFault>
-    ensures entries { IfOk result (λ found. as_entries found ≡ unless (flags_fault image.now) (flags_entries image.now)) }
+    ensures entries { IfOk result (λ found. as_entries found ≡ unless (flags_fault image.now) (all_lanes_entries Flags image.now)) }
     ensures first { OnOk result (first.new ≡ option_or first.old (flags_fault image.now)) }
     ensures memory { IfErr result (λ refusal. refusal ≡ Memory) }
 {
-    entries_or_none(alloc, first, flags_entries(alloc, image))
+    entries_or_none(alloc, first, all_lanes_flags(alloc, image))
 }
 
 // The entries of a report, none if it has a fault, which is kept if it is the first.
@@ -165,7 +168,7 @@ fn requested_flags(
     if !all {
         return Ok(Vec::new(alloc));
     }
-    match flag_states(alloc, image) {
+    match all_lanes_flag_states(alloc, image) {
         Ok(flags) => Ok(flags),
         Err(fault) => match fault {
             ReportFault::Memory => Err(fault),

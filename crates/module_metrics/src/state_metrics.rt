@@ -61,7 +61,7 @@ pub fn add_lane_states(
     metrics: &mut Vec<Metric>,
     states: &[LaneState],
 ) -> Result<(), AllocError>
-    requires { length states.now ≤ 8 }
+    requires { length states.now ≤ 32 }
     ensures { OnOk result (metrics_in metrics.new
         ≡ metrics_in metrics.old ++ (paths_metric states.now ∷ statuses_metric states.now ∷ [])) }
 {
@@ -75,7 +75,7 @@ fn add_paths(
     metrics: &mut Vec<Metric>,
     states: &[LaneState],
 ) -> Result<(), AllocError>
-    requires { length states.now ≤ 8 }
+    requires { length states.now ≤ 32 }
     ensures { OnOk result (metrics_in metrics.new ≡ metrics_in metrics.old ++ paths_metric states.now ∷ []) }
 {
     let name = "dovecounter_lane_data_path_state";
@@ -85,7 +85,7 @@ fn add_paths(
 }
 
 fn path_samples(alloc: Global, states: &[LaneState]) -> Result<Vec<Sample>, AllocError>
-    requires { length states.now ≤ 8 }
+    requires { length states.now ≤ 32 }
     ensures { IfOk result (λ samples. samples_in samples ≡ map path_sample (enumerate_from 1 states.now)) }
 {
     let mut samples = no_samples(alloc);
@@ -116,7 +116,7 @@ fn add_statuses(
     metrics: &mut Vec<Metric>,
     states: &[LaneState],
 ) -> Result<(), AllocError>
-    requires { length states.now ≤ 8 }
+    requires { length states.now ≤ 32 }
     ensures { OnOk result (metrics_in metrics.new ≡ metrics_in metrics.old ++ statuses_metric states.now ∷ []) }
 {
     let name = "dovecounter_lane_config_status";
@@ -126,7 +126,7 @@ fn add_statuses(
 }
 
 fn status_samples(alloc: Global, states: &[LaneState]) -> Result<Vec<Sample>, AllocError>
-    requires { length states.now ≤ 8 }
+    requires { length states.now ≤ 32 }
     ensures { IfOk result (λ samples. samples_in samples ≡ map status_sample (enumerate_from 1 states.now)) }
 {
     let mut samples = no_samples(alloc);

@@ -14,6 +14,7 @@ pub mod EntryText
 pub mod JsonTrees
 pub mod JsonScalars
 pub mod EntryJson
+pub mod Banks
 pub mod Rows
 pub mod RowTables
 pub mod FlagRows

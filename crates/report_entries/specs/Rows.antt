@@ -1,5 +1,5 @@
 -- The entries that the rows of a report make of a module's memory. (docs/formats.md, "Reports"; this project's own)
-use Rattle.std.specs.Prelude.{ℕ, ◌+◌, ◌==◌, ◌&&◌, if◌then◌else◌, Bool, true, false, nat_le, is_some, List, [], ◌∷◌, map, Option, Some, None}
+use Rattle.std.specs.Prelude.{ℕ, ℤ, ◌+◌, ◌==◌, ◌&&◌, if◌then◌else◌, Bool, true, false, nat_le, is_some, List, [], ◌∷◌, map, Option, Some, None}
 use Rattle.std.specs.List.{find, flat_map, list_all, range_with_len}
 use Rattle.paged_memory.specs.Images.{Memory}
 use Rattle.field_tables.specs.declared.field.Field.{Field}
@@ -10,6 +10,7 @@ use Rattle.field_tables.specs.FieldValues.{of_each}
 use Rattle.field_tables.specs.Readings as readings
 use Rattle.field_tables.specs.Readings.{all_numbers, is_of_bytes, is_sum_right}
 use Rattle.module_decoding.specs.Amounts.{amount_at, is_power, length_in, limit_amounts, power_fits, unit_of}
+use Rattle.report_entries.specs.Banks.{over_banks}
 use Rattle.report_entries.specs.Entries.{Entry, Content, entry, word, right, number, code, revision, text, oui, amount, lanes, limits, state, lane_states}
 use Rattle.report_entries.specs.PrintedUnits.{printed_in}
 use Rattle.report_entries.specs.declared.entry.LaneState.{LaneState}
@@ -41,7 +42,7 @@ pub data Source : Type 0 where
   Limits : Field → Option Field → Source
   -- the state of the module
   State : Field → Source
-  -- for each of eight lanes: the state of its data path, and by the second field the status of its configuration
+  -- for each of the eight lanes of a bank: the state of its data path, and by the second field the status of its configuration
   LaneStates : Field → Field → Source
 
 -- what stands in place of the source if a field has this number: nothing, or a word
@@ -72,23 +73,32 @@ printed_unit field = printed_in (unit_of field)
 abbrev pub lane_state_at : Memory → Field → Field → ℕ → LaneState
 lane_state_at memory paths statuses lane = record { path = readings.number_at memory paths lane; status = readings.number_at memory statuses lane }
 
--- ---- the entries of rows
+-- ---- what is read of lanes
 
-unfoldable pub source_content : Memory → Source → Content
-source_content memory (Word w) = word w
-source_content memory (Either field one other) = word (if readings.number memory field == 1 then one else other)
-source_content memory (Code field) = code (readings.number memory field)
-source_content memory (Revision field) = revision (readings.number memory field)
-source_content memory (Next field) = number (readings.number memory field + 1)
-source_content memory (Text field) = text (readings.text memory field)
-source_content memory (Oui field) = oui (all_numbers memory field)
-source_content memory (Right sum) = right (is_sum_right memory sum)
-source_content memory (Amount field) = amount (amount_at memory field None 1) (printed_unit field)
-source_content memory (Length base power) = amount (length_in memory base power) Metre
-source_content memory (Lanes field power) = lanes (of_each field (amount_at memory field power)) (printed_unit field)
-source_content memory (Limits field power) = limits (limit_amounts memory field power) (printed_unit field)
-source_content memory (State field) = state (readings.number memory field)
-source_content memory (LaneStates paths statuses) = lane_states (map (lane_state_at memory paths statuses) (range_with_len 1 8))
+-- of those of bank 0 and of these further banks
+abbrev pub amounts_in : Memory → List ℕ → Field → Option Field → List ℤ
+amounts_in memory banks field power = over_banks memory banks (λ bank lanes. of_each field (amount_at lanes field power))
+
+abbrev pub states_in : Memory → List ℕ → Field → Field → List LaneState
+states_in memory banks paths statuses = over_banks memory banks (λ bank lanes. map (lane_state_at lanes paths statuses) (range_with_len 1 8))
+
+-- ---- the entries of rows, with the lanes of bank 0 and of these further banks
+
+unfoldable pub source_content : Memory → List ℕ → Source → Content
+source_content memory banks (Word w) = word w
+source_content memory banks (Either field one other) = word (if readings.number memory field == 1 then one else other)
+source_content memory banks (Code field) = code (readings.number memory field)
+source_content memory banks (Revision field) = revision (readings.number memory field)
+source_content memory banks (Next field) = number (readings.number memory field + 1)
+source_content memory banks (Text field) = text (readings.text memory field)
+source_content memory banks (Oui field) = oui (all_numbers memory field)
+source_content memory banks (Right sum) = right (is_sum_right memory sum)
+source_content memory banks (Amount field) = amount (amount_at memory field None 1) (printed_unit field)
+source_content memory banks (Length base power) = amount (length_in memory base power) Metre
+source_content memory banks (Lanes field power) = lanes (amounts_in memory banks field power) (printed_unit field)
+source_content memory banks (Limits field power) = limits (limit_amounts memory field power) (printed_unit field)
+source_content memory banks (State field) = state (readings.number memory field)
+source_content memory banks (LaneStates paths statuses) = lane_states (states_in memory banks paths statuses)
 
 -- the field has this number
 abbrev pub applies : Memory → Instead → Bool
@@ -98,17 +108,17 @@ applies memory (Wording field n w) = readings.number memory field == n
 abbrev pub deciding : Memory → List Instead → Option Instead
 deciding memory cases = find (applies memory) cases
 
-abbrev pub decided_entries : Memory → Row → Option Instead → List Entry
-decided_entries memory row None = entry row.name (source_content memory row.source) ∷ []
-decided_entries memory row (Some (Nothing field n)) = []
-decided_entries memory row (Some (Wording field n w)) = entry row.name (word w) ∷ []
+abbrev pub decided_entries : Memory → List ℕ → Row → Option Instead → List Entry
+decided_entries memory banks row None = entry row.name (source_content memory banks row.source) ∷ []
+decided_entries memory banks row (Some (Nothing field n)) = []
+decided_entries memory banks row (Some (Wording field n w)) = entry row.name (word w) ∷ []
 
-unfoldable pub row_entries : Memory → Bool → Row → List Entry
-row_entries memory flat row = if row.paged && flat then [] else decided_entries memory row (deciding memory row.instead)
+unfoldable pub row_entries : Memory → List ℕ → Bool → Row → List Entry
+row_entries memory banks flat row = if row.paged && flat then [] else decided_entries memory banks row (deciding memory row.instead)
 
 -- of a module whose memory is flat or not
-abbrev pub rows_entries : Memory → Bool → List Row → List Entry
-rows_entries memory flat rows = flat_map (row_entries memory flat) rows
+abbrev pub rows_entries : Memory → List ℕ → Bool → List Row → List Entry
+rows_entries memory banks flat rows = flat_map (row_entries memory banks flat) rows
 
 -- ---- what each row keeps to
 

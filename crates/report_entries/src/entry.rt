@@ -10,6 +10,9 @@ use arrayvec::ArrayVec;
 use field_tables::{LaneSet, PerLimit};
 use std::alloc::AllocError;
 
+/// The most lanes that a module has: eight in each of four banks.
+pub const MAX_LANES: usize = 32;
+
 /// What stands under a name.
 #[derive(Drop)]
 pub enum Content {
@@ -27,13 +30,13 @@ pub enum Content {
     /// Thousandths of a unit.
     Amount(i64, PrintedUnit),
     /// The same of each lane, lane 1 first.
-    Lanes(ArrayVec<i64, 8>, PrintedUnit),
+    Lanes(ArrayVec<i64, MAX_LANES>, PrintedUnit),
     /// And of each limit.
     Limits(PerLimit<i64>, PrintedUnit),
     /// The state of the module, by its code.
     State(u8),
     /// Of each lane, lane 1 first.
-    LaneStates(ArrayVec<LaneState, 8>),
+    LaneStates(ArrayVec<LaneState, MAX_LANES>),
     /// The flags that are raised.
     Flags(Vec<Flag>),
     /// Applications by rising number.

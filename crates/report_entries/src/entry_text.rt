@@ -72,7 +72,7 @@ fn push_lanes(
     values: &[i64],
     unit: PrintedUnit,
 ) -> Result<(), AllocError>
-    requires { length values.now ≤ 8 }
+    requires { length values.now ≤ 32 }
     ensures { OnOk result (report.new ≡ report.old ++ text_of (lane_lines name.now unit values.now)) }
 {
     for (index, millis) in values.iter().enumerate() {
@@ -99,7 +99,7 @@ fn push_lane_states(
     name: &'static str,
     states: &[LaneState],
 ) -> Result<(), AllocError>
-    requires { length states.now ≤ 8 }
+    requires { length states.now ≤ 32 }
     ensures { OnOk result (report.new ≡ report.old ++ text_of (lane_state_lines name.now states.now)) }
 {
     for (index, state) in states.iter().enumerate() {

@@ -1,6 +1,7 @@
 //! The entries of a report, and how they are shown as text and as JSON. The reports are in the crate above.
 #![tactic(auto)]
 
+mod banks;
 mod entry;
 mod entry_json;
 mod entry_text;
@@ -22,6 +23,7 @@ mod shown_app;
 mod shown_fact;
 mod shown_state;
 
+pub use banks::further_banks;
 pub use entry::{Content, Entry, LaneState, add_entry};
 pub use entry_json::{json, put_count, put_shown};
 pub use entry_text::text;

@@ -7,6 +7,9 @@ pub mod SameFamilies
 pub mod SameApps
 mod SameDetailRows
 pub mod SameIf
+pub mod BankLanes
+pub mod SameBanks
+pub mod LaneDigits
 pub mod SameContents
 pub mod FetchedReports
 pub mod SameRows

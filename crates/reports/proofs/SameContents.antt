@@ -1,5 +1,5 @@
 -- Memories that agree in the halves that a report needs have the same report, and those of their family the same details.
-use Rattle.std.proofs.Common.{◌≡◌, ◌∙◌, ◌&&◌, ℕ, Bool, true, false, List, [], ◌∷◌, ◌++◌, Option, Some, None, map, refl, ap, if◌then◌else◌}
+use Rattle.std.proofs.Common.{◌≡◌, ◌≢◌, ◌∙◌, ◌&&◌, ℕ, Bool, true, false, List, [], ◌∷◌, ◌++◌, append-nil, Option, Some, None, map, refl, sym, ap, subst, if◌then◌else◌}
 use Rattle.std.proofs.lemmas.Bool.{and_from, not-false}
 use Rattle.std.specs.Prelude.{not}
 use Rattle.std.specs.Option.{option_or}
@@ -37,6 +37,7 @@ use Rattle.module_details.specs.CmisDetails as cmis
 use Rattle.module_details.specs.QsfpDetails as qsfp
 use Rattle.module_details.specs.SfpDetails as sfp
 use Rattle.module_details.specs.Families.{cmis_entries, qsfp_entries, sfp_entries, tables_entries}
+use Rattle.report_entries.specs.Banks.{further_banks}
 use Rattle.report_entries.specs.FlagRows.{flags_entry, rows_flags}
 use Rattle.report_entries.specs.Flags.{raised}
 use Rattle.report_entries.specs.Rows.{rows_entries}
@@ -47,11 +48,12 @@ use Rattle.reports.specs.Families as refusals
 use Rattle.reports.specs.FlagRows as flags
 use Rattle.reports.specs.InventoryRows as inventory
 use Rattle.reports.specs.MonitorRows as monitors
-use Rattle.reports.specs.Reports.{entries_in, entries_of, flag_rows_of, flags_fault, flag_states, is_flat_in, report_fault, rows_of, family_entries, family_flags}
+use Rattle.reports.specs.Reports.{all_lanes_entries, all_lanes_flag_states, banks_in, entries_in, entries_of, flag_rows_of, flags_fault, is_flat_in, report_fault, rows_of, family_entries, family_flags}
 use Rattle.reports.specs.SameReports.{IsSame}
 use Rattle.reports.proofs.SameApps.{advertised_same, details_of, details_same}
 use Rattle.reports.proofs.SameDetailRows.{tables_same}
-use Rattle.reports.proofs.SameFamilies.{AllAgree, FamilyAgrees, by_told, family_agrees, is_managed, keys_by, low_agrees, none_applies, none_mapped, same_found, same_renamed, same_told}
+use Rattle.reports.proofs.SameBanks.{BanksAgree, Further, bank_keys, flat_banks_same, further_agree, no_further, numbered, numbers, paged_banks_same, up_to_1, up_to_2, with_more}
+use Rattle.reports.proofs.SameFamilies.{AllAgree, FamilyAgrees, LanesAgree, by_told, family_agrees, is_managed, keys_by, low_agrees, none_applies, none_mapped, same_found, same_renamed, same_told}
 use Rattle.reports.proofs.SameIf.{KeysAgree, SameIf, absent_read, and_if, by, each_agree, first, is_among}
 use Rattle.reports.proofs.SameRows.{flag_rows_same, rows_same}
 
@@ -65,20 +67,56 @@ keys_of Sff8472 Inventory flat = lower_key A0 ∷ []
 keys_of Sff8472 report flat = keys_by Sff8472 true
 
 module _ {a b : Memory} where
-  lines_in : (report : Report) (family : Family) (flat : Bool) (agree : KeysAgree a b (keys_of family report flat)) → (rows_same agree flat (rows_of report family)).test ≡ true
-  unfolding rows_same inventory.cmis_rows monitors.cmis_rows flags.state_rows inventory.qsfp_rows inventory.sfp_rows monitors.qsfp_rows monitors.sfp_rows
-  lines_in Inventory Cmis true agree = refl
-  lines_in Inventory Sff8636 true agree = refl
-  lines_in Monitors Cmis true agree = refl
-  lines_in Monitors Sff8636 true agree = refl
-  lines_in Flags Cmis true agree = refl
-  lines_in _ _ _ agree = refl
+  -- with these further banks
+  cmis_lines_in : (report : Report) (flat : Bool) (further : Further) (agree : KeysAgree a b (keys_by Cmis flat ++ bank_keys (numbers further))) → (rows_same agree (numbers further) flat (rows_of report Cmis)).test ≡ true
+  unfolding rows_same inventory.cmis_rows monitors.cmis_rows flags.state_rows
+  cmis_lines_in Inventory true no_further agree = refl
+  cmis_lines_in Inventory true up_to_1 agree = refl
+  cmis_lines_in Inventory true up_to_2 agree = refl
+  cmis_lines_in Inventory false no_further agree = refl
+  cmis_lines_in Inventory false up_to_1 agree = refl
+  cmis_lines_in Inventory false up_to_2 agree = refl
+  cmis_lines_in Monitors true no_further agree = refl
+  cmis_lines_in Monitors true up_to_1 agree = refl
+  cmis_lines_in Monitors true up_to_2 agree = refl
+  cmis_lines_in Monitors false no_further agree = refl
+  cmis_lines_in Monitors false up_to_1 agree = refl
+  cmis_lines_in Monitors false up_to_2 agree = refl
+  cmis_lines_in Flags true no_further agree = refl
+  cmis_lines_in Flags true up_to_1 agree = refl
+  cmis_lines_in Flags true up_to_2 agree = refl
+  cmis_lines_in Flags false no_further agree = refl
+  cmis_lines_in Flags false up_to_1 agree = refl
+  cmis_lines_in Flags false up_to_2 agree = refl
+  cmis_lines_in _ _ _ agree = refl
 
-  flags_in : (family : Family) (flat : Bool) (agree : KeysAgree a b (keys_of family Flags flat)) → (flag_rows_same agree flat (flag_rows_of family)).test ≡ true
-  unfolding flag_rows_same flags.cmis_rows flags.qsfp_rows flags.sfp_rows
-  flags_in Cmis true agree = refl
-  flags_in Sff8636 true agree = refl
-  flags_in _ _ agree = refl
+  lines_in : (report : Report) (family : Family) (flat : Bool) (agree : KeysAgree a b (keys_of family report flat)) → family ≢ Cmis → (rows_same agree [] flat (rows_of report family)).test ≡ true
+  unfolding rows_same inventory.qsfp_rows inventory.sfp_rows monitors.qsfp_rows monitors.sfp_rows
+  lines_in report Cmis flat agree other = absurd (other refl)
+  lines_in Inventory Sff8636 true agree other = refl
+  lines_in Inventory Sff8636 false agree other = refl
+  lines_in Monitors Sff8636 true agree other = refl
+  lines_in Monitors Sff8636 false agree other = refl
+  lines_in Flags Sff8636 flat agree other = refl
+  lines_in Inventory Sff8472 flat agree other = refl
+  lines_in Monitors Sff8472 flat agree other = refl
+  lines_in Flags Sff8472 flat agree other = refl
+
+  cmis_flags_in : (flat : Bool) (further : Further) (agree : KeysAgree a b (keys_by Cmis flat ++ bank_keys (numbers further))) → (flag_rows_same agree (numbers further) flat (flag_rows_of Cmis)).test ≡ true
+  unfolding flag_rows_same flags.cmis_rows
+  cmis_flags_in true no_further agree = refl
+  cmis_flags_in true up_to_1 agree = refl
+  cmis_flags_in true up_to_2 agree = refl
+  cmis_flags_in false no_further agree = refl
+  cmis_flags_in false up_to_1 agree = refl
+  cmis_flags_in false up_to_2 agree = refl
+  cmis_flags_in _ _ agree = refl
+
+  flags_in : (family : Family) (flat : Bool) (agree : KeysAgree a b (keys_of family Flags flat)) → family ≢ Cmis → (flag_rows_same agree [] flat (flag_rows_of family)).test ≡ true
+  unfolding flag_rows_same flags.qsfp_rows flags.sfp_rows
+  flags_in Cmis flat agree other = absurd (other refl)
+  flags_in Sff8636 true agree other = refl
+  flags_in _ _ agree other = refl
 
   -- pages that a CMIS module needs
   abbrev pages_same : {keys : List Key} → KeysAgree a b keys → (pages : List ℕ) → SameIf (absent_page pages a) (absent_page pages b)
@@ -100,25 +138,51 @@ module _ (a b : Memory) (low : Agree a b (lower_key A0)) where
   flat_same Sff8636 = same_told a b low Sff8636
   flat_same Sff8472 = refl
 
-  abbrev ReportAgrees : Report → Family → Type 0
-  ReportAgrees report family = KeysAgree a b (keys_of family report (is_flat_in family a))
+  -- the halves that a report reads of a module of this family, with the lanes of all banks or of bank 0
+  abbrev ReportAgrees : Bool → Report → Family → Type 0
+  ReportAgrees all_lanes report family = KeysAgree a b (keys_of family report (is_flat_in family a) ++ bank_keys (banks_in all_lanes family a))
 
-  lines_same : (report : Report) (family : Family) → ReportAgrees report family → family_entries report family a ≡ family_entries report family b
-  lines_same report family agree =
-      let flat = is_flat_in family a in
-      (rows_same agree flat (rows_of report family)).same (lines_in report family flat agree)
-      ∙ ap (λ (flat : Bool). rows_entries b flat (rows_of report family)) (flat_same family)
+  abbrev SameBanks : Bool → Family → Type 0
+  SameBanks all_lanes family = banks_in all_lanes family a ≡ banks_in all_lanes family b
 
-  flags_same : (family : Family) → ReportAgrees Flags family → family_flags family a ≡ family_flags family b
-  flags_same family agree =
-      let flat = is_flat_in family a in
-      (flag_rows_same agree flat (flag_rows_of family)).same (flags_in family flat agree)
-      ∙ ap (λ (flat : Bool). rows_flags b flat (flag_rows_of family)) (flat_same family)
+  no_more : {keys : List Key} → KeysAgree a b (keys ++ []) → KeysAgree a b keys
+  no_more {keys} agree = subst (λ (ks : List Key). KeysAgree a b ks) (append-nil keys) agree
 
-  contents_same : (report : Report) (family : Family) → ReportAgrees report family → entries_in report family a ≡ entries_in report family b
-  contents_same Inventory family agree = lines_same Inventory family agree
-  contents_same Monitors family agree = lines_same Monitors family agree
-  contents_same Flags family agree = let lines = lines_same Flags family agree in let states = flags_same family agree in λ i. lines i ++ flags_entry (raised (states i)) ∷ []
+  lines_same : (all_lanes : Bool) (report : Report) (family : Family) → SameBanks all_lanes family → ReportAgrees all_lanes report family → family_entries all_lanes report family a ≡ family_entries all_lanes report family b
+  lines_same all_lanes report Cmis banks agree =
+      let flat = is_flat a in
+      let found = numbered all_lanes flat a in
+      let further = found.0 in
+      let agrees : KeysAgree a b (keys_by Cmis flat ++ bank_keys (numbers further)) = subst (λ (numbers : List ℕ). KeysAgree a b (keys_by Cmis flat ++ bank_keys numbers)) (sym found.1) agree in
+      ap (λ (numbers : List ℕ). rows_entries a numbers flat (rows_of report Cmis)) (sym found.1)
+      ∙ (rows_same agrees (numbers further) flat (rows_of report Cmis)).same (cmis_lines_in report flat further agrees)
+      ∙ ap (λ (numbers : List ℕ). rows_entries b numbers flat (rows_of report Cmis)) (found.1 ∙ banks)
+      ∙ ap (λ (flat : Bool). rows_entries b (banks_in all_lanes Cmis b) flat (rows_of report Cmis)) (flat_same Cmis)
+  lines_same all_lanes report Sff8636 banks agree =
+      let flat = bit a QFlatMemory in
+      (rows_same (no_more agree) [] flat (rows_of report Sff8636)).same (lines_in report Sff8636 flat (no_more agree) (λ same. cc)) ∙ ap (λ (flat : Bool). rows_entries b [] flat (rows_of report Sff8636)) (flat_same Sff8636)
+  lines_same all_lanes report Sff8472 banks agree = (rows_same (no_more agree) [] false (rows_of report Sff8472)).same (lines_in report Sff8472 false (no_more agree) (λ same. cc))
+
+  flags_same : (all_lanes : Bool) (family : Family) → SameBanks all_lanes family → ReportAgrees all_lanes Flags family → family_flags all_lanes family a ≡ family_flags all_lanes family b
+  flags_same all_lanes Cmis banks agree =
+      let flat = is_flat a in
+      let found = numbered all_lanes flat a in
+      let further = found.0 in
+      let agrees : KeysAgree a b (keys_by Cmis flat ++ bank_keys (numbers further)) = subst (λ (numbers : List ℕ). KeysAgree a b (keys_by Cmis flat ++ bank_keys numbers)) (sym found.1) agree in
+      ap (λ (numbers : List ℕ). rows_flags a numbers flat (flag_rows_of Cmis)) (sym found.1)
+      ∙ (flag_rows_same agrees (numbers further) flat (flag_rows_of Cmis)).same (cmis_flags_in flat further agrees)
+      ∙ ap (λ (numbers : List ℕ). rows_flags b numbers flat (flag_rows_of Cmis)) (found.1 ∙ banks)
+      ∙ ap (λ (flat : Bool). rows_flags b (banks_in all_lanes Cmis b) flat (flag_rows_of Cmis)) (flat_same Cmis)
+  flags_same all_lanes Sff8636 banks agree =
+      let flat = bit a QFlatMemory in
+      (flag_rows_same (no_more agree) [] flat (flag_rows_of Sff8636)).same (flags_in Sff8636 flat (no_more agree) (λ same. cc)) ∙ ap (λ (flat : Bool). rows_flags b [] flat (flag_rows_of Sff8636)) (flat_same Sff8636)
+  flags_same all_lanes Sff8472 banks agree = (flag_rows_same (no_more agree) [] false (flag_rows_of Sff8472)).same (flags_in Sff8472 false (no_more agree) (λ same. cc))
+
+  contents_same : (all_lanes : Bool) (report : Report) (family : Family) → SameBanks all_lanes family → ReportAgrees all_lanes report family → entries_in all_lanes report family a ≡ entries_in all_lanes report family b
+  contents_same all_lanes Inventory family banks agree = lines_same all_lanes Inventory family banks agree
+  contents_same all_lanes Monitors family banks agree = lines_same all_lanes Monitors family banks agree
+  contents_same all_lanes Flags family banks agree =
+      let lines = lines_same all_lanes Flags family banks agree in let states = flags_same all_lanes family banks agree in λ i. lines i ++ flags_entry (raised (states i)) ∷ []
 
   -- ---- why there is none
 
@@ -153,7 +217,7 @@ module _ (a b : Memory) (low : Agree a b (lower_key A0)) where
     same_sfp_faults Flags =
         same_refusal a b sfp_refusals.flags_reasons refl (low, λ here. (low, λ of. (low, λ present. (low, λ unchanged. (diagnostics present unchanged, λ there. tt)))))
 
-    sfp_agrees : (report : Report) → sff8472_fault report a ≡ None → ReportAgrees report Sff8472
+    sfp_agrees : (report : Report) → sff8472_fault report a ≡ None → KeysAgree a b (keys_of Sff8472 report false)
     unfolding sfp_refusals.measured_fault sfp_refusals.flags_fault
     sfp_agrees Inventory none = each_agree a b (lower_key A0 ∷ []) (low, tt)
     sfp_agrees Monitors none = let applies = none_applies (map (judged a) sfp_refusals.measured_reasons) none in agree true (are_diagnosed applies.1.1.0 applies.1.1.1.0)
@@ -167,28 +231,47 @@ module _ (a b : Memory) (low : Agree a b (lower_key A0)) where
   faults_same report Sff8636 agree = ap of_sff (same_qsfp_faults agree report)
   faults_same report Sff8472 agree = ap of_sff (same_sfp_faults agree report)
 
-  report_agrees : (report : Report) (family : Family) → FamilyAgrees a b family → fault_in report family a ≡ None → ReportAgrees report family
-  report_agrees report Cmis agree none = agree (is_flat a) refl
-  report_agrees report Sff8636 agree none = agree (bit a QFlatMemory) refl
-  report_agrees report Sff8472 agree none = sfp_agrees agree report (none_mapped (λ (f : SffFault). Sff f) (sff8472_fault report a) none)
+  and_none : {keys : List Key} → KeysAgree a b keys → KeysAgree a b (keys ++ [])
+  and_none {keys} agree = subst (λ (ks : List Key). KeysAgree a b ks) (sym (append-nil keys)) agree
+
+  report_agrees : (all_lanes : Bool) → BanksAgree a b → (report : Report) (family : Family) → FamilyAgrees a b family → fault_in report family a ≡ None → ReportAgrees all_lanes report family
+  report_agrees all_lanes banks report Cmis agree none = with_more a b (keys_by Cmis (is_flat a)) (bank_keys (banks_in all_lanes Cmis a)) (agree (is_flat a) refl) (further_agree a b banks all_lanes (is_flat a))
+  report_agrees all_lanes banks report Sff8636 agree none = and_none (agree (bit a QFlatMemory) refl)
+  report_agrees all_lanes banks report Sff8472 agree none = and_none (sfp_agrees agree report (none_mapped (λ (f : SffFault). Sff f) (sff8472_fault report a) none))
+
+  same_banks : (all_lanes : Bool) → BanksAgree a b → (family : Family) → FamilyAgrees a b family → SameBanks all_lanes family
+  same_banks all_lanes banks Cmis agree = by (is_flat a) refl ∙ ap (λ (flat : Bool). if all_lanes then further_banks flat b else []) (flat_same Cmis) where
+    by : (flat : Bool) → is_flat a ≡ flat → (if all_lanes then further_banks flat a else []) ≡ (if all_lanes then further_banks flat b else [])
+    by true is = flat_banks_same a b all_lanes
+    by false is = paged_banks_same a b ((agree false is).half (upper_key A0 0 0x01) refl) banks all_lanes
+  same_banks all_lanes banks Sff8636 agree = refl
+  same_banks all_lanes banks Sff8472 agree = refl
 
 -- what is the same of each family, if its halves agree, is the same of any
-by_family : {A : Type 0} (report : Report) (content : Family → Memory → A) (a b : Memory) → AllAgree a b → ((low : Agree a b (lower_key A0)) (family : Family) → ReportAgrees a b low report family → content family a ≡ content family b)
+by_family : {A : Type 0} (all_lanes : Bool) (report : Report) (content : Family → Memory → A) (a b : Memory) → LanesAgree a b
+    → ((low : Agree a b (lower_key A0)) (family : Family) → SameBanks a b low all_lanes family → ReportAgrees a b low all_lanes report family → content family a ≡ content family b)
     → IsSame (report_fault report) (λ m. content (family_of m) m) a b
 unfolding report_fault fault_of families.module_fault family_of
-by_family report content a b all each =
-    let low = low_agrees a b all in
+by_family all_lanes report content a b lanes each =
+    let low = low_agrees a b lanes.all in
     same_renamed (λ (fault : DecodeFault). refusals.reported fault) (fault_of report) (λ m. content (family_of m) m) a b
-    (same_found family_by is_read_revision (λ (fault : ModuleFault). Module fault) (fault_in report) content a b all is_managed
-    (λ family agree. record { fault = faults_same a b low report family agree; content = λ none. each low family (report_agrees a b low report family agree none) }))
+    (same_found family_by is_read_revision (λ (fault : ModuleFault). Module fault) (fault_in report) content a b lanes.all is_managed
+    (λ family agree. record {
+      fault = faults_same a b low report family agree;
+      content = λ none. each low family (same_banks a b low all_lanes lanes.banks family agree) (report_agrees a b low all_lanes lanes.banks report family agree none);
+    }))
 
-pub same_report : (report : Report) (a b : Memory) → AllAgree a b → IsSame (report_fault report) (entries_of report) a b
+pub same_report : (report : Report) (a b : Memory) → LanesAgree a b → IsSame (report_fault report) (entries_of report) a b
 unfolding entries_of
-same_report report a b all = by_family report (entries_in report) a b all (λ low family agree. contents_same a b low report family agree)
+same_report report a b all = by_family false report (entries_in false report) a b all (λ low family banks agree. contents_same a b low false report family banks agree)
 
-pub same_flag_states : (a b : Memory) → AllAgree a b → IsSame flags_fault flag_states a b
-unfolding flag_states
-same_flag_states a b all = by_family Flags family_flags a b all (λ low family agree. flags_same a b low family agree)
+pub same_all_lanes : (report : Report) (a b : Memory) → LanesAgree a b → IsSame (report_fault report) (all_lanes_entries report) a b
+unfolding all_lanes_entries
+same_all_lanes report a b all = by_family true report (entries_in true report) a b all (λ low family banks agree. contents_same a b low true report family banks agree)
+
+pub same_flag_states : (a b : Memory) → LanesAgree a b → IsSame flags_fault all_lanes_flag_states a b
+unfolding all_lanes_flag_states
+same_flag_states a b all = by_family true Flags (family_flags true) a b all (λ low family banks agree. flags_same a b low true family banks agree)
 
 -- ---- what a module advertises
 
@@ -220,17 +303,40 @@ same_apps a b all =
 
 -- ---- details
 
-module _ (a b : Memory) (low : Agree a b (lower_key A0)) where
+module _ {a b : Memory} where
+  details_in : (flat : Bool) (further : Further) (agree : KeysAgree a b (keys_by Cmis flat ++ bank_keys (numbers further))) → (tables_same agree (numbers further) flat cmis.tables_of_rows).test ≡ true
+  unfolding tables_same cmis.identity_rows cmis.characteristics_rows cmis.controls_rows cmis.status_rows cmis.lanes_rows
+  details_in true no_further agree = refl
+  details_in true up_to_1 agree = refl
+  details_in true up_to_2 agree = refl
+  details_in false no_further agree = refl
+  details_in false up_to_1 agree = refl
+  details_in false up_to_2 agree = refl
+  details_in _ _ agree = refl
+
+module _ (a b : Memory) (low : Agree a b (lower_key A0)) (banks : BanksAgree a b) where
+  cmis_rows_same : FamilyAgrees a b Cmis → tables_entries a (further_banks (is_flat a) a) (is_flat a) cmis.tables_of_rows ≡ tables_entries b (further_banks (is_flat b) b) (is_flat b) cmis.tables_of_rows
+  cmis_rows_same agree =
+      let flat = is_flat a in
+      let found = numbered true flat a in
+      let further = found.0 in
+      let more = with_more a b (keys_by Cmis flat) (bank_keys (further_banks flat a)) (agree flat refl) (further_agree a b banks true flat) in
+      let agrees : KeysAgree a b (keys_by Cmis flat ++ bank_keys (numbers further)) = subst (λ (numbers : List ℕ). KeysAgree a b (keys_by Cmis flat ++ bank_keys numbers)) (sym found.1) more in
+      ap (λ (numbers : List ℕ). tables_entries a numbers flat cmis.tables_of_rows) (sym found.1)
+      ∙ (tables_same agrees (numbers further) flat cmis.tables_of_rows).same (details_in flat further agrees)
+      ∙ ap (λ (numbers : List ℕ). tables_entries b numbers flat cmis.tables_of_rows) (found.1 ∙ same_banks a b low true banks Cmis agree)
+      ∙ ap (λ (flat : Bool). tables_entries b (further_banks (is_flat b) b) flat cmis.tables_of_rows) (flat_same a b low Cmis)
+
   detail_entries_same : (family : Family) → FamilyAgrees a b family → details.entries_in family a ≡ details.entries_in family b
-  unfolding app_details.apps_entries details_same cmis_entries qsfp_entries sfp_entries tables_same cmis.identity_rows cmis.characteristics_rows cmis.controls_rows cmis.status_rows cmis.lanes_rows qsfp.identity_rows qsfp.compliance_rows qsfp.options_rows qsfp.status_rows sfp.identity_rows sfp.compliance_rows sfp.options_rows sfp.status_rows sfp.calibrated_rows
+  unfolding app_details.apps_entries details_same cmis_entries qsfp_entries sfp_entries tables_same qsfp.identity_rows qsfp.compliance_rows qsfp.options_rows qsfp.status_rows sfp.identity_rows sfp.compliance_rows sfp.options_rows sfp.status_rows sfp.calibrated_rows
   detail_entries_same Cmis agree =
-      let rows = by_told a b low Cmis (λ flat m. tables_entries m flat cmis.tables_of_rows) agree (λ flat agree. tables_same agree flat cmis.tables_of_rows) (λ agree. refl) (λ agree. refl) in
+      let rows = cmis_rows_same agree in
       let apps = by_told a b low Cmis (λ flat m. details_of m flat) agree (λ flat agree. details_same agree flat) (λ agree. refl) (λ agree. refl) in
       λ i. rows i ++ apps i
   detail_entries_same Sff8636 agree =
-      by_told a b low Sff8636 (λ flat m. tables_entries m false qsfp.tables_of_rows) agree (λ flat agree. tables_same agree false qsfp.tables_of_rows) (λ agree. refl) (λ agree. refl)
+      by_told a b low Sff8636 (λ flat m. tables_entries m [] false qsfp.tables_of_rows) agree (λ flat agree. tables_same agree [] false qsfp.tables_of_rows) (λ agree. refl) (λ agree. refl)
   detail_entries_same Sff8472 agree =
-      by_told a b low Sff8472 (λ diagnosed m. tables_entries m (not diagnosed) sfp.tables_of_rows) agree (λ diagnosed agree. tables_same agree (not diagnosed) sfp.tables_of_rows) (λ agree. refl) (λ agree. refl)
+      by_told a b low Sff8472 (λ diagnosed m. tables_entries m [] (not diagnosed) sfp.tables_of_rows) agree (λ diagnosed agree. tables_same agree [] (not diagnosed) sfp.tables_of_rows) (λ agree. refl) (λ agree. refl)
 
   details_fault_same : (family : Family) → FamilyAgrees a b family → details.fault_in family a ≡ details.fault_in family b
   unfolding pages_same
@@ -243,9 +349,9 @@ module _ (a b : Memory) (low : Agree a b (lower_key A0)) where
       (λ diagnosed agree. by (λ lacking. if lacking then Some (Absent (lower_key A2)) else None) (and_if (not (not diagnosed)) (absent_read agree (lower_key A2)))) (λ agree. refl) (λ agree. refl) in
       λ i. option_or (refusals.of_sff (same_sfp_faults a b low agree Inventory i)) (absent i)
 
-pub same_details : (a b : Memory) → AllAgree a b → IsSame details.details_fault details.details_entries a b
+pub same_details : (a b : Memory) → LanesAgree a b → IsSame details.details_fault details.details_entries a b
 unfolding details.details_fault details.details_entries refusals.detail_fault families.detail_fault families.detail_family_of
-same_details a b all =
-    let low = low_agrees a b all in
-    same_found managed_by families.is_detail_revision (λ (fault : ModuleFault). refusals.unread fault) details.fault_in details.entries_in a b all (λ id family is. is)
-    (λ family agree. record { fault = details_fault_same a b low family agree; content = λ none. detail_entries_same a b low family agree })
+same_details a b lanes =
+    let low = low_agrees a b lanes.all in
+    same_found managed_by families.is_detail_revision (λ (fault : ModuleFault). refusals.unread fault) details.fault_in details.entries_in a b lanes.all (λ id family is. is)
+    (λ family agree. record { fault = details_fault_same a b low lanes.banks family agree; content = λ none. detail_entries_same a b low lanes.banks family agree })

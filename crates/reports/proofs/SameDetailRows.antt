@@ -11,12 +11,13 @@ use Rattle.external_calibration.specs.declared.monitor.Monitor.{Monitor}
 use Rattle.field_tables.specs.declared.field.Field.{Field}
 use Rattle.field_tables.specs.declared.field.Field.TheVariants.{CIdentifier, QMaxPower, QPowerClass, QPowerClass8, QPowerClassHigh, SExternal, SOffsets, SRxPowerCoefficients, SSlopes}
 use Rattle.field_tables.specs.FieldRows.{row_of}
+use Rattle.field_tables.specs.Readings.{number}
 use Rattle.module_decoding.specs.Amounts.{amount_at, unit_of}
 use Rattle.module_details.specs.declared.item.Case.{Case}
 use Rattle.module_details.specs.declared.item.Case.TheVariants.{Within, Outside, Neither, LacksSince}
 use Rattle.module_details.specs.declared.item.Values.{Values}
 use Rattle.module_details.specs.declared.item.Values.TheVariants.{One, Lanes}
-use Rattle.module_details.specs.Details.{amount_fact, applies, bit_rate, bit_rate_fact, celsius_fact, fact_at, fact_entries, first_lane_fact, if_any, is_positive, is_within, lane_entries, level_fact, milliwatts_fact, most_lanes, name_if_set, name_of, named_fact, names_fact, names_of, pair_fact, percent_fact, row_entries, rows_entries, steps_fact, temperature_fact, text_fact, values_entries}
+use Rattle.module_details.specs.Details.{amount_fact, applies, bank_entries, bit_rate, bit_rate_fact, celsius_fact, fact_at, fact_entries, first_lane_fact, if_any, is_positive, is_within, lane_entries, level_fact, milliwatts_fact, most_lanes, name_if_set, name_of, named_fact, names_fact, names_of, pair_fact, percent_fact, row_entries, rows_entries, steps_fact, temperature_fact, text_fact, values_entries}
 use Rattle.module_details.specs.Details as details
 use Rattle.module_details.specs.Families.{tables_entries}
 use Rattle.module_details.specs.Measured as measured
@@ -27,7 +28,8 @@ use Rattle.report_entries.specs.Facts as facts
 use Rattle.report_entries.specs.PrintedUnits.{printed_in}
 use Rattle.report_entries.specs.declared.fact.Place.TheVariants.{Module, Lane}
 use Rattle.report_entries.specs.declared.printed_unit.PrintedUnit.TheVariants as units
-use Rattle.reports.proofs.SameIf.{KeysAgree, SameIf, always, amount_read, any, bit_read, by, by_two, choice, each, either, length_read, number_read, numbers_read, pair, text_read, value_read}
+use Rattle.reports.proofs.BankLanes.{lanes_agree}
+use Rattle.reports.proofs.SameIf.{KeysAgree, SameIf, always, amount_read, any, bit_read, by, by_two, choice, each, either, length_read, number_read, numbers_read, over_banks_same, pair, text_read, value_read}
 
 -- a row that is left out of flat memory, or where a test says so
 abbrev left_out : {A : Type 0} {s t : Bool} {u v : List A} (absent : Bool) → SameIf s t → SameIf u v → SameIf (if absent || s then [] else u) (if absent || t then [] else v)
@@ -79,41 +81,41 @@ module _ {a b : Memory} {keys : List Key} (agree : KeysAgree a b keys) where
 
   -- ---- what rows say
 
-  abbrev fact_same : (item : Item) (i : ℕ) → SameIf (fact_at a item i) (fact_at b item i)
+  abbrev fact_same : (bank : ℕ) (item : Item) (i : ℕ) → SameIf (fact_at a bank item i) (fact_at b bank item i)
   unfolding fact_at amount_at names_of class_same class_power calibrates constants_same measured_same measured_power_same
-  fact_same (Word w) i = always (Some (facts.word w))
-  fact_same (Either field one other) i = by (λ set. Some (facts.word (if set then one else other))) (bit_read agree field i)
-  fact_same (Yes field) i = by (λ set. Some (facts.yes set)) (bit_read agree field i)
-  fact_same (Named table field) i = by (λ n. Some (named_fact table n)) (number_read agree field i)
-  fact_same (Names table field first) i =
+  fact_same bank (Word w) i = always (Some (facts.word w))
+  fact_same bank (Either field one other) i = by (λ set. Some (facts.word (if set then one else other))) (bit_read agree field i)
+  fact_same bank (Yes field) i = by (λ set. Some (facts.yes set)) (bit_read agree field i)
+  fact_same bank (Named table field) i = by (λ n. Some (named_fact table n)) (number_read agree field i)
+  fact_same bank (Names table field first) i =
       by names_fact (each (name_if_set a table field first) (name_if_set b table field first)
       (λ i. by (λ set. if set then name_of table (first + (i - 1)) ∷ [] else []) (bit_read agree field i)) (range_with_len 1 (row_of field).count))
-  fact_same (Number field more) i = by (λ n. Some (facts.number (n + more))) (number_read agree field i)
-  fact_same (Revision field) i = by (λ n. Some (facts.revision n)) (number_read agree field i)
-  fact_same (Version field) i = by_two (λ major minor. Some (facts.version major minor)) (number_read agree field i) (number_read agree field (i + 1))
-  fact_same (Text field) i = by text_fact (text_read agree field)
-  fact_same (Oui field) i = by (λ bytes. Some (facts.oui bytes)) (numbers_read agree field)
-  fact_same (Amount field power) i = by (λ millis. Some (facts.amount millis (printed_in (unit_of field)))) (amount_read agree field power i)
-  fact_same (Steps field step unit) i = by (λ z. Some (steps_fact z step unit)) (value_read agree field i)
-  fact_same (StepsIfAny field step unit) i = by (λ z. if_any (is_positive z) (steps_fact z step unit)) (value_read agree field i)
-  fact_same (PairIfAny field step unit) i = by_two (λ high low. pair_fact (details.pair high low) step unit) (number_read agree field i) (number_read agree field (i + 1))
-  fact_same (TenthsIfAny base power unit) i = by (λ millis. amount_fact millis unit) (length_read agree base power)
-  fact_same (Celsius field) i = by (λ n. Some (celsius_fact n)) (number_read agree field i)
-  fact_same (Percent field) i = by (λ z. Some (percent_fact z)) (value_read agree field i)
-  fact_same (Temperature field) i = by (λ z. Some (temperature_fact z)) (value_read agree field i)
-  fact_same (Level field) i = by (λ n. Some (facts.level n)) (number_read agree field i)
-  fact_same (Milliwatts field) i = by (λ n. Some (facts.milliwatts n)) (number_read agree field i)
-  fact_same (Measured monitor field) i = measured_same monitor field i
-  fact_same (MeasuredLevel monitor field) i = by level_fact (measured_power_same monitor field i)
-  fact_same (MeasuredMilliwatts monitor field) i = by milliwatts_fact (measured_power_same monitor field i)
-  fact_same (Calibrates monitor) i = by (λ constants. Some (facts.yes (is_none (refusal_by constants monitor)))) constants_same
-  fact_same (ModuleState field) i = by (λ n. Some (facts.module_state n)) (number_read agree field i)
-  fact_same (PathState field) i = by (λ n. Some (facts.path_state n)) (number_read agree field i)
-  fact_same (ConfigStatus field) i = by (λ n. Some (facts.config_status n)) (number_read agree field i)
-  fact_same (FirstLane apps paths) i = by_two (λ app path. first_lane_fact app path) (number_read agree apps i) (number_read agree paths i)
-  fact_same (BitRate rate more) i = by_two (λ rate more. bit_rate_fact (bit_rate rate more)) (number_read agree rate 1) (number_read agree more 1)
-  fact_same PowerClass i = by (λ class. Some (facts.number class)) class_same
-  fact_same ClassPower i =
+  fact_same bank (Number field more) i = by (λ n. Some (facts.number (n + more))) (number_read agree field i)
+  fact_same bank (Revision field) i = by (λ n. Some (facts.revision n)) (number_read agree field i)
+  fact_same bank (Version field) i = by_two (λ major minor. Some (facts.version major minor)) (number_read agree field i) (number_read agree field (i + 1))
+  fact_same bank (Text field) i = by text_fact (text_read agree field)
+  fact_same bank (Oui field) i = by (λ bytes. Some (facts.oui bytes)) (numbers_read agree field)
+  fact_same bank (Amount field power) i = by (λ millis. Some (facts.amount millis (printed_in (unit_of field)))) (amount_read agree field power i)
+  fact_same bank (Steps field step unit) i = by (λ z. Some (steps_fact z step unit)) (value_read agree field i)
+  fact_same bank (StepsIfAny field step unit) i = by (λ z. if_any (is_positive z) (steps_fact z step unit)) (value_read agree field i)
+  fact_same bank (PairIfAny field step unit) i = by_two (λ high low. pair_fact (details.pair high low) step unit) (number_read agree field i) (number_read agree field (i + 1))
+  fact_same bank (TenthsIfAny base power unit) i = by (λ millis. amount_fact millis unit) (length_read agree base power)
+  fact_same bank (Celsius field) i = by (λ n. Some (celsius_fact n)) (number_read agree field i)
+  fact_same bank (Percent field) i = by (λ z. Some (percent_fact z)) (value_read agree field i)
+  fact_same bank (Temperature field) i = by (λ z. Some (temperature_fact z)) (value_read agree field i)
+  fact_same bank (Level field) i = by (λ n. Some (facts.level n)) (number_read agree field i)
+  fact_same bank (Milliwatts field) i = by (λ n. Some (facts.milliwatts n)) (number_read agree field i)
+  fact_same bank (Measured monitor field) i = measured_same monitor field i
+  fact_same bank (MeasuredLevel monitor field) i = by level_fact (measured_power_same monitor field i)
+  fact_same bank (MeasuredMilliwatts monitor field) i = by milliwatts_fact (measured_power_same monitor field i)
+  fact_same bank (Calibrates monitor) i = by (λ constants. Some (facts.yes (is_none (refusal_by constants monitor)))) constants_same
+  fact_same bank (ModuleState field) i = by (λ n. Some (facts.module_state n)) (number_read agree field i)
+  fact_same bank (PathState field) i = by (λ n. Some (facts.path_state n)) (number_read agree field i)
+  fact_same bank (ConfigStatus field) i = by (λ n. Some (facts.config_status n)) (number_read agree field i)
+  fact_same bank (FirstLane apps paths) i = by_two (λ app path. first_lane_fact bank app path) (number_read agree apps i) (number_read agree paths i)
+  fact_same bank (BitRate rate more) i = by_two (λ rate more. bit_rate_fact (bit_rate rate more)) (number_read agree rate 1) (number_read agree more 1)
+  fact_same bank PowerClass i = by (λ class. Some (facts.number class)) class_same
+  fact_same bank ClassPower i =
       by (λ power. Some (facts.amount (pos power) units.Watt)) (either (bit_read agree QPowerClass8 1) (by (λ n. n * 100) (number_read agree QMaxPower 1)) (by power_of class_same))
 
   abbrev applies_same : (case : Case) → SameIf (applies a case) (applies b case)
@@ -122,19 +124,27 @@ module _ {a b : Memory} {keys : List Key} (agree : KeysAgree a b keys) where
   applies_same (Neither field i j) = by_two (λ one other. not (one || other)) (bit_read agree field i) (bit_read agree field j)
   applies_same (LacksSince field i since first) = by_two (λ set n. not set && nat_le first n) (bit_read agree field i) (number_read agree since 1)
 
-  -- which lanes a module has, its identifier tells
-  abbrev values_same : (name : List ℕ) (item : Item) (values : Values) → SameIf (values_entries a name item values) (values_entries b name item values)
+-- which lanes a bank has, the module's identifier tells
+module _ {a b : Memory} {keys : List Key} (agree : KeysAgree a b keys) where
+  abbrev lane_same : {x y : Memory} {others : List Key} → KeysAgree x y others → (name : List ℕ) (item : Item) (bank i : ℕ) → SameIf (lane_entries (number a CIdentifier) name item bank x i) (lane_entries (number b CIdentifier) name item bank y i)
   unfolding lane_entries fact_same
-  values_same name item (One i) = by (fact_entries name Module) (fact_same item i)
-  values_same name item (Lanes n) =
-      each (lane_entries a name item) (lane_entries b name item)
-      (λ lane. either (by (λ id. nat_le lane (most_lanes id)) (number_read agree CIdentifier 1)) (by (fact_entries name (Lane lane)) (fact_same item lane)) (always []))
-      (range_with_len 1 n)
+  lane_same lanes name item bank i =
+      either (by (λ id. nat_le i (most_lanes id)) (number_read agree CIdentifier 1)) (by (fact_entries name (Lane (8 * bank + i))) (fact_same lanes bank item i)) (always [])
 
-  abbrev row_same : (flat : Bool) (row : Row) → SameIf (row_entries a flat row) (row_entries b flat row)
+  abbrev bank_same : {x y : Memory} {others : List Key} → KeysAgree x y others → (name : List ℕ) (item : Item) (n bank : ℕ) → SameIf (bank_entries (number a CIdentifier) name item n bank x) (bank_entries (number b CIdentifier) name item n bank y)
+  unfolding lane_same
+  bank_same {x} {y} lanes name item n bank = each (lane_entries (number a CIdentifier) name item bank x) (lane_entries (number b CIdentifier) name item bank y) (lane_same lanes name item bank) (range_with_len 1 n)
+
+  abbrev values_same : (banks name : List ℕ) (item : Item) (values : Values) → SameIf (values_entries a banks name item values) (values_entries b banks name item values)
+  unfolding bank_same fact_same
+  values_same banks name item (One i) = by (fact_entries name Module) (fact_same agree 0 item i)
+  values_same banks name item (Lanes n) =
+      over_banks_same agree banks (bank_entries (number a CIdentifier) name item n) (bank_entries (number b CIdentifier) name item n) (bank_same agree name item n 0) (λ bank. bank_same (lanes_agree agree bank) name item n bank)
+
+  abbrev row_same : (banks : List ℕ) (flat : Bool) (row : Row) → SameIf (row_entries a banks flat row) (row_entries b banks flat row)
   unfolding row_entries values_same
-  row_same flat row = left_out (row.paged && flat) (any (applies a) (applies b) applies_same row.cases) (values_same row.name row.item row.values)
+  row_same banks flat row = left_out (row.paged && flat) (any (applies a) (applies b) (applies_same agree) row.cases) (values_same banks row.name row.item row.values)
 
-  unfoldable pub tables_same : (flat : Bool) (tables : List (List Row)) → SameIf (tables_entries a flat tables) (tables_entries b flat tables)
+  unfoldable pub tables_same : (banks : List ℕ) (flat : Bool) (tables : List (List Row)) → SameIf (tables_entries a banks flat tables) (tables_entries b banks flat tables)
   unfolding row_same
-  tables_same flat tables = each (rows_entries a flat) (rows_entries b flat) (λ rows. each (row_entries a flat) (row_entries b flat) (row_same flat) rows) tables
+  tables_same banks flat tables = each (rows_entries a banks flat) (rows_entries b banks flat) (λ rows. each (row_entries a banks flat) (row_entries b banks flat) (row_same banks flat) rows) tables

@@ -21,6 +21,8 @@ use Rattle.field_tables.specs.Sums.{sum_key}
 use Rattle.field_tables.specs.Texts.{text_key}
 use Rattle.field_tables.specs.Units.{millis_of}
 use Rattle.field_tables.proofs.SameValues.{Agree, is_selection, same_absent, same_at, same_sum_right, same_text}
+use Rattle.observables.specs.Banks.{lanes_of_bank}
+use Rattle.report_entries.specs.Banks.{over_banks}
 use Rattle.module_reading.proofs.RegionLaws.{keys_are}
 use Rattle.module_decoding.specs.Amounts.{amount_at, doubled, length_in, unit_of}
 
@@ -134,3 +136,9 @@ module _ {a b : Memory} {keys : List Key} (agree : KeysAgree a b keys) where
 
   abbrev pub refusal_same : {F : Type 0} (reasons : List (Reason F)) → SameIf (refused_by a reasons) (refused_by b reasons)
   refusal_same reasons = by first_fault (mapped (judged a) (judged b) judged_same reasons)
+
+  -- what there is of lanes: of bank 0, and of each of these further banks
+  abbrev pub over_banks_same : {A : Type 0} (banks : List ℕ) (f g : ℕ → Memory → List A) → SameIf (f 0 a) (g 0 b) → ((bank : ℕ) → SameIf (f bank (lanes_of_bank a bank)) (g bank (lanes_of_bank b bank)))
+      → SameIf (over_banks a banks f) (over_banks b banks g)
+  over_banks_same banks f g first later =
+      by_two (λ xs ys. xs ++ ys) first (each (λ (bank : ℕ). f bank (lanes_of_bank a bank)) (λ (bank : ℕ). g bank (lanes_of_bank b bank)) later banks)

@@ -1,6 +1,6 @@
 -- What a module is, what it measures and what it warns of: what the rows of its family say. (docs/formats.md, "inventory", "monitors" and
 -- "flags"; this project's own)
-use Rattle.std.specs.Prelude.{ℕ, Bool, false, List, [], ◌∷◌, ◌++◌, Option, option_map}
+use Rattle.std.specs.Prelude.{ℕ, Bool, true, false, if◌then◌else◌, List, [], ◌∷◌, ◌++◌, Option, option_map}
 use Rattle.paged_memory.specs.declared.family.Family.{Family}
 use Rattle.paged_memory.specs.declared.family.Family.TheVariants as families
 use Rattle.paged_memory.specs.Images.{Memory}
@@ -13,6 +13,7 @@ use Rattle.module_decoding.specs.ModuleFamilies.{family_of}
 use Rattle.module_decoding.specs.Reports.{fault_of}
 use Rattle.report_entries.specs.declared.flag.Flag.{Flag}
 use Rattle.report_entries.specs.declared.flag_rows.FlagRow.{FlagRow}
+use Rattle.report_entries.specs.Banks.{further_banks}
 use Rattle.report_entries.specs.Entries.{Entry}
 use Rattle.report_entries.specs.EntryText.{entries_lines}
 use Rattle.report_entries.specs.FlagRows.{flags_entry, rows_flags}
@@ -49,17 +50,22 @@ is_flat_in families.Cmis memory = is_flat memory
 is_flat_in families.Sff8636 memory = bit memory QFlatMemory
 is_flat_in families.Sff8472 memory = false
 
-abbrev pub family_entries : Report → Family → Memory → List Entry
-family_entries report family memory = rows_entries memory (is_flat_in family memory) (rows_of report family)
+-- the further banks whose lanes are reported: all that a CMIS module has, or none
+abbrev pub banks_in : Bool → Family → Memory → List ℕ
+banks_in all_lanes families.Cmis memory = if all_lanes then further_banks (is_flat memory) memory else []
+banks_in all_lanes families.Sff8636 memory = []
+banks_in all_lanes families.Sff8472 memory = []
 
--- all flags that it has, each with whether it is raised
-abbrev pub family_flags : Family → Memory → List (Flag × Bool)
-family_flags family memory = rows_flags memory (is_flat_in family memory) (flag_rows_of family)
+abbrev pub family_entries : Bool → Report → Family → Memory → List Entry
+family_entries all_lanes report family memory = rows_entries memory (banks_in all_lanes family memory) (is_flat_in family memory) (rows_of report family)
 
-abbrev pub entries_in : Report → Family → Memory → List Entry
-entries_in Inventory family memory = family_entries Inventory family memory
-entries_in Monitors family memory = family_entries Monitors family memory
-entries_in Flags family memory = family_entries Flags family memory ++ flags_entry (raised (family_flags family memory)) ∷ []
+abbrev pub family_flags : Bool → Family → Memory → List (Flag × Bool)
+family_flags all_lanes family memory = rows_flags memory (banks_in all_lanes family memory) (is_flat_in family memory) (flag_rows_of family)
+
+abbrev pub entries_in : Bool → Report → Family → Memory → List Entry
+entries_in all_lanes Inventory family memory = family_entries all_lanes Inventory family memory
+entries_in all_lanes Monitors family memory = family_entries all_lanes Monitors family memory
+entries_in all_lanes Flags family memory = family_entries all_lanes Flags family memory ++ flags_entry (raised (family_flags all_lanes family memory)) ∷ []
 
 -- ---- by its family
 
@@ -67,13 +73,18 @@ unfoldable pub report_fault : Report → Memory → Option ReportFault
 report_fault report memory = option_map (λ fault. reported fault) (fault_of report memory)
 
 unfoldable pub entries_of : Report → Memory → List Entry
-entries_of report memory = entries_in report (family_of memory) memory
+entries_of report memory = entries_in false report (family_of memory) memory
 
 unfoldable pub report_lines : Report → Memory → List (List ℕ)
 report_lines report memory = entries_lines (entries_of report memory)
 
-unfoldable pub flag_states : Memory → List (Flag × Bool)
-flag_states memory = family_flags (family_of memory) memory
+-- the same with the lanes of all banks
+unfoldable pub all_lanes_entries : Report → Memory → List Entry
+all_lanes_entries report memory = entries_in true report (family_of memory) memory
+
+-- all flags, each with whether it is raised
+unfoldable pub all_lanes_flag_states : Memory → List (Flag × Bool)
+all_lanes_flag_states memory = family_flags true (family_of memory) memory
 
 -- ---- each of them
 

@@ -15,7 +15,7 @@ pub use detail_report::{details, details_json};
 pub use fault::ReportFault;
 pub use fetching::{fetch_image, put_page};
 pub use report::{
-    flag_states, flags, flags_entries, flags_json, inventory, inventory_entries, inventory_json,
-    monitors, monitors_entries, monitors_json,
+    all_lanes_flag_states, all_lanes_flags, all_lanes_monitors, flags, flags_json, inventory,
+    inventory_entries, inventory_json, monitors, monitors_json,
 };
 pub use tables::{cmis_inventory_lines, qsfp_inventory_lines, sfp_inventory_lines};

@@ -21,22 +21,22 @@ pub length_in-requires-clause-power : goal.length_in-requires-clause-power
 length_in-requires-clause-power c =
     let base = c.in-TenthsIfAny.base in
     let power = c.in-TenthsIfAny.power in
-    (and_parts (is_of_bytes (row_of base) && (row_of base).count == 1) (is_power power) (subst (λ it. item_fits (item_in it) c.args.index ≡ true) c.in-TenthsIfAny.is c.requires)).1
+    (and_parts (is_of_bytes (row_of base) && (row_of base).count == 1) (is_power power) (subst (λ it. item_fits (item_in it) c.args.index ≡ true) c.in-TenthsIfAny.is c.requires.item)).1
 
-pub number_at-requires-in-FirstLane-2-clause-bytes : goal.number_at-requires-in-FirstLane-2-clause-bytes
-number_at-requires-in-FirstLane-2-clause-bytes c =
+pub number_at-requires-in-FirstLane-clause-bytes : goal.number_at-requires-in-FirstLane-clause-bytes
+number_at-requires-in-FirstLane-clause-bytes c =
     let apps = c.in-FirstLane.apps in
     let paths = c.in-FirstLane.paths in
-    is_number paths c.args.index (and_parts (has_number apps c.args.index) (has_number paths c.args.index) (subst (λ it. item_fits (item_in it) c.args.index ≡ true) c.in-FirstLane.is c.requires)).1
+    is_number paths c.args.index (and_parts (has_number apps c.args.index) (has_number paths c.args.index) (subst (λ it. item_fits (item_in it) c.args.index ≡ true) c.in-FirstLane.is c.requires.item)).1
 
-pub number_at-requires-in-FirstLane-2-clause-last : goal.number_at-requires-in-FirstLane-2-clause-last
-number_at-requires-in-FirstLane-2-clause-last c =
+pub number_at-requires-in-FirstLane-clause-last : goal.number_at-requires-in-FirstLane-clause-last
+number_at-requires-in-FirstLane-clause-last c =
     let apps = c.in-FirstLane.apps in
     let paths = c.in-FirstLane.paths in
-    has_it paths c.args.index (and_parts (has_number apps c.args.index) (has_number paths c.args.index) (subst (λ it. item_fits (item_in it) c.args.index ≡ true) c.in-FirstLane.is c.requires)).1
+    has_it paths c.args.index (and_parts (has_number apps c.args.index) (has_number paths c.args.index) (subst (λ it. item_fits (item_in it) c.args.index ≡ true) c.in-FirstLane.is c.requires.item)).1
 
 pub number_at-requires-in-BitRate-2-clause-bytes : goal.number_at-requires-in-BitRate-2-clause-bytes
 number_at-requires-in-BitRate-2-clause-bytes c =
     let rate = c.in-BitRate.rate in
     let more = c.in-BitRate.more in
-    is_number more 1 (and_parts (has_number rate 1) (has_number more 1) (subst (λ it. item_fits (item_in it) c.args.index ≡ true) c.in-BitRate.is c.requires)).1
+    is_number more 1 (and_parts (has_number rate 1) (has_number more 1) (subst (λ it. item_fits (item_in it) c.args.index ≡ true) c.in-BitRate.is c.requires.item)).1

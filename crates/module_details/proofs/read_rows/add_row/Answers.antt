@@ -7,9 +7,9 @@ use Rattle.module_details.proofs.read_rows.add_row.Goals as goal
 pub applies_any-requires : goal.applies_any-requires
 applies_any-requires c =
     let row = c.args.row.now in
-    (and_parts (list_all case_fits row.cases.now) (values_fit (item_in row.item) row.values) c.requires).0
+    (and_parts (list_all case_fits row.cases.now) (values_fit (item_in row.item) row.values) c.requires.row).0
 
-pub add_values-requires : goal.add_values-requires
-add_values-requires c =
+pub add_values-requires-clause-values : goal.add_values-requires-clause-values
+add_values-requires-clause-values c =
     let row = c.args.row.now in
-    (and_parts (list_all case_fits row.cases.now) (values_fit (item_in row.item) row.values) c.requires).1
+    (and_parts (list_all case_fits row.cases.now) (values_fit (item_in row.item) row.values) c.requires.row).1

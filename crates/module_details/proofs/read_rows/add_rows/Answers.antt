@@ -5,6 +5,6 @@ use Rattle.module_details.specs.Fits.{row_fits}
 use Rattle.module_details.specs.RowTables.{row_in}
 use Rattle.module_details.proofs.read_rows.add_rows.Goals as goal
 
-pub add_row-requires : goal.add_row-requires
-add_row-requires c =
-    at_fits (λ row. row_fits (row_in row)) c.args.rows.now c.loop-row.row-index _ (omega (arith, c.loop-row-test.true)) (sym (list_all-map row_fits row_in c.args.rows.now) ∙ c.requires)
+pub add_row-requires-clause-row : goal.add_row-requires-clause-row
+add_row-requires-clause-row c =
+    at_fits (λ row. row_fits (row_in row)) c.args.rows.now c.loop-row.row-index _ (omega (arith, c.loop-row-test.true)) (sym (list_all-map row_fits row_in c.args.rows.now) ∙ c.requires.rows)

@@ -3,5 +3,5 @@ use Rattle.report_entries.specs.FlagRows.{flag_row_fits}
 use Rattle.report_entries.proofs.RowsFit.{at_fits}
 use Rattle.report_entries.proofs.flag_rows.all_flags.Goals as goal
 
-pub add_flags-requires : goal.add_flags-requires
-add_flags-requires c = at_fits flag_row_fits c.args.rows.now c.loop-row.row-index _ (omega (arith, c.loop-row-test.true)) c.requires
+pub add_flags-requires-clause-row : goal.add_flags-requires-clause-row
+add_flags-requires-clause-row c = at_fits flag_row_fits c.args.rows.now c.loop-row.row-index _ (omega (arith, c.loop-row-test.true)) c.requires.rows

@@ -5,4 +5,4 @@ use Rattle.report_entries.proofs.flag_rows.raised_flags.Given as goal
 
 -- the flags so far
 abbrev pub invariant-loop-row : goal.invariant-loop-row
-invariant-loop-row l = l.flags.items ≡ raised (rows_flags l.image l.flat (take l.row-index l.rows))
+invariant-loop-row l = l.flags.items ≡ raised (rows_flags l.image l.banks l.flat (take l.row-index l.rows))

@@ -6,4 +6,4 @@ use Rattle.report_entries.proofs.read_rows.add_rows.Given as goal
 
 -- what the rows so far say
 abbrev pub invariant-loop-row : goal.invariant-loop-row
-invariant-loop-row l = as_entries l.entries ≡ as_entries l.initial.entries ++ rows_entries l.image l.flat (rows_in (take l.row-index l.rows))
+invariant-loop-row l = as_entries l.entries ≡ as_entries l.initial.entries ++ rows_entries l.image l.banks l.flat (rows_in (take l.row-index l.rows))

@@ -9,10 +9,10 @@ pub length_in-requires-clause-power : goal.length_in-requires-clause-power
 length_in-requires-clause-power c =
     let base = c.in-Length.base in
     let power = c.in-Length.power in
-    (and_parts (is_counted base 1) (is_power power) (subst (λ s. source_fits (source_in s) ≡ true) c.in-Length.is c.requires)).1
+    (and_parts (is_counted base 1) (is_power power) (subst (λ s. source_fits (source_in s) ≡ true) c.in-Length.is c.requires.source)).1
 
 pub lane_states-requires-clause-statuses : goal.lane_states-requires-clause-statuses
 lane_states-requires-clause-statuses c =
     let paths = c.in-LaneStates.paths in
     let statuses = c.in-LaneStates.statuses in
-    (and_parts (is_counted paths 8) (is_counted statuses 8) (subst (λ s. source_fits (source_in s) ≡ true) c.in-LaneStates.is c.requires)).1
+    (and_parts (is_counted paths 8) (is_counted statuses 8) (subst (λ s. source_fits (source_in s) ≡ true) c.in-LaneStates.is c.requires.source)).1

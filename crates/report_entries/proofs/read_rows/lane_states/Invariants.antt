@@ -1,8 +1,10 @@
-use Rattle.std.proofs.Common.{◌≡◌, map}
-use Rattle.std.specs.List.{range_with_len}
-use Rattle.report_entries.specs.Rows.{lane_state_at}
+use Rattle.std.proofs.Common.{◌≡◌, ◌≤◌, ◌+◌, ◌*◌, length, take}
+use Rattle.report_entries.specs.Rows.{states_in}
 use Rattle.report_entries.proofs.read_rows.lane_states.Given as goal
 
--- the lanes so far
-abbrev pub invariant-loop-before : goal.invariant-loop-before
-invariant-loop-before l = l.states.items ≡ map (lane_state_at l.image l.paths l.statuses) (range_with_len 1 l.before)
+-- the lanes of the banks so far, and how many they are
+abbrev pub invariant-loop-bank : goal.invariant-loop-bank
+invariant-loop-bank l = record {
+  states : l.states.items ≡ states_in l.image (take l.bank-index l.banks) l.paths l.statuses;
+  few : length l.states.items ≤ 8 + 8 * l.bank-index;
+}

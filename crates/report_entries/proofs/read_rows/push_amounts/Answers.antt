@@ -1,10 +1,11 @@
-use Rattle.std.proofs.Common.{◌≡◌, ◌+◌, ap, ◌∙◌, length, arith}
+use Rattle.std.proofs.Common.{◌≡◌, ◌+◌, ◌++◌, ap, ◌∙◌, length, length-append, map, arith}
 use Rattle.std.proofs.lemmas.Grind.{common_steps}
 use Rattle.std.proofs.lemmas.List.FromFn.{length-map-range_with_len, map-range_with_len_more}
+use Rattle.std.specs.List.{range_with_len}
 use Rattle.field_tables.specs.declared.layout.Row.{Row}
 use Rattle.field_tables.specs.FieldRows.{row_of}
 use Rattle.module_decoding.specs.Amounts.{amount_at}
-use Rattle.report_entries.proofs.read_rows.amounts.Goals as goal
+use Rattle.report_entries.proofs.read_rows.push_amounts.Goals as goal
 
 pub loop-before-preserved : goal.loop-before-preserved
 loop-before-preserved c =
@@ -17,6 +18,8 @@ loop-before-preserved c =
 pub push-requires : goal.push-requires
 push-requires c =
     let of = amount_at c.args.image.now c.args.field c.args.power in
-    let len : length c.loop-before.amounts.items ≡ c.loop-before.before = ap length c.loop-before.invariant ∙ length-map-range_with_len of 1 c.loop-before.before in
+    let before = c.args.amounts.now.items in
+    let len : length c.loop-before.amounts.items ≡ length before + c.loop-before.before =
+    ap length c.loop-before.invariant ∙ length-append before (map of (range_with_len 1 c.loop-before.before)) ∙ ap (λ n. length before + n) (length-map-range_with_len of 1 c.loop-before.before) in
     let count : c.row-before-end.result.count ≡ (row_of c.args.field).count = ap (λ (r : Row). r.count) c.row-before-end.ensures in
-    (omega arith, omega (arith, len, count, c.requires.count, c.loop-before-test.true))
+    (omega arith, omega (arith, len, count, c.requires.room, c.loop-before-test.true))

@@ -5,11 +5,11 @@ use Rattle.std.specs.List.{range_with_len}
 use Rattle.report_entries.specs.FlagRows.{lane_flag}
 use Rattle.report_entries.specs.Flags.{raised}
 use Rattle.report_entries.proofs.RaisedFlags.{raised_append}
-use Rattle.report_entries.proofs.flag_rows.push_lanes.Goals as goal
+use Rattle.report_entries.proofs.flag_rows.push_bank.Goals as goal
 
 pub loop-before-preserved : goal.loop-before-preserved
 loop-before-preserved c =
-    let of = lane_flag c.args.image.now c.args.name c.args.field in
+    let of = lane_flag c.args.name c.args.field c.args.bank c.args.lanes.now in
     let k = c.loop-before.before in
     let before = map of (range_with_len 1 k) in
     let next : 1 + k ≡ k + 1 = omega arith in
