@@ -52,6 +52,16 @@ def test_images_by_chance() -> None:
     assert 30 < sum(told) < 150
 
 
+def test_the_lanes_of_a_further_bank_are_there_too() -> None:
+    two = DR4.changed(page(0x01), 142, b"\x01")
+    banks = Image({**two.halves, page(0x11, bank=1): two.halves[page(0x11)]})
+    assert compare(banks)
+    found = banks.details()
+    assert found["path_state_lane_16"] == found["path_state_lane_8"]
+    assert "path_state_lane_17" not in found and "path_state_lane_9" not in two.details()
+    assert 'dovecounter_lane_tx_power_watts{lane="16"}' in banks.metrics()
+
+
 def test_members_are_numbers_words_and_names() -> None:
     found = DR4.details()
     assert (found["family"], found["memory"], found["connector"]) == ("CMIS", "paged", 0x0C)
