@@ -20,7 +20,7 @@ use Rattle.field_tables.specs.Reasons.{Reason, judged, refused_by}
 use Rattle.field_tables.specs.Sums.{sum_matches, sum_row}
 use Rattle.field_tables.proofs.TrueTests.{in_range}
 use Rattle.paged_memory.specs.declared.family.Family.{Family}
-use Rattle.paged_memory.specs.declared.family.Family.TheVariants.{Cmis, Sff8636, Sff8472}
+use Rattle.paged_memory.specs.declared.family.Family.TheVariants.{Cmis}
 use Rattle.paged_memory.specs.declared.key.Key.{Key}
 use Rattle.paged_memory.specs.Families.{family_by, is_family, is_of, is_other_cmis, managed_by}
 use Rattle.paged_memory.specs.Images.{Memory}
@@ -156,9 +156,7 @@ passes {F} memory (reason ∷ reasons) e = by (passes memory reasons) (judged me
 
 family_in : (family : Option Family) → is_family Cmis family ≡ true → family ≡ Some Cmis
 family_in (Some Cmis) e = refl
-family_in (Some Sff8636) e = absurd cc
-family_in (Some Sff8472) e = absurd cc
-family_in None e = absurd cc
+family_in _ e = absurd cc
 
 cmis_by : (other : Bool) (family : Option Family) → is_family Cmis (if other then None else family) ≡ true → family ≡ Some Cmis
 cmis_by true family e = absurd cc

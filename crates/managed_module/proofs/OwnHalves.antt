@@ -11,6 +11,7 @@ use Rattle.field_tables.specs.Halves.{byte_in}
 use Rattle.field_tables.specs.Readings.{number, reading_at}
 use Rattle.paged_memory.specs.declared.family.Family.{Family}
 use Rattle.paged_memory.specs.declared.key.Key.{Key}
+use Rattle.paged_memory.specs.declared.family.Family.TheVariants.{Cmis}
 use Rattle.paged_memory.specs.Families.{managed_by}
 use Rattle.paged_memory.specs.Images.{Memory, most_pages}
 use Rattle.paged_memory.specs.KeyOrder.{key_cmp}
@@ -20,7 +21,7 @@ use Rattle.module_reading.specs.declared.region.Region.{Region}
 use Rattle.module_reading.specs.declared.region.Region.TheVariants.{Lower, FirstPage, Page}
 use Rattle.module_reading.specs.declared.request.Request.{Request}
 use Rattle.module_reading.specs.ImageReading.{in_hand, keeping, leaving_out, put_in}
-use Rattle.module_reading.specs.Regions.{cmis_regions, everything, identifier, regions_in, regions_of}
+use Rattle.module_reading.specs.Regions.{everything, family_regions, identifier, regions_in, regions_of}
 use Rattle.module_reading.proofs.KeptHalves.{puts_few, puts_other, puts_own}
 use Rattle.module_reading.proofs.RegionLaws.{first_is}
 use Rattle.managed_module.specs.Managed.{IsCmisFamily}
@@ -48,7 +49,7 @@ cmis_in own image paged lower = ap managed_by (lower_number image own CIdentifie
 in_order : (own : Memory) (image : Memory) → IsPaged own → HasLower image own → regions_of everything image ≡ all_regions
 in_order own image paged lower =
     ap (λ (family : Option Family). regions_in everything family image) (cmis_in own image paged lower ∙ paged.cmis)
-    ∙ ap (cmis_regions everything) (ap (λ (n : ℕ). n == 1) (lower_number image own CFlatMemory 1 lower refl refl) ∙ paged.paged)
+    ∙ ap (family_regions everything Cmis) (ap (λ (n : ℕ). n == 1) (lower_number image own CFlatMemory 1 lower refl refl) ∙ paged.paged)
 
 pub hand_is : (own : Memory) (halves : Halves) → IsPaged own → IsOwn own halves → in_hand halves ≡ slice_get all_regions halves.settled
 hand_is own halves paged is = by halves.settled refl where

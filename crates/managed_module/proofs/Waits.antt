@@ -1,6 +1,6 @@
 -- At a simulated module each operation of a job brings it nearer to its end, or reads a state.
 use Rattle.std.proofs.Common.{◌≡◌, ◌≤◌, ◌⊎◌, inl, inr, ◌+◌, ◌++◌, ◌∷◌, ℕ, Bool, true, false, List, [], Option, Some, None, zero, suc, refl, sym, ap, subst, ◌∙◌, if◌then◌else◌, arith}
-use Rattle.std.specs.Prelude.{◌==◌, if◌then◌else◌, slice_get, slice_index}
+use Rattle.std.specs.Prelude.{◌==◌, ◌&&◌, not, if◌then◌else◌, slice_get, slice_index}
 use Rattle.std.specs.FinMap as finmap
 use Rattle.std.specs.List.{AllByRecursion}
 use Rattle.bus_model.specs.declared.device.Dev.TheVariants.{A0, A2}
@@ -40,8 +40,9 @@ use Rattle.module_reading.specs.declared.request.Request.{Request}
 use Rattle.module_reading.specs.declared.region.Region.TheVariants.{Lower, FirstPage, Page}
 use Rattle.module_reading.specs.ImageReading as reader
 use Rattle.module_reading.specs.Regions as regions
+use Rattle.module_reading.proofs.RegionLaws.{all_requested, regions_of_halves}
 use Rattle.paged_memory.specs.declared.family.Family.{Family}
-use Rattle.paged_memory.specs.declared.family.Family.TheVariants.{Cmis, Sff8636, Sff8472}
+use Rattle.paged_memory.specs.declared.family.Family.TheVariants.{Cmis}
 use Rattle.paged_memory.specs.declared.page_addressing.KnownPage.{KnownPage}
 use Rattle.paged_memory.specs.declared.page_addressing.PageAddressing.{PageAddressing}
 use Rattle.paged_memory.specs.declared.page_addressing.PageAddressing.TheVariants.{BankAndPage}
@@ -93,8 +94,7 @@ wanted_a0 addressing selected needed inner op way is on =
 paging_in : (family : Option Family) → IsCmisFamily family → regions.addressing_in family ≡ BankAndPage
 paging_in None cmis = refl
 paging_in (Some Cmis) cmis = refl
-paging_in (Some Sff8636) cmis = absurd cmis
-paging_in (Some Sff8472) cmis = absurd cmis
+paging_in (Some _) cmis = absurd cmis
 
 addressed_by : (unread : Bool) (image : Memory) → regions.addressing_of image ≡ BankAndPage → chosen (if unread then None else Some (regions.addressing_of image)) ≡ BankAndPage
 addressed_by true image way = refl
@@ -106,29 +106,16 @@ IsRegionOnA0 (Lower A2) = ⊥
 IsRegionOnA0 FirstPage = Unit {0}
 IsRegionOnA0 (Page page) = Unit {0}
 
-one_more_a0 : (list : List Region) (region : Region) → IsRegionOnA0 region → AllByRecursion IsRegionOnA0 list → AllByRecursion IsRegionOnA0 (list ++ region ∷ [])
-one_more_a0 [] region on all = (on, tt)
-one_more_a0 (first ∷ rest) region on all = (all.0, one_more_a0 rest region on all.1)
-
-and_if_a0 : (wanted : Bool) (region : Region) (list : List Region) → IsRegionOnA0 region → AllByRecursion IsRegionOnA0 list → AllByRecursion IsRegionOnA0 (regions.and_if wanted region list)
-and_if_a0 true region list on all = one_more_a0 list region on all
-and_if_a0 false region list on all = all
-
-either_a0 : (b : Bool) (list other : List Region) → AllByRecursion IsRegionOnA0 list → AllByRecursion IsRegionOnA0 other → AllByRecursion IsRegionOnA0 (if b then list else other)
-either_a0 true list other all others = all
-either_a0 false list other all others = others
-
 on_a0 : (request : Request) (family : Option Family) (memory : Memory) → IsCmisFamily family → AllByRecursion IsRegionOnA0 (regions.regions_in request family memory)
 on_a0 request None memory cmis = (tt, tt)
-on_a0 request (Some Cmis) memory cmis = by (regions.is_flat memory) where
-  by : (flat : Bool) → AllByRecursion IsRegionOnA0 (regions.cmis_regions request flat)
-  by true = and_if_a0 (regions.wants request 0) FirstPage regions.lower_alone tt (tt, tt)
-  by false = either_a0 (regions.is_for_banks request) _ _
-      (and_if_a0 (regions.wants request 2) (Page 0x311) _ tt (and_if_a0 (regions.wants request 1) (Page 0x211) _ tt (and_if_a0 (regions.wants request 0) (Page 0x111) regions.lower_alone tt (tt, tt))))
-      (and_if_a0 (regions.wants request 3) (Page 0x11) _ tt (and_if_a0 (regions.wants request 2) (Page 0x02) _ tt
-      (and_if_a0 (regions.wants request 1) (Page 0x01) _ tt (and_if_a0 (regions.wants request 0) (Page 0x00) regions.lower_alone tt (tt, tt)))))
-on_a0 request (Some Sff8636) memory cmis = absurd cmis
-on_a0 request (Some Sff8472) memory cmis = absurd cmis
+on_a0 request (Some Cmis) memory cmis =
+    let flat = regions.is_flat memory in
+    (tt, all_requested IsRegionOnA0 request (regions.halves_for request Cmis flat) (by (regions.is_for_banks request && not flat) flat)) where
+      by : (banks flat : Bool) → AllByRecursion IsRegionOnA0 (regions_of_halves (if banks then regions.halves_of_banks else regions.halves_of Cmis flat))
+      by true flat = (tt, (tt, (tt, tt)))
+      by false true = (tt, tt)
+      by false false = (tt, (tt, (tt, (tt, tt))))
+on_a0 request (Some _) memory cmis = absurd cmis
 
 all_at : (P : Region → Type 0) (list : List Region) (i : ℕ) (region : Region) → AllByRecursion P list → slice_get list i ≡ Some region → P region
 all_at P [] i region all e = absurd cc

@@ -6,7 +6,7 @@ use Rattle.bus_model.specs.declared.operation.Op.{Op}
 use Rattle.bus_model.specs.SameOperation.{same_op}
 use Rattle.bus_model.specs.ScriptedBus.{passed_on, ticked_times}
 use Rattle.paged_memory.specs.declared.family.Family.{Family}
-use Rattle.paged_memory.specs.declared.family.Family.TheVariants.{Cmis, Sff8636, Sff8472}
+use Rattle.paged_memory.specs.declared.family.Family.TheVariants.{Cmis}
 use Rattle.paged_memory.specs.declared.mapped_page.MappedPage.{MappedPage}
 use Rattle.paged_memory.specs.Families.{managed_by}
 use Rattle.paged_memory.specs.Images.{Memory}
@@ -80,8 +80,7 @@ Answered drop sim after = after ≡ sim
 abbrev pub IsCmisFamily : Option Family → Type 0
 IsCmisFamily None = Unit {0}
 IsCmisFamily (Some Cmis) = Unit {0}
-IsCmisFamily (Some Sff8636) = ⊥
-IsCmisFamily (Some Sff8472) = ⊥
+IsCmisFamily (Some other) = ⊥
 
 abbrev pub IsCmisJob : Job → Type 0
 IsCmisJob (Reading job woken) = IsCmisFamily (managed_by (identifier job.conversation.conversation.conversation.image))

@@ -1,16 +1,16 @@
 -- What tells the halves apart that are read of a module, and which they are.
-use Rattle.std.proofs.Common.{◌≡◌, ◌≤◌, ◌<◌, ℕ, zero, suc, ◌==◌, ◌&&◌, Bool, true, false, not, List, [], ◌∷◌, length, drop, Option, Some, None, refl, sym, ap, subst, ◌∙◌, if◌then◌else◌, arith}
-use Rattle.std.proofs.lemmas.Bool.{and_parts, leb-true, true≢false}
+use Rattle.std.proofs.Common.{◌≡◌, ◌≤◌, ◌<◌, ℕ, zero, suc, ◌/◌, ◌==◌, ◌&&◌, Bool, true, false, not, List, [], ◌∷◌, length, drop, map, Option, Some, None, refl, sym, ap, subst, ◌∙◌, if◌then◌else◌, arith}
+use Rattle.std.proofs.lemmas.Bool.{and_from, and_parts, eqb-true, le-leb, leb-true, true≢false}
 use Rattle.std.specs.Prelude.{nat_le, option_map, unwrap_or, unsigned_abs, pos}
 use Rattle.std.specs.List.{AllByRecursion, list_all, slice_get}
-use Rattle.std.specs.FinMap as map
+use Rattle.std.specs.FinMap as finmap
 use Rattle.std.specs.Ordering.{eq_by_cmp, is_eq}
 use Rattle.std.specs.Cmp.{eq_by_cmp_equiv}
 use Rattle.std.specs.declared.cmp.Ordering.{Ordering}
 use Rattle.std.specs.declared.cmp.Ordering.TheVariants.{Less, Equal, Greater}
 use Rattle.bus_model.specs.declared.device.Dev.TheVariants.{A0, A2}
 use Rattle.paged_memory.specs.declared.family.Family.{Family}
-use Rattle.paged_memory.specs.declared.family.Family.TheVariants.{Cmis, Sff8636, Sff8472}
+use Rattle.paged_memory.specs.declared.family.Family.TheVariants as families
 use Rattle.paged_memory.specs.declared.key.Key.{Key}
 use Rattle.paged_memory.specs.declared.page_addressing.PageAddressing.{PageAddressing}
 use Rattle.paged_memory.specs.declared.page_addressing.PageAddressing.TheVariants.{BankAndPage, PageAlone}
@@ -24,7 +24,7 @@ use Rattle.field_tables.specs.declared.field.Field.{Field}
 use Rattle.field_tables.specs.declared.field.Field.TheVariants.{CIdentifier, CFlatMemory, QFlatMemory, SAddressChange, SDiagPresent}
 use Rattle.field_tables.specs.FieldValues.{field_key, value_in}
 use Rattle.field_tables.specs.Readings.{bit, number, reading_at}
-use Rattle.module_reading.specs.Regions.{and_if, is_for_banks, cmis_regions, has_diagnostics, identifier, is_flat, key_of, lower_alone, addressing_in, addressing_of, qsfp_regions, regions_in, regions_of, sfp_regions, wants}
+use Rattle.module_reading.specs.Regions.{addressing_in, addressing_of, and_if, decides, family_regions, halves_for, halves_of, halves_of_banks, has_banks, identifier, is_for_banks, key_of, lower_alone, regions_in, regions_of, requested, wants}
 use Rattle.module_reading.specs.declared.region.Region.{Region}
 use Rattle.module_reading.specs.declared.request.Request.{Request}
 use Rattle.module_reading.specs.declared.region.Region.TheVariants.{Lower, FirstPage, Page}
@@ -74,60 +74,113 @@ apart_at (first ∷ regions) zero (suc m) earlier later all order is at =
     subst (λ (region : Region). is_apart region later ≡ true) same (each_at (is_apart first) regions m later (and_parts _ _ all).0 at)
 apart_at (first ∷ regions) (suc n) (suc m) earlier later all order is at = apart_at regions n m earlier later (and_parts _ _ all).1 (omega (arith, order)) is at
 
--- ---- what holds of each list of halves, by what is wanted
+-- ---- what holds of all halves that a family has holds of those that are requested
 
-abbrev all_two : (Bool → Bool) → Bool
-all_two test = test true && test false
+abbrev pub regions_of_halves : List (ℕ × Region) → List Region
+regions_of_halves halves = map (λ half. half.1) halves
 
-both : (test : Bool → Bool) → all_two test ≡ true → (b : Bool) → test b ≡ true
-both test e true = (and_parts _ _ e).0
-both test e false = (and_parts _ _ e).1
+pub all_requested : (P : Region → Type 0) (request : Request) (halves : List (ℕ × Region)) → AllByRecursion P (regions_of_halves halves) → AllByRecursion P (requested request halves)
+all_requested P request [] all = tt
+all_requested P request (half ∷ halves) all = by (wants request half.0) (all_requested P request halves all.1) where
+  by : (wanted : Bool) → AllByRecursion P (requested request halves) → AllByRecursion P (and_if wanted half.1 (requested request halves))
+  by true rest = (all.0, rest)
+  by false rest = rest
 
-two : (test : Bool → Bool → Bool) → all_two (λ a. all_two (test a)) ≡ true → (a b : Bool) → test a b ≡ true
-two test e a b = both (test a) (both (λ a. all_two (test a)) e a) b
+test_requested : (test : Region → Bool) (request : Request) (halves : List (ℕ × Region)) → list_all test (regions_of_halves halves) ≡ true → list_all test (requested request halves) ≡ true
+test_requested test request [] e = refl
+test_requested test request (half ∷ halves) e =
+    let parts = and_parts (test half.1) (list_all test (regions_of_halves halves)) e in by (wants request half.0) parts.0 (test_requested test request halves parts.1) where
+      by : (wanted : Bool) → test half.1 ≡ true → list_all test (requested request halves) ≡ true → list_all test (and_if wanted half.1 (requested request halves)) ≡ true
+      by true first rest = and_from _ _ first rest
+      by false first rest = rest
 
-four : (test : Bool → Bool → Bool → Bool → Bool) → all_two (λ a. all_two (λ b. all_two (λ c. all_two (test a b c)))) ≡ true → (a b c d : Bool) → test a b c d ≡ true
-four test e a b c d = two (test a b) (two (λ a b. all_two (λ c. all_two (test a b c))) e a b) c d
+apart_requested : (request : Request) (halves : List (ℕ × Region)) → all_apart (regions_of_halves halves) ≡ true → all_apart (requested request halves) ≡ true
+apart_requested request [] e = refl
+apart_requested request (half ∷ halves) e =
+    let parts = and_parts (list_all (is_apart half.1) (regions_of_halves halves)) (all_apart (regions_of_halves halves)) e in
+    by (wants request half.0) (test_requested (is_apart half.1) request halves parts.0) (apart_requested request halves parts.1) where
+      by : (wanted : Bool) → list_all (is_apart half.1) (requested request halves) ≡ true → all_apart (requested request halves) ≡ true → all_apart (and_if wanted half.1 (requested request halves)) ≡ true
+      by true first rest = and_from _ _ first rest
+      by false first rest = rest
 
-three : (test : Bool → Bool → Bool → Bool) → all_two (λ a. all_two (λ b. all_two (test a b))) ≡ true → (a b c : Bool) → test a b c ≡ true
-three test e a b c = two (test a) (both (λ a. all_two (λ b. all_two (test a b))) e a) b c
+few_requested : (request : Request) (halves : List (ℕ × Region)) → length (requested request halves) ≤ length halves
+few_requested request [] = omega arith
+few_requested request (half ∷ halves) = by (wants request half.0) (few_requested request halves) where
+  by : (wanted : Bool) → length (requested request halves) ≤ length halves → length (and_if wanted half.1 (requested request halves)) ≤ suc (length halves)
+  by true few = omega (arith, few)
+  by false few = omega (arith, few)
 
--- the lower half of A0 comes first, any two are apart, and there are five at most
+-- any two are apart, and there are five at most
 abbrev is_fit : List Region → Bool
-is_fit regions = all_apart regions && (eq_by_cmp key_cmp (lower_key A0) (key_of (unwrap_or (slice_get regions 0) FirstPage)) && nat_le (length regions) 5)
+is_fit regions = all_apart regions && nat_le (length regions) 5
 
-abbrev paged : Bool → Bool → Bool → Bool → List Region
-paged a b c d = and_if d (Page 0x11) (and_if c (Page 0x02) (and_if b (Page 0x01) (and_if a (Page 0x00) lower_alone)))
+abbrev is_selectable : PageAddressing → Region → Bool
+is_selectable addressing (Lower dev) = true
+is_selectable addressing FirstPage = true
+is_selectable BankAndPage (Page page) = true
+is_selectable PageAlone (Page page) = page / 256 == 0
 
-abbrev banked : Bool → Bool → Bool → List Region
-banked a b c = and_if c (Page 0x311) (and_if b (Page 0x211) (and_if a (Page 0x111) lower_alone))
+-- with the lower half of A0 they are so, and their pages can be selected
+abbrev are_fit : PageAddressing → List (ℕ × Region) → Bool
+are_fit addressing halves =
+    all_apart (Lower A0 ∷ regions_of_halves halves) && (nat_le (length halves) 4 && list_all (is_selectable addressing) (regions_of_halves halves))
+
+-- by what decides which a family has
+true_fit : (family : Family) → are_fit (addressing_in (Some family)) (halves_of family true) ≡ true
+true_fit families.Cmis = refl
+true_fit _ = refl
+
+false_fit : (family : Family) → are_fit (addressing_in (Some family)) (halves_of family false) ≡ true
+false_fit families.Cmis = refl
+false_fit _ = refl
+
+halves_fit : (family : Family) (holds : Bool) → are_fit (addressing_in (Some family)) (halves_of family holds) ≡ true
+halves_fit family true = true_fit family
+halves_fit family false = false_fit family
+
+banks_fit : (family : Family) (holds : Bool) → has_banks family holds ≡ true → are_fit (addressing_in (Some family)) halves_of_banks ≡ true
+banks_fit families.Cmis holds has = refl
+banks_fit _ holds has = absurd cc
+
+all_are_fit : (request : Request) (family : Family) (holds : Bool) → are_fit (addressing_in (Some family)) (halves_for request family holds) ≡ true
+all_are_fit request family holds = by (is_for_banks request && has_banks family holds) (λ both. (and_parts _ _ both).1) where
+  by : (banks : Bool) → (banks ≡ true → has_banks family holds ≡ true) → are_fit (addressing_in (Some family)) (if banks then halves_of_banks else halves_of family holds) ≡ true
+  by true has = banks_fit family holds (has refl)
+  by false has = halves_fit family holds
+
+fit_parts : (addressing : PageAddressing) (halves : List (ℕ × Region)) → are_fit addressing halves ≡ true
+    → (all_apart (Lower A0 ∷ regions_of_halves halves) ≡ true) × (length halves ≤ 4) × (list_all (is_selectable addressing) (regions_of_halves halves) ≡ true)
+fit_parts addressing halves fit =
+    let parts = and_parts (all_apart (Lower A0 ∷ regions_of_halves halves)) (nat_le (length halves) 4 && list_all (is_selectable addressing) (regions_of_halves halves)) fit in
+    let rest = and_parts (nat_le (length halves) 4) (list_all (is_selectable addressing) (regions_of_halves halves)) parts.1 in
+    (parts.0, leb-true (length halves) 4 rest.0, rest.1)
+
+requested_fit : (request : Request) (halves : List (ℕ × Region)) → all_apart (Lower A0 ∷ regions_of_halves halves) ≡ true → length halves ≤ 4 → is_fit (Lower A0 ∷ requested request halves) ≡ true
+requested_fit request halves apart few =
+    let parts = and_parts (list_all (is_apart (Lower A0)) (regions_of_halves halves)) (all_apart (regions_of_halves halves)) apart in
+    let fewer = few_requested request halves in
+    let least : suc (length (requested request halves)) ≤ 5 = omega (arith, few, fewer) in
+    and_from (all_apart (Lower A0 ∷ requested request halves)) (nat_le (suc (length (requested request halves))) 5)
+    (and_from (list_all (is_apart (Lower A0)) (requested request halves)) (all_apart (requested request halves)) (test_requested (is_apart (Lower A0)) request halves parts.0) (apart_requested request halves parts.1))
+    (le-leb (suc (length (requested request halves))) 5 least)
 
 all_fit : (request : Request) (memory : Memory) → is_fit (regions_of request memory) ≡ true
 all_fit request memory = by (managed_by (identifier memory)) where
-  choose : (b : Bool) (xs ys : List Region) → is_fit xs ≡ true → is_fit ys ≡ true → is_fit (if b then xs else ys) ≡ true
-  choose true xs ys fit other = fit
-  choose false xs ys fit other = other
-
   by : (family : Option Family) → is_fit (regions_in request family memory) ≡ true
-  by (Some Cmis) = choose (is_flat memory) _ _ (both (λ a. is_fit (and_if a FirstPage lower_alone)) refl (wants request 0))
-      (choose (is_for_banks request) _ _ (three (λ a b c. is_fit (banked a b c)) refl (wants request 0) (wants request 1) (wants request 2))
-      (four (λ a b c d. is_fit (paged a b c d)) refl (wants request 0) (wants request 1) (wants request 2) (wants request 3)))
-  by (Some Sff8636) = choose (bit memory QFlatMemory) _ _ (both (λ a. is_fit (and_if a FirstPage lower_alone)) refl (wants request 4))
-      (two (λ a b. is_fit (and_if b (Page 0x03) (and_if a (Page 0x00) lower_alone))) refl (wants request 4) (wants request 5))
-  by (Some Sff8472) = choose (has_diagnostics memory) _ _ (both (λ a. is_fit (and_if a (Lower A2) lower_alone)) refl (wants request 6)) refl
   by None = refl
+  by (Some family) =
+      let halves = halves_for request family (decides family memory) in
+      let parts = fit_parts (addressing_in (Some family)) halves (all_are_fit request family (decides family memory)) in
+      requested_fit request halves parts.0 parts.1
 
 pub at_most_five : (request : Request) (memory : Memory) → length (regions_of request memory) ≤ 5
-at_most_five request memory = leb-true _ _ (and_parts _ _ (and_parts _ _ (all_fit request memory)).1).1
+at_most_five request memory = leb-true _ _ (and_parts _ _ (all_fit request memory)).1
 
 pub begins_lower : (request : Request) (memory : Memory) → regions_of request memory ≡ Lower A0 ∷ drop 1 (regions_of request memory)
-begins_lower request memory = by (regions_of request memory) (and_parts _ _ (and_parts _ _ (all_fit request memory)).1).0 where
-  by : (regions : List Region) → eq_by_cmp key_cmp (lower_key A0) (key_of (unwrap_or (slice_get regions 0) FirstPage)) ≡ true → regions ≡ Lower A0 ∷ drop 1 regions
-  by [] e = absurd cc
-  by (Lower A0 ∷ rest) e = refl
-  by (Lower A2 ∷ rest) e = absurd cc
-  by (FirstPage ∷ rest) e = absurd cc
-  by (Page page ∷ rest) e = absurd cc
+begins_lower request memory = by (managed_by (identifier memory)) where
+  by : (family : Option Family) → regions_in request family memory ≡ Lower A0 ∷ drop 1 (regions_in request family memory)
+  by (Some family) = refl
+  by None = refl
 
 pub first_is : (request : Request) (memory : Memory) → slice_get (regions_of request memory) 0 ≡ Some (Lower A0)
 first_is request memory = ap (λ (regions : List Region). slice_get regions 0) (begins_lower request memory)
@@ -153,40 +206,41 @@ CanBeSelected addressing (Lower dev) = Unit {0}
 CanBeSelected addressing FirstPage = Unit {0}
 CanBeSelected addressing (Page page) = IsSelectable addressing page
 
-by_bank : (regions : List Region) → AllByRecursion (CanBeSelected BankAndPage) regions
-by_bank [] = tt
-by_bank (Lower dev ∷ regions) = (tt, by_bank regions)
-by_bank (FirstPage ∷ regions) = (tt, by_bank regions)
-by_bank (Page page ∷ regions) = (tt, by_bank regions)
+selectable_if : (addressing : PageAddressing) (region : Region) → is_selectable addressing region ≡ true → CanBeSelected addressing region
+selectable_if addressing (Lower dev) e = tt
+selectable_if addressing FirstPage e = tt
+selectable_if BankAndPage (Page page) e = tt
+selectable_if PageAlone (Page page) e = eqb-true _ _ e
+
+all_selectable : (addressing : PageAddressing) (regions : List Region) → list_all (is_selectable addressing) regions ≡ true → AllByRecursion (CanBeSelected addressing) regions
+all_selectable addressing [] e = tt
+all_selectable addressing (region ∷ regions) e = (selectable_if addressing region (and_parts _ _ e).0, all_selectable addressing regions (and_parts _ _ e).1)
 
 -- those of a family can, in its way
 pub can_be_selected : (request : Request) (family : Option Family) (memory : Memory) → AllByRecursion (CanBeSelected (addressing_in family)) (regions_in request family memory)
-can_be_selected request (Some Cmis) memory = by_bank (regions_in request (Some Cmis) memory)
-can_be_selected request (Some Sff8636) memory = by (bit memory QFlatMemory) (wants request 4) (wants request 5) where
-  by : (flat first third : Bool) →
-      AllByRecursion (CanBeSelected PageAlone) (if flat then and_if first FirstPage lower_alone else and_if third (Page 0x03) (and_if first (Page 0x00) lower_alone))
-  by true true third = (tt, (tt, tt))
-  by true false third = (tt, tt)
-  by false true true = (tt, (refl, (refl, tt)))
-  by false true false = (tt, (refl, tt))
-  by false false true = (tt, (refl, tt))
-  by false false false = (tt, tt)
-can_be_selected request (Some Sff8472) memory = by_bank (regions_in request (Some Sff8472) memory)
-can_be_selected request None memory = by_bank lower_alone
+can_be_selected request None memory = (tt, tt)
+can_be_selected request (Some family) memory =
+    let halves = halves_for request family (decides family memory) in
+    let addressing = addressing_in (Some family) in
+    let parts = fit_parts addressing halves (all_are_fit request family (decides family memory)) in
+    (tt, all_requested (CanBeSelected addressing) request halves (all_selectable addressing (regions_of_halves halves) parts.2))
 
 -- ---- memories with the same lower half
 
-same_number : (memory other : Memory) (field : Field) → map.get memory (field_key field) ≡ map.get other (field_key field) → number memory field ≡ number other field
+same_number : (memory other : Memory) (field : Field) → finmap.get memory (field_key field) ≡ finmap.get other (field_key field) → number memory field ≡ number other field
 unfolding reading_at
 same_number memory other field same = ap (λ (half : Option (List ℕ)). unsigned_abs (unwrap_or (option_map (λ bytes. value_in bytes field 1) half) (pos 0))) same
 
-module _ (memory other : Memory) (same : map.get memory (lower_key A0) ≡ map.get other (lower_key A0)) where
+module _ (memory other : Memory) (same : finmap.get memory (lower_key A0) ≡ finmap.get other (lower_key A0)) where
+  same_decides : (family : Family) → decides family memory ≡ decides family other
+  same_decides families.Cmis = ap (λ (flat : ℕ). flat == 1) (same_number memory other CFlatMemory same)
+  same_decides families.Sff8636 = ap (λ (flat : ℕ). flat == 1) (same_number memory other QFlatMemory same)
+  same_decides families.Sff8472 = λ i. (same_number memory other SDiagPresent same i == 1) && not (same_number memory other SAddressChange same i == 1)
+
   pub same_regions : (request : Request) → regions_of request memory ≡ regions_of request other
   same_regions request = ap (λ (id : ℕ). regions_in request (managed_by id) memory) (same_number memory other CIdentifier same) ∙ same_in (managed_by (identifier other)) where
     same_in : (family : Option Family) → regions_in request family memory ≡ regions_in request family other
-    same_in (Some Cmis) = ap (λ (flat : ℕ). cmis_regions request (flat == 1)) (same_number memory other CFlatMemory same)
-    same_in (Some Sff8636) = ap (λ (flat : ℕ). qsfp_regions request (flat == 1)) (same_number memory other QFlatMemory same)
-    same_in (Some Sff8472) = λ i. sfp_regions request ((same_number memory other SDiagPresent same i == 1) && not (same_number memory other SAddressChange same i == 1))
+    same_in (Some family) = ap (family_regions request family) (same_decides family)
     same_in None = refl
 
   pub same_paging : addressing_of memory ≡ addressing_of other
@@ -194,17 +248,17 @@ module _ (memory other : Memory) (same : map.get memory (lower_key A0) ≡ map.g
 
 -- ---- a memory that has nothing
 
-number_of_nothing : (field : Field) → number map.empty field ≡ 0
+number_of_nothing : (field : Field) → number finmap.empty field ≡ 0
 unfolding reading_at
 number_of_nothing field =
-    ap (λ (half : Option (List ℕ)). unsigned_abs (unwrap_or (option_map (λ bytes. value_in bytes field 1) half) (pos 0))) (map.get-empty key_cmp (field_key field))
+    ap (λ (half : Option (List ℕ)). unsigned_abs (unwrap_or (option_map (λ bytes. value_in bytes field 1) half) (pos 0))) (finmap.get-empty key_cmp (field_key field))
 
 no_family : managed_by 0 ≡ None
 unfolding managed_by
 no_family = refl
 
-family_of_nothing : managed_by (identifier map.empty) ≡ None
+family_of_nothing : managed_by (identifier finmap.empty) ≡ None
 family_of_nothing = ap managed_by (number_of_nothing CIdentifier) ∙ no_family
 
-pub asked_of_nothing : (request : Request) → regions_of request map.empty ≡ lower_alone
-asked_of_nothing request = ap (λ (family : Option Family). regions_in request family map.empty) family_of_nothing
+pub asked_of_nothing : (request : Request) → regions_of request finmap.empty ≡ lower_alone
+asked_of_nothing request = ap (λ (family : Option Family). regions_in request family finmap.empty) family_of_nothing

@@ -1,5 +1,7 @@
 // Which halves of a module are read, by what its image has in the lower half of A0.
-ghost use Rattle.std.specs.Prelude.{◌≡◌, ◌≤◌, ◌<◌, ◌+◌, length, slice_get};
+ghost use Rattle.std.specs.Prelude.{◌≡◌, ◌≤◌, ◌∷◌, length, slice_get};
+ghost use Rattle.bus_model.specs.declared.device.Dev.TheVariants.{A0};
+ghost use Rattle.module_reading.specs.declared.region.Region.TheVariants.{Lower};
 ghost use Rattle.module_reading.specs.Regions as spec;
 
 use crate::region::Region;
@@ -22,73 +24,60 @@ fn regions(request: Request, image: &Image) -> ArrayVec<Region, MOST>
     ensures { result.items ≡ spec.regions_of request image.now }
 {
     match Family::managing(number(image, Field::CIdentifier)) {
-        Some(Family::Cmis) => cmis_regions(request, number(image, Field::CFlatMemory) == 1),
-        Some(Family::Sff8636) => qsfp_regions(request, bit(image, Field::QFlatMemory)),
-        Some(Family::Sff8472) => sfp_regions(request, has_diagnostics(image)),
-        None => lower_alone(),
+        Some(family) => requested(request, halves(request, family, decides(family, image))),
+        None => requested(request, &[]),
     }
 }
 
-fn cmis_regions(request: Request, flat: bool) -> ArrayVec<Region, MOST>
-    ensures { result.items ≡ spec.cmis_regions request flat }
+// What decides which halves a module of this family has.
+fn decides(family: Family, image: &Image) -> bool
+    ensures { result ≡ spec.decides family image.now }
 {
-    let mut regions = lower_alone();
-    if flat {
-        and_if(request.wants(0), Region::FirstPage, &mut regions);
-    } else if request.is_for_banks() {
-        and_if(request.wants(0), Region::Page(0x111), &mut regions);
-        and_if(request.wants(1), Region::Page(0x211), &mut regions);
-        and_if(request.wants(2), Region::Page(0x311), &mut regions);
-    } else {
-        and_if(request.wants(0), Region::Page(0x00), &mut regions);
-        and_if(request.wants(1), Region::Page(0x01), &mut regions);
-        and_if(request.wants(2), Region::Page(0x02), &mut regions);
-        and_if(request.wants(3), Region::Page(0x11), &mut regions);
+    match family {
+        Family::Cmis => number(image, Field::CFlatMemory) == 1,
+        Family::Sff8636 => bit(image, Field::QFlatMemory),
+        Family::Sff8472 => has_diagnostics(image),
     }
-    regions
 }
 
-fn qsfp_regions(request: Request, flat: bool) -> ArrayVec<Region, MOST>
-    ensures { result.items ≡ spec.qsfp_regions request flat }
+// The halves that such modules have beside the lower one of A0, each after the bit of a request that asks for it.
+fn halves(request: Request, family: Family, holds: bool) -> &'static [(u8, Region)]
+    ensures halves { result.now ≡ spec.halves_for request family holds }
+    ensures few { length result.now ≤ 4 }
 {
-    let mut regions = lower_alone();
-    if flat {
-        and_if(request.wants(4), Region::FirstPage, &mut regions);
-    } else {
-        and_if(request.wants(4), Region::Page(0x00), &mut regions);
-        and_if(request.wants(5), Region::Page(0x03), &mut regions);
+    match (family, holds) {
+        (Family::Cmis, false) if request.is_for_banks() => &[
+            (0, Region::Page(0x111)),
+            (1, Region::Page(0x211)),
+            (2, Region::Page(0x311)),
+        ],
+        (Family::Cmis, true) => &[(0, Region::FirstPage)],
+        (Family::Cmis, false) => &[
+            (0, Region::Page(0x00)),
+            (1, Region::Page(0x01)),
+            (2, Region::Page(0x02)),
+            (3, Region::Page(0x11)),
+        ],
+        (Family::Sff8636, true) => &[(4, Region::FirstPage)],
+        (Family::Sff8636, false) => &[(4, Region::Page(0x00)), (5, Region::Page(0x03))],
+        (Family::Sff8472, true) => &[(6, Region::Lower(Dev::A2))],
+        (Family::Sff8472, false) => &[],
     }
-    regions
 }
 
-fn sfp_regions(request: Request, diagnosed: bool) -> ArrayVec<Region, MOST>
-    ensures { result.items ≡ spec.sfp_regions request diagnosed }
-{
-    let mut regions = lower_alone();
-    if diagnosed {
-        and_if(request.wants(6), Region::Lower(Dev::A2), &mut regions);
-    }
-    regions
-}
-
-fn lower_alone() -> ArrayVec<Region, MOST>
-    ensures items { result.items ≡ spec.lower_alone }
-    ensures len { length result.items ≡ 1 }
+// The lower half of A0, and those of these whose bits a request has.
+fn requested(request: Request, halves: &[(u8, Region)]) -> ArrayVec<Region, MOST>
+    requires { length halves.now ≤ 4 }
+    ensures { result.items ≡ Lower A0 ∷ spec.requested request halves.now }
 {
     let mut regions = ArrayVec::new();
     regions.push(Region::Lower(Dev::A0));
-    regions
-}
-
-// One half more, if it is wanted.
-fn and_if(wanted: bool, region: Region, regions: &mut ArrayVec<Region, MOST>)
-    requires { length regions.old.items < 5 }
-    ensures items { regions.new.items ≡ spec.and_if wanted region regions.old.items }
-    ensures few { length regions.new.items ≤ length regions.old.items + 1 }
-{
-    if wanted {
-        regions.push(region);
+    for (bit, region) in halves {
+        if request.wants(*bit) {
+            regions.push(*region);
+        }
     }
+    regions
 }
 
 // Whether device A2 has diagnostics that are read.

@@ -1,4 +1,4 @@
-ghost use Rattle.std.specs.Prelude.{◌≡◌, ◌<◌};
+ghost use Rattle.std.specs.Prelude.{◌≡◌};
 ghost use Rattle.module_reading.specs.Regions as spec;
 
 /// Which halves of a module are read besides the lower half of A0, as far as it has them.
@@ -40,9 +40,18 @@ impl Request {
 
     /// Whether it has this bit, of which there are eight.
     pub fn wants(self, number: u8) -> bool
-        requires { number < 8 }
         ensures { result ≡ spec.wants self number }
     {
-        self.halves >> number & 1 == 1
+        has_bit(self.halves, number)
+    }
+}
+
+fn has_bit(byte: u8, number: u8) -> bool
+    ensures { result ≡ spec.has_bit byte number }
+{
+    if number < 8 {
+        byte >> number & 1 == 1
+    } else {
+        false
     }
 }

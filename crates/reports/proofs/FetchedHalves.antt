@@ -41,7 +41,7 @@ use Rattle.field_tables.proofs.SameValues.{Agree, same_absent, same_number}
 use Rattle.module_decoding.specs.ModuleFamilies.{identifier}
 use Rattle.reports.specs.FetchedImages.{AreFetched}
 use Rattle.module_reading.specs.ReadImages.{IsImageOf, IsLeftOut, IsRead, IsSettled, IsShown, SomeStep, StoresNothing}
-use Rattle.module_reading.specs.Regions.{everything, has_diagnostics, key_of, operation, addressing_in, addressing_of, regions_in, regions_of, sfp_regions}
+use Rattle.module_reading.specs.Regions.{addressing_in, addressing_of, everything, family_regions, has_diagnostics, key_of, operation, regions_in, regions_of}
 use Rattle.module_reading.specs.declared.region.Region.{Region}
 use Rattle.module_reading.specs.declared.region.Region.TheVariants.{Lower, FirstPage, Page}
 use Rattle.module_reading.specs.declared.request.Request.{Request}
@@ -233,7 +233,7 @@ module _ (memory copy : Memory) (state : State) (history : History) (image : IsI
   agree_all by [] can settled = tt
   agree_all by (region ∷ regions) can settled = (agrees region (within by region can.0) settled.0, agree_all by regions can.1 settled.1)
 
-  agree_lowers : (diagnosed : Bool) → AllByRecursion (IsSettled false history copy) (sfp_regions everything diagnosed) → AllByRecursion (Agree copy memory) (map key_of (sfp_regions everything diagnosed))
+  agree_lowers : (diagnosed : Bool) → AllByRecursion (IsSettled false history copy) (family_regions everything Sff8472 diagnosed) → AllByRecursion (Agree copy memory) (map key_of (family_regions everything Sff8472 diagnosed))
   agree_lowers true settled = (agrees (Lower A0) tt settled.0, (agrees (Lower A2) tt settled.1.0, tt))
   agree_lowers false settled = (agrees (Lower A0) tt settled.0, tt)
 

@@ -31,7 +31,7 @@ use Rattle.module_decoding.specs.ModuleFamilies.{identifier}
 use Rattle.module_reading.specs.declared.region.Region.{Region}
 use Rattle.module_reading.specs.declared.region.Region.TheVariants.{Lower, FirstPage, Page}
 use Rattle.module_reading.specs.ReadImages.{IsSettled}
-use Rattle.module_reading.specs.Regions.{addressing_in, addressing_of, cmis_regions, everything, is_flat, key_of, of_banks, regions_in, regions_of}
+use Rattle.module_reading.specs.Regions.{addressing_in, addressing_of, everything, family_regions, is_flat, key_of, of_banks, regions_in, regions_of}
 use Rattle.module_reading.proofs.RegionLaws.{keys_are, same_regions}
 use Rattle.observables.specs.Banks.{bank_count, banks_by}
 use Rattle.observables.specs.Words.{byte_in}
@@ -137,15 +137,15 @@ module _ (old mid : Seen (List Directive × Windowed)) (memory copy : Memory) (i
     flat : is_flat from ≡ false
     flat = ap (λ (n : ℕ). n == 1) (same_number from memory CFlatMemory low_from refl refl ∙ sym (same_number copy memory CFlatMemory low refl refl)) ∙ (paged_by first).1
 
-    asked_for : regions_of (of_banks count) from ≡ cmis_regions (of_banks count) false
-    asked_for = ap (λ (family : Option Family). regions_in (of_banks count) family from) family ∙ ap (cmis_regions (of_banks count)) flat
+    asked_for : regions_of (of_banks count) from ≡ family_regions (of_banks count) Cmis false
+    asked_for = ap (λ (family : Option Family). regions_in (of_banks count) family from) family ∙ ap (family_regions (of_banks count) Cmis) flat
 
     paged : (page : ℕ) → IsPaged memory (addressing_of from) page mid.state.1
     paged page =
         subst (λ (by : PageAddressing). IsPaged memory by page mid.state.1) (sym (ap addressing_in family))
         (record { selecting = by_bank first; sound = record { memory_is = of_mid; bank = tt }; selectable = tt })
 
-    each : AllByRecursion (IsSettled false later from) (cmis_regions (of_banks count) false)
+    each : AllByRecursion (IsSettled false later from) (family_regions (of_banks count) Cmis false)
     each = subst (AllByRecursion (IsSettled false later from)) asked_for read.answered.each
 
     put_agrees : (page : ℕ) → map.get (with_banks from copy) (page_key page) ≡ map.get from (page_key page) → IsSettled false later from (Page page) → Agree (with_banks from copy) memory (page_key page)

@@ -1,18 +1,20 @@
 -- Which pages are read for reports, and which of further banks.
-use Rattle.std.proofs.Common.{◌≡◌, inl, inr, ℕ, ◌<◌, ◌≤◌, ◌%◌, ◌==◌, Bool, true, false, List, [], ◌∷◌, Option, Some, None, is_some, nat_lt, refl, sym, ap, subst, if◌then◌else◌, arith}
+use Rattle.std.proofs.Common.{◌≡◌, inl, inr, ℕ, ◌<◌, ◌≤◌, ◌%◌, ◌==◌, Bool, true, false, not, List, [], ◌∷◌, Option, Some, None, is_some, nat_lt, refl, sym, ap, subst, if◌then◌else◌, arith}
 use Rattle.std.specs.FinMap as map
-use Rattle.std.specs.List.{AllByRecursion}
+use Rattle.std.proofs.lemmas.Bool.{and_parts, eq-eqb, ltb-true}
+use Rattle.std.specs.List.{AllByRecursion, list_all}
 use Rattle.std.specs.Option.{option_map_or}
 use Rattle.paged_memory.specs.declared.family.Family.{Family}
-use Rattle.paged_memory.specs.declared.family.Family.TheVariants.{Cmis, Sff8636, Sff8472}
+use Rattle.paged_memory.specs.declared.family.Family.TheVariants.{Cmis}
 use Rattle.paged_memory.specs.declared.key.Half.TheVariants as halves
 use Rattle.paged_memory.specs.declared.key.Key.{Key}
+use Rattle.paged_memory.specs.Families.{is_family}
 use Rattle.paged_memory.specs.Images.{Memory}
 use Rattle.paged_memory.specs.Keys.{page_key}
 use Rattle.module_reading.specs.declared.region.Region.{Region}
 use Rattle.module_reading.specs.declared.region.Region.TheVariants.{Lower, FirstPage, Page}
 use Rattle.module_reading.specs.ReadImages.{IsKeyAmong}
-use Rattle.module_reading.specs.Regions.{cmis_regions, everything, is_flat, qsfp_regions, regions_in, sfp_regions}
+use Rattle.module_reading.specs.Regions.{decides, everything, family_regions, is_flat, regions_in}
 use Rattle.observables.specs.Banks.{bank_count, banks_by}
 use Rattle.observables.specs.Words.{byte_in}
 use Rattle.reports.proofs.PutPages.{one_number}
@@ -45,53 +47,67 @@ among_regions P page (region ∷ regions) above all (inr later) = among_regions 
 abbrev pub IsLow : ℕ → Type 0
 IsLow page = page < 0x20
 
-abbrev IsOther : ℕ → Type 0
-IsOther page = page ≡ 1 → ⊥
+abbrev has_low : Region → Bool
+has_low (Lower dev) = true
+has_low FirstPage = true
+has_low (Page page) = nat_lt page 0x20
 
-low_cmis : (flat : Bool) → AllByRecursion (HasPage IsLow) (cmis_regions everything flat)
-low_cmis true = (tt, (omega arith, tt))
-low_cmis false = (tt, (omega arith, (omega arith, (omega arith, (omega arith, tt)))))
+low_true : (family : Family) → list_all has_low (family_regions everything family true) ≡ true
+low_true Cmis = refl
+low_true _ = refl
 
-low_qsfp : (flat : Bool) → AllByRecursion (HasPage IsLow) (qsfp_regions everything flat)
-low_qsfp true = (tt, (omega arith, tt))
-low_qsfp false = (tt, (omega arith, (omega arith, tt)))
-
-low_sfp : (diagnosed : Bool) → AllByRecursion (HasPage IsLow) (sfp_regions everything diagnosed)
-low_sfp true = (tt, (tt, tt))
-low_sfp false = (tt, tt)
+low_false : (family : Family) → list_all has_low (family_regions everything family false) ≡ true
+low_false Cmis = refl
+low_false _ = refl
 
 pub all_low : (family : Option Family) (memory : Memory) → AllByRecursion (HasPage IsLow) (regions_in everything family memory)
-all_low (Some Cmis) memory = low_cmis _
-all_low (Some Sff8636) memory = low_qsfp _
-all_low (Some Sff8472) memory = low_sfp _
 all_low None memory = (tt, tt)
+all_low (Some family) memory = by (family_regions everything family (decides family memory)) (either (decides family memory)) where
+  either : (holds : Bool) → list_all has_low (family_regions everything family holds) ≡ true
+  either true = low_true family
+  either false = low_false family
 
-other_flat : AllByRecursion (HasPage IsOther) (cmis_regions everything true)
-other_flat = (tt, ((λ e. cc), tt))
+  by : (regions : List Region) → list_all has_low regions ≡ true → AllByRecursion (HasPage IsLow) regions
+  by [] e = tt
+  by (Lower dev ∷ regions) e = (tt, by regions e)
+  by (FirstPage ∷ regions) e = (omega arith, by regions e)
+  by (Page page ∷ regions) e = (ltb-true page 0x20 (and_parts _ _ e).0, by regions (and_parts _ _ e).1)
 
-other_qsfp : (flat : Bool) → AllByRecursion (HasPage IsOther) (qsfp_regions everything flat)
-other_qsfp true = (tt, ((λ e. cc), tt))
-other_qsfp false = (tt, ((λ e. cc), ((λ e. cc), tt)))
+-- page 01h isn't among them
+abbrev lacks_first : Region → Bool
+lacks_first (Lower dev) = true
+lacks_first FirstPage = true
+lacks_first (Page page) = not (page == 1)
 
-other_sfp : (diagnosed : Bool) → AllByRecursion (HasPage IsOther) (sfp_regions everything diagnosed)
-other_sfp true = (tt, (tt, tt))
-other_sfp false = (tt, tt)
+no_first : (regions : List Region) → list_all lacks_first regions ≡ true → IsKeyAmong regions (page_key 1) → ⊥
+no_first regions lacking among = among_page (λ page. page ≡ 1 → ⊥) 1 regions (by regions lacking) among refl where
+  by : (regions : List Region) → list_all lacks_first regions ≡ true → AllByRecursion (HasPage (λ page. page ≡ 1 → ⊥)) regions
+  by [] e = tt
+  by (Lower dev ∷ regions) e = (tt, by regions e)
+  by (FirstPage ∷ regions) e = ((λ is. cc), by regions e)
+  by (Page page ∷ regions) e = ((λ is. let one : page == 1 ≡ true = eq-eqb page 1 is in let never : not (page == 1) ≡ true = (and_parts _ _ e).0 in cc), by regions (and_parts _ _ e).1)
 
-not_flat : (flat : Bool) → IsKeyAmong (cmis_regions everything flat) (page_key 1) → flat ≡ false
-not_flat true among = absurd (among_page IsOther 1 (cmis_regions everything true) other_flat among refl)
-not_flat false among = refl
+lacks_true : (family : Family) → list_all lacks_first (family_regions everything family true) ≡ true
+lacks_true Cmis = refl
+lacks_true _ = refl
+
+lacks_false : (family : Family) → is_family Cmis (Some family) ≡ false → list_all lacks_first (family_regions everything family false) ≡ true
+lacks_false Cmis other = absurd cc
+lacks_false _ other = refl
 
 -- only of a CMIS module whose memory isn't flat is page 01h
 pub has_pages : (family : Option Family) (memory : Memory) → IsKeyAmong (regions_in everything family memory) (page_key 1) → (family ≡ Some Cmis) × (is_flat memory ≡ false)
-has_pages (Some Cmis) memory among = (refl, not_flat (is_flat memory) among)
-has_pages (Some Sff8636) memory among = absurd (among_page IsOther 1 (regions_in everything (Some Sff8636) memory) (other_qsfp _) among refl)
-has_pages (Some Sff8472) memory among = absurd (among_page IsOther 1 (regions_in everything (Some Sff8472) memory) (other_sfp _) among refl)
-has_pages None memory among = absurd (among_page IsOther 1 (regions_in everything None memory) (tt, tt) among refl)
+has_pages None memory among = absurd (no_first (regions_in everything None memory) refl among)
+has_pages (Some family) memory among = by family (decides family memory) refl among where
+  by : (family : Family) (holds : Bool) → decides family memory ≡ holds → IsKeyAmong (family_regions everything family holds) (page_key 1) → (Some family ≡ Some Cmis) × (is_flat memory ≡ false)
+  by family true is among = absurd (no_first (family_regions everything family true) (lacks_true family) among)
+  by Cmis false is among = (refl, is)
+  by other false is among = absurd (no_first (family_regions everything other false) (lacks_false other refl) among)
 
 -- ---- those of further banks
 
 abbrev asked : Bool → Bool → Bool → List Region
-asked three two one = cmis_regions (record { halves = if three then 0x87 else if two then 0x83 else if one then 0x81 else 0x80 }) false
+asked three two one = family_regions (record { halves = if three then 0x87 else if two then 0x83 else if one then 0x81 else 0x80 }) Cmis false
 
 pub asks_first : (P : Region → Type 0) (three two one : Bool) → one ≡ true → AllByRecursion P (asked three two one) → P (Page 0x111)
 asks_first P true two one is all = all.1.0

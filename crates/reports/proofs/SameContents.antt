@@ -31,7 +31,7 @@ use Rattle.module_decoding.specs.CmisPages.{absent_page, is_flat}
 use Rattle.module_decoding.specs.ModuleFamilies as families
 use Rattle.module_decoding.specs.ModuleFamilies.{family_of, identifier}
 use Rattle.module_decoding.specs.Reports.{fault_in, fault_of, lacked, of_sff, pages_of, sff8472_fault, sff8636_fault}
-use Rattle.module_reading.specs.Regions.{has_diagnostics}
+use Rattle.module_reading.specs.Regions.{decides, has_diagnostics}
 use Rattle.module_details.specs.AppDetails as app_details
 use Rattle.module_details.specs.CmisDetails as cmis
 use Rattle.module_details.specs.QsfpDetails as qsfp
@@ -59,12 +59,19 @@ use Rattle.reports.proofs.SameRows.{flag_rows_same, rows_same}
 
 -- ---- the halves that rows read
 
--- of a module of this family, whose memory is flat or not
+-- diagnostics are read for them
+abbrev is_diagnosed : Report → Bool
+is_diagnosed Inventory = false
+is_diagnosed Monitors = true
+is_diagnosed Flags = true
+
+-- what decides which halves they read of a module of this family, whose memory is flat or not
+abbrev decided : Family → Report → Bool → Bool
+decided Sff8472 report flat = is_diagnosed report
+decided family report flat = flat
+
 abbrev keys_of : Family → Report → Bool → List Key
-keys_of Cmis report flat = keys_by Cmis flat
-keys_of Sff8636 report flat = keys_by Sff8636 flat
-keys_of Sff8472 Inventory flat = lower_key A0 ∷ []
-keys_of Sff8472 report flat = keys_by Sff8472 true
+keys_of family report flat = keys_by family (decided family report flat)
 
 module _ {a b : Memory} where
   -- with these further banks
@@ -136,7 +143,7 @@ module _ (a b : Memory) (low : Agree a b (lower_key A0)) where
   flat_same : (family : Family) → is_flat_in family a ≡ is_flat_in family b
   flat_same Cmis = same_told a b low Cmis
   flat_same Sff8636 = same_told a b low Sff8636
-  flat_same Sff8472 = refl
+  flat_same _ = refl
 
   -- the halves that a report reads of a module of this family, with the lanes of all banks or of bank 0
   abbrev ReportAgrees : Bool → Report → Family → Type 0
@@ -158,10 +165,9 @@ module _ (a b : Memory) (low : Agree a b (lower_key A0)) where
       ∙ (rows_same agrees (numbers further) flat (rows_of report Cmis)).same (cmis_lines_in report flat further agrees)
       ∙ ap (λ (numbers : List ℕ). rows_entries b numbers flat (rows_of report Cmis)) (found.1 ∙ banks)
       ∙ ap (λ (flat : Bool). rows_entries b (banks_in all_lanes Cmis b) flat (rows_of report Cmis)) (flat_same Cmis)
-  lines_same all_lanes report Sff8636 banks agree =
-      let flat = bit a QFlatMemory in
-      (rows_same (no_more agree) [] flat (rows_of report Sff8636)).same (lines_in report Sff8636 flat (no_more agree) (λ same. cc)) ∙ ap (λ (flat : Bool). rows_entries b [] flat (rows_of report Sff8636)) (flat_same Sff8636)
-  lines_same all_lanes report Sff8472 banks agree = (rows_same (no_more agree) [] false (rows_of report Sff8472)).same (lines_in report Sff8472 false (no_more agree) (λ same. cc))
+  lines_same all_lanes report other banks agree =
+      let flat = is_flat_in other a in
+      (rows_same (no_more agree) [] flat (rows_of report other)).same (lines_in report other flat (no_more agree) (λ same. cc)) ∙ ap (λ (flat : Bool). rows_entries b [] flat (rows_of report other)) (flat_same other)
 
   flags_same : (all_lanes : Bool) (family : Family) → SameBanks all_lanes family → ReportAgrees all_lanes Flags family → family_flags all_lanes family a ≡ family_flags all_lanes family b
   flags_same all_lanes Cmis banks agree =
@@ -173,10 +179,9 @@ module _ (a b : Memory) (low : Agree a b (lower_key A0)) where
       ∙ (flag_rows_same agrees (numbers further) flat (flag_rows_of Cmis)).same (cmis_flags_in flat further agrees)
       ∙ ap (λ (numbers : List ℕ). rows_flags b numbers flat (flag_rows_of Cmis)) (found.1 ∙ banks)
       ∙ ap (λ (flat : Bool). rows_flags b (banks_in all_lanes Cmis b) flat (flag_rows_of Cmis)) (flat_same Cmis)
-  flags_same all_lanes Sff8636 banks agree =
-      let flat = bit a QFlatMemory in
-      (flag_rows_same (no_more agree) [] flat (flag_rows_of Sff8636)).same (flags_in Sff8636 flat (no_more agree) (λ same. cc)) ∙ ap (λ (flat : Bool). rows_flags b [] flat (flag_rows_of Sff8636)) (flat_same Sff8636)
-  flags_same all_lanes Sff8472 banks agree = (flag_rows_same (no_more agree) [] false (flag_rows_of Sff8472)).same (flags_in Sff8472 false (no_more agree) (λ same. cc))
+  flags_same all_lanes other banks agree =
+      let flat = is_flat_in other a in
+      (flag_rows_same (no_more agree) [] flat (flag_rows_of other)).same (flags_in other flat (no_more agree) (λ same. cc)) ∙ ap (λ (flat : Bool). rows_flags b [] flat (flag_rows_of other)) (flat_same other)
 
   contents_same : (all_lanes : Bool) (report : Report) (family : Family) → SameBanks all_lanes family → ReportAgrees all_lanes report family → entries_in all_lanes report family a ≡ entries_in all_lanes report family b
   contents_same all_lanes Inventory family banks agree = lines_same all_lanes Inventory family banks agree
@@ -236,16 +241,15 @@ module _ (a b : Memory) (low : Agree a b (lower_key A0)) where
 
   report_agrees : (all_lanes : Bool) → BanksAgree a b → (report : Report) (family : Family) → FamilyAgrees a b family → fault_in report family a ≡ None → ReportAgrees all_lanes report family
   report_agrees all_lanes banks report Cmis agree none = with_more a b (keys_by Cmis (is_flat a)) (bank_keys (banks_in all_lanes Cmis a)) (agree (is_flat a) refl) (further_agree a b banks all_lanes (is_flat a))
-  report_agrees all_lanes banks report Sff8636 agree none = and_none (agree (bit a QFlatMemory) refl)
   report_agrees all_lanes banks report Sff8472 agree none = and_none (sfp_agrees agree report (none_mapped (λ (f : SffFault). Sff f) (sff8472_fault report a) none))
+  report_agrees all_lanes banks report other agree none = and_none (agree (decides other a) refl)
 
   same_banks : (all_lanes : Bool) → BanksAgree a b → (family : Family) → FamilyAgrees a b family → SameBanks all_lanes family
   same_banks all_lanes banks Cmis agree = by (is_flat a) refl ∙ ap (λ (flat : Bool). if all_lanes then further_banks flat b else []) (flat_same Cmis) where
     by : (flat : Bool) → is_flat a ≡ flat → (if all_lanes then further_banks flat a else []) ≡ (if all_lanes then further_banks flat b else [])
     by true is = flat_banks_same a b all_lanes
     by false is = paged_banks_same a b ((agree false is).half (upper_key A0 0 0x01) refl) banks all_lanes
-  same_banks all_lanes banks Sff8636 agree = refl
-  same_banks all_lanes banks Sff8472 agree = refl
+  same_banks all_lanes banks _ agree = refl
 
 -- what is the same of each family, if its halves agree, is the same of any
 by_family : {A : Type 0} (all_lanes : Bool) (report : Report) (content : Family → Memory → A) (a b : Memory) → LanesAgree a b

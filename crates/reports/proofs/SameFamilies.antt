@@ -14,15 +14,14 @@ use Rattle.paged_memory.specs.Images.{Memory}
 use Rattle.paged_memory.specs.Keys.{lower_key, upper_key}
 use Rattle.field_tables.specs.declared.field.Field.TheVariants.{CFlatMemory, CIdentifier, CRevision, QFlatMemory, SAddressChange, SDiagPresent}
 use Rattle.field_tables.specs.FirstFault.{first_fault}
-use Rattle.field_tables.specs.Readings.{bit, number}
+use Rattle.field_tables.specs.Readings.{number}
 use Rattle.field_tables.proofs.SameValues.{Agree, same_absent, same_number}
 use Rattle.module_decoding.specs.declared.module_family.ModuleFault.{ModuleFault}
 use Rattle.module_decoding.specs.declared.module_family.ModuleFault.TheVariants.{Absent, Unknown, Revision}
-use Rattle.module_decoding.specs.CmisPages.{is_flat}
 use Rattle.module_decoding.specs.ModuleFamilies as families
 use Rattle.module_decoding.specs.ModuleFamilies.{identifier, known}
 use Rattle.module_reading.specs.declared.region.Region.{Region}
-use Rattle.module_reading.specs.Regions.{cmis_regions, everything, has_diagnostics, key_of, qsfp_regions, regions_in, regions_of, sfp_regions}
+use Rattle.module_reading.specs.Regions.{decides, everything, family_regions, key_of, regions_in, regions_of}
 use Rattle.module_reading.proofs.RegionLaws.{begins_lower}
 use Rattle.observables.specs.Banks.{bank_count}
 use Rattle.reports.specs.SameReports.{IsSame}
@@ -55,20 +54,12 @@ same_after {F = F} x y u v content other same later =
 
 -- ---- the halves of a family
 
--- what tells which halves a module of this family has: that its memory is flat, or that it has diagnostics
-abbrev pub tells : Family → Memory → Bool
-tells Cmis memory = is_flat memory
-tells Sff8636 memory = bit memory QFlatMemory
-tells Sff8472 memory = has_diagnostics memory
-
 abbrev pub keys_by : Family → Bool → List Key
-keys_by Cmis flat = map key_of (cmis_regions everything flat)
-keys_by Sff8636 flat = map key_of (qsfp_regions everything flat)
-keys_by Sff8472 diagnosed = map key_of (sfp_regions everything diagnosed)
+keys_by family holds = map key_of (family_regions everything family holds)
 
 -- the halves agree that are asked for of a module of this family
 abbrev pub FamilyAgrees : Memory → Memory → Family → Type 0
-FamilyAgrees a b family = (which : Bool) → tells family a ≡ which → KeysAgree a b (keys_by family which)
+FamilyAgrees a b family = (which : Bool) → decides family a ≡ which → KeysAgree a b (keys_by family which)
 
 -- and of one that is found to be of it, or of none
 abbrev pub AllAgree : Memory → Memory → Type 0
@@ -83,10 +74,8 @@ pub low_agrees : (a b : Memory) → AllAgree a b → Agree a b (lower_key A0)
 low_agrees a b all = all.half (lower_key A0) (ap (λ (regions : List Region). is_among (map key_of regions) (lower_key A0)) (begins_lower everything a))
 
 pub family_agrees : (a b : Memory) (family : Family) → managed_by (identifier a) ≡ Some family → AllAgree a b → FamilyAgrees a b family
-family_agrees a b family managed all = by family (subst (λ (found : Option Family). KeysAgree a b (map key_of (regions_in everything found a))) managed all) where
-  by : (family : Family) → KeysAgree a b (map key_of (regions_in everything (Some family) a)) → FamilyAgrees a b family
-  by Cmis agree which is = subst (λ (flat : Bool). KeysAgree a b (keys_by Cmis flat)) is agree
-  by other agree which is = subst (λ (t : Bool). KeysAgree a b (keys_by other t)) is agree
+family_agrees a b family managed all which is =
+    subst (λ (holds : Bool). KeysAgree a b (keys_by family holds)) is (subst (λ (found : Option Family). KeysAgree a b (map key_of (regions_in everything found a))) managed all)
 
 -- a family that all reports may speak of is the one that manages the module
 pub is_managed : (id : ℕ) (family : Family) → family_by id ≡ Some family → managed_by id ≡ Some family
@@ -97,7 +86,7 @@ is_managed id family e = by (is_other_cmis id) e where
   by false is = is
 
 module _ (a b : Memory) (low : Agree a b (lower_key A0)) where
-  pub same_told : (family : Family) → tells family a ≡ tells family b
+  pub same_told : (family : Family) → decides family a ≡ decides family b
   same_told Cmis = ap (λ (n : ℕ). n == 1) (same_number a b CFlatMemory low refl refl)
   same_told Sff8636 = ap (λ (n : ℕ). n == 1) (same_number a b QFlatMemory low refl refl)
   same_told Sff8472 = λ i. (same_number a b SDiagPresent low refl refl i == 1) && not (same_number a b SAddressChange low refl refl i == 1)
@@ -105,8 +94,8 @@ module _ (a b : Memory) (low : Agree a b (lower_key A0)) where
   -- what is the same of modules of the family of which either is told
   pub by_told : {A : Type 0} (family : Family) (of : Bool → Memory → A) → FamilyAgrees a b family → (each : (which : Bool) → KeysAgree a b (keys_by family which) → SameIf (of which a) (of which b))
       → ((agree : KeysAgree a b (keys_by family true)) → (each true agree).test ≡ true) → ((agree : KeysAgree a b (keys_by family false)) → (each false agree).test ≡ true)
-      → of (tells family a) a ≡ of (tells family b) b
-  by_told family of agree each if_true if_false = by (tells family a) (agree (tells family a) refl) ∙ ap (λ (which : Bool). of which b) (same_told family) where
+      → of (decides family a) a ≡ of (decides family b) b
+  by_told family of agree each if_true if_false = by (decides family a) (agree (decides family a) refl) ∙ ap (λ (which : Bool). of which b) (same_told family) where
     by : (which : Bool) → KeysAgree a b (keys_by family which) → of which a ≡ of which b
     by true agree = (each true agree).same (if_true agree)
     by false agree = (each false agree).same (if_false agree)
