@@ -8,7 +8,7 @@ use Rattle.field_tables.specs.FieldRows.{row_of}
 use Rattle.field_tables.specs.Readings.{number}
 use Rattle.paged_memory.specs.declared.family.Family.{Family}
 use Rattle.paged_memory.specs.declared.family.Family.TheVariants as families
-use Rattle.paged_memory.specs.Families.{is_family, managed_by}
+use Rattle.paged_memory.specs.Families.{managed_by}
 use Rattle.paged_memory.specs.Images.{Memory}
 use Rattle.observables.specs.declared.amount.Amount.{Amount}
 use Rattle.observables.specs.declared.instance.Instance.{Instance}
@@ -30,7 +30,7 @@ use Rattle.observables.specs.CmisMonitors.{cmis_monitor}
 use Rattle.observables.specs.Instances.{instance_at}
 use Rattle.observables.specs.Monitored.{amount_at, flags_in_lane, is_advertised, is_present, limit_amounts, no_limits}
 use Rattle.observables.specs.Observables.{observable_of}
-use Rattle.observables.specs.Pages.{has_observables}
+use Rattle.observables.specs.Pages.{has_observables, is_cmis}
 use Rattle.observables.specs.QsfpMonitors.{qsfp_monitor}
 use Rattle.observables.specs.Quantities.{quantity_row}
 use Rattle.observables.specs.SfpMonitors.{sfp_monitor}
@@ -115,9 +115,8 @@ abbrev pub decoded : Memory → ℕ → ℕ → Option Observation
 decoded memory bank n =
     option_and_then (λ instance. option_map (with_instance memory bank instance) (observable_of instance.descriptor.kind)) (instance_at memory bank n)
 
--- modules of other families have other things on these pages
 abbrev pub observed : Memory → ℕ → ℕ → Option Observation
-observed memory bank n = if is_family families.Cmis (managed_by (number memory CIdentifier)) then decoded memory bank n else None
+observed memory bank n = if is_cmis memory then decoded memory bank n else None
 
 -- ---- the list
 

@@ -9,7 +9,7 @@ use crate::instance::{Instance, instance_at};
 use crate::monitor::Monitor;
 use crate::monitored::{amount_at, flags_in_lane, is_advertised, is_present, limit_amounts};
 use crate::observable::{Figure, Observable, Side, observable_of};
-use crate::pages::has_observables;
+use crate::pages::{has_observables, is_cmis};
 use crate::quantity::{Quantity, Scope, Unit, quantity_row};
 use crate::tables::{cmis_monitor, qsfp_monitor, sfp_monitor};
 use field_tables::{Field, PerLimit, number, row};
@@ -133,7 +133,7 @@ fn observed(image: &Image, bank: u8, instance: u8) -> Option<Observation>
     requires { bank < 4 }
     ensures { result ≡ spec.observed image.now bank instance }
 {
-    if Family::managing(number(image, Field::CIdentifier)) != Some(Family::Cmis) {
+    if !is_cmis(image) {
         return None;
     }
     decoded(image, bank, instance)

@@ -4,14 +4,26 @@ ghost use Rattle.observables.specs.Pages as spec;
 
 use crate::words::{byte_in, page_of};
 use bus_model::Dev;
-use paged_memory::{Image, Key};
+use field_tables::{Field, number};
+use paged_memory::{Family, Image, Key};
 
-/// The first page of a bank that the image lacks of those that have observables: byte 142 of page 01h has whether there are any,
-/// page 2Fh how many groups there are.
+/// Whether the module is managed by CMIS: those of other families have other things on pages 01h and 20h to 2Fh.
+pub fn is_cmis(image: &Image) -> bool
+    ensures { result ≡ spec.is_cmis image.now }
+{
+    Family::managing(number(image, Field::CIdentifier)) == Some(Family::Cmis)
+}
+
+/// The first page of a bank that the image of a CMIS module lacks of those that have observables: byte 142 of page 01h has
+/// whether there are any, page 2Fh how many groups there are.
 pub fn absent_page(image: &Image, bank: u8) -> Option<Key>
     ensures { result ≡ spec.absent_page image.now bank }
 {
-    first_absent(image, bank, advertised_pages(image, bank))
+    if is_cmis(image) {
+        first_absent(image, bank, advertised_pages(image, bank))
+    } else {
+        None
+    }
 }
 
 /// The pages of a bank that have observables, as byte 142 of page 01h and byte 128 of page 2Fh advertise them: page 2Fh alone if
