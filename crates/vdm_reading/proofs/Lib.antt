@@ -7,4 +7,6 @@ pub mod ShownLaws
 pub mod StoreLaws
 pub mod SetLaws
 pub mod LostLaws
+pub mod GroupLaws
 pub mod WindowLaws
+pub mod QuietLaws

@@ -336,21 +336,24 @@ len_by : (has : Bool) (n : ℕ) → cond has n (n + 1) ≤ n + 1
 len_by true n = omega arith
 len_by false n = omega arith
 
-put_len : (image : Memory) (page : ℕ) (bytes : List ℕ) → map.len (put_in image page bytes) ≤ map.len image + 1
+pub put_len : (image : Memory) (page : ℕ) (bytes : List ℕ) → map.len (put_in image page bytes) ≤ map.len image + 1
 put_len image page bytes = by (map.len image == most_pages && is_absent image (key_of page)) where
   by : (full : Bool) → map.len (if full then image else map.insert image (key_of page) bytes) ≤ map.len image + 1
   by true = omega arith
   by false = subst (λ (n : ℕ). n ≤ map.len image + 1) (sym (map.len-insert keys_total image (key_of page) bytes)) (len_by (map.contains_key image (key_of page)) (map.len image))
 
-put_own : (image : Memory) (page : ℕ) (bytes : List ℕ) → map.len image < 16 → is_absent (put_in image page bytes) (key_of page) ≡ false
-put_own image page bytes room =
+pub put_there : (image : Memory) (page : ℕ) (bytes : List ℕ) → map.len image < 16 → map.get (put_in image page bytes) (key_of page) ≡ Some bytes
+put_there image page bytes room =
     let key = key_of page in
     let not_full : (map.len image == most_pages) ≡ false = false_from_ne_true (map.len image == most_pages) (λ full. (let same = eqb-true (map.len image) most_pages full in absurd (omega (arith, same, room)))) in
-    ap (λ (b : Bool). is_absent (if b && is_absent image key then image else map.insert image key bytes) key) not_full
-    ∙ ap (λ (o : Option (List ℕ)). not (is_some o)) (map.get-insert keys_total image key bytes key
-    ∙ ap (λ (b : Bool). cond b (Some bytes) (map.get image key)) ((eq_by_cmp_equiv keys_total).refl key))
+    ap (λ (b : Bool). map.get (if b && is_absent image key then image else map.insert image key bytes) key) not_full
+    ∙ map.get-insert keys_total image key bytes key
+    ∙ ap (λ (b : Bool). cond b (Some bytes) (map.get image key)) ((eq_by_cmp_equiv keys_total).refl key)
 
-put_keeps : (image : Memory) (page : ℕ) (bytes : List ℕ) (other : ℕ) → is_absent image (key_of other) ≡ false → is_absent (put_in image page bytes) (key_of other) ≡ false
+pub put_own : (image : Memory) (page : ℕ) (bytes : List ℕ) → map.len image < 16 → is_absent (put_in image page bytes) (key_of page) ≡ false
+put_own image page bytes room = ap (λ (half : Option (List ℕ)). not (is_some half)) (put_there image page bytes room)
+
+pub put_keeps : (image : Memory) (page : ℕ) (bytes : List ℕ) (other : ℕ) → is_absent image (key_of other) ≡ false → is_absent (put_in image page bytes) (key_of other) ≡ false
 put_keeps image page bytes other there = by (map.len image == most_pages && is_absent image (key_of page)) where
   inserted : (same : Bool) → not (is_some (cond same (Some bytes) (map.get image (key_of other)))) ≡ false
   inserted true = refl

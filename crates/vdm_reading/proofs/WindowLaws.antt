@@ -41,7 +41,7 @@ weaker true apart one other more e = refl
 weaker false true one other more e = more e
 weaker false false one other more e = e
 
-confirmed_all : (page : ℕ) (history : History) → is_page_confirmed BankAndPage page (since_refusal history) ≡ true → is_page_confirmed BankAndPage page history ≡ true
+pub confirmed_all : (page : ℕ) (history : History) → is_page_confirmed BankAndPage page (since_refusal history) ≡ true → is_page_confirmed BankAndPage page history ≡ true
 confirmed_all page [] e = e
 confirmed_all page (step ∷ before) e = by (is_refused step.reply) (confirmed_all page before) e
   where
@@ -53,10 +53,10 @@ confirmed_all page (step ∷ before) e = by (is_refused step.reply) (confirmed_a
 
 -- ---- each reply is of the kind that its operation can have
 
-abbrev EachAnswers : History → Type 0
+abbrev pub EachAnswers : History → Type 0
 EachAnswers history = EachStep (λ step before. Answers step.op step.reply) history
 
-each_answers : (pause : ℕ) (events : Events) → EachIsWanted pause events → EachAnswers (steps_of events)
+pub each_answers : (pause : ℕ) (events : Events) → EachIsWanted pause events → EachAnswers (steps_of events)
 each_answers pause [] each = tt
 each_answers pause (Made step ∷ before) (wanted, answers, each) = (answers, each_answers pause before each)
 each_answers pause (Waited time ∷ before) (wanted, each) = each_answers pause before each
@@ -67,7 +67,7 @@ each_answers pause (Asked number ∷ before) each = each_answers pause before ea
 
 module _ (memory : Memory) (image : IsImage memory) (by : selecting_on memory A0 ≡ Some BankAndPage) (state : State) (of : IsOf memory state.1) where
   -- a page that was read is the memory's
-  page_is : (page : ℕ) (bytes : List ℕ) (history : History) → May state history → WasRead page bytes history → map.get memory (key_of page) ≡ Some bytes
+  pub page_is : (page : ℕ) (bytes : List ℕ) (history : History) → May state history → WasRead page bytes history → map.get memory (key_of page) ≡ Some bytes
   page_is page bytes [] may read = absurd read
   page_is page bytes (step ∷ before) may (inr earlier) = page_is page bytes before may.1 earlier
   page_is page bytes (step ∷ before) may (inl (op, reply, shown)) =
@@ -81,14 +81,14 @@ module _ (memory : Memory) (image : IsImage memory) (by : selecting_on memory A0
   -- ---- a page that the memory has, where nothing is refused
 
   -- once its selection was taken, it is read back
-  shown_taken : (page : ℕ) (before : History) → map.contains_key memory (key_of page) ≡ true → May state before → IsTaken page before → Shows memory page (left state before).1
+  pub shown_taken : (page : ℕ) (before : History) → map.contains_key memory (key_of page) ≡ true → May state before → IsTaken page before → Shows memory page (left state before).1
   shown_taken page [] has may taken = absurd taken
   shown_taken page (step ∷ before) has may (op, reply) =
       let there = left state before in
       let done : Done ≡ (transacted window_conduct (selection BankAndPage page) there).0 = sym reply ∙ may.0 ∙ ap (λ (op : Op). (transacted window_conduct op there).0) op in
       subst (λ (op : Op). Shows memory page (transacted window_conduct op there).1.1) (sym op) (shows_selected memory BankAndPage by page there tt has done (of_after memory state before of))
 
-  reads_selected : (page : ℕ) (there : State) (reply : Reply) → Shows memory page there.1 → is_refused reply ≡ false → Answers (read_selection BankAndPage) reply → reply ≡ (transacted window_conduct (read_selection BankAndPage) there).0
+  pub reads_selected : (page : ℕ) (there : State) (reply : Reply) → Shows memory page there.1 → is_refused reply ≡ false → Answers (read_selection BankAndPage) reply → reply ≡ (transacted window_conduct (read_selection BankAndPage) there).0
       → is_page BankAndPage page reply ≡ true
   reads_selected page there (Bytes bytes) shows answered kind given =
       let now = found_keeps window_conduct (Shows memory page) (always (Shows memory page)) there shows in

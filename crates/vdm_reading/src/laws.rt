@@ -1,10 +1,13 @@
 //! What holds of readings of statistics, whatever a bus refuses. Each function is a theorem: its contract says it, and its body is
 //! empty.
-ghost use Rattle.std.specs.Prelude.{◌≡◌, ◌≤◌, ◌+◌, ℕ, List, Some, length};
+ghost use Rattle.std.specs.Prelude.{◌≡◌, ◌≤◌, ◌+◌, ℕ, true, List, [], Some, length};
 ghost use Rattle.std.specs.FinMap as map;
 ghost use Rattle.bus_model.specs.declared.script.Directive.{Directive};
 ghost use Rattle.bus_model.specs.Runs.{Seen};
+ghost use Rattle.bus_model.specs.declared.device.Dev.TheVariants.{A0};
+ghost use Rattle.observables.specs.Pages.{has_observables};
 ghost use Rattle.paged_memory.specs.Images.{Memory};
+ghost use Rattle.paged_memory.specs.Keys.{lower_key};
 ghost use Rattle.paged_memory.specs.Windows.{Windowed};
 ghost use Rattle.paged_memory.specs.PageAddressing.{EachStep};
 ghost use Rattle.conversations.specs.Events.{Events, steps_of};
@@ -13,7 +16,7 @@ ghost use Rattle.vdm_reading.specs.declared.reading.VdmStage.TheVariants.{Over};
 ghost use Rattle.vdm_reading.specs.FrozenSteps as steps;
 ghost use Rattle.vdm_reading.specs.VdmAccounts.{IsAmong, IsLostAlone, IsTold, IsWhole, is_frozen};
 ghost use Rattle.vdm_reading.specs.VdmStages.{key_of, may_be_frozen, most_polls, most_retries, most_transactions};
-ghost use Rattle.vdm_reading.specs.WindowStatistics.{AreOverWindow, NoneRefused};
+ghost use Rattle.vdm_reading.specs.WindowStatistics.{AreAllRead, AreOverWindow, NoneRefused};
 
 /// However far a reading has come: it names exactly where a request to freeze was made, taken or refused, and no release was accepted
 /// since.
@@ -61,4 +64,12 @@ pub fn what_is_read_of_a_window_is_its_memory()
     ensures whole { (old new : Seen (List Directive × Windowed)) (memory : Memory) (events : Events) (reading : VdmReading) → AreOverWindow old new memory events
         → IsTold events reading → reading.stage ≡ Over → NoneRefused (steps_of events) → (page : ℕ) → IsAmong page reading.pages.items
         → map.get reading.image (key_of page) ≡ map.get memory (key_of page) }
+{}
+
+/// Over a bus without a script, with a window of a memory that has its lower half and advertises statistics: at the end each page of these that
+/// the memory has was read, and is listed.
+pub fn a_window_that_nothing_hinders_is_read_whole()
+    ensures { (old new : Seen (List Directive × Windowed)) (memory : Memory) (events : Events) (reading : VdmReading) → AreOverWindow old new memory events
+        → old.state.0 ≡ [] → map.contains_key memory (lower_key A0) ≡ true → has_observables memory ≡ true → IsTold events reading → reading.stage ≡ Over
+        → AreAllRead memory reading }
 {}
