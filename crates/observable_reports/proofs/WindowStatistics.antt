@@ -24,7 +24,7 @@ use Rattle.observable_reports.specs.FetchedObservables.{AreStatisticsRead, with_
 use Rattle.observable_reports.specs.SameStatistics.{StatisticsSame}
 
 -- page 01h is there
-has_first : (half : Option (List ℕ)) (tell : List ℕ → Bool) → option_map_or tell half false ≡ true → is_some half ≡ true
+pub has_first : (half : Option (List ℕ)) (tell : List ℕ → Bool) → option_map_or tell half false ≡ true → is_some half ≡ true
 has_first None tell e = absurd cc
 has_first (Some bytes) tell e = refl
 
@@ -48,7 +48,7 @@ pause_is (Waited time ∷ before) = pause_is before
 pause_is (Lacked page ∷ before) = pause_is before
 pause_is (Asked number ∷ before) = pause_is before
 
-told : (events : Events) → EachIsWanted 0 events → IsTold events (reading_after 0 events)
+pub told : (events : Events) → EachIsWanted 0 events → IsTold events (reading_after 0 events)
 told events each = record {
   is = ap (λ (pause : ℕ). reading_after pause events) (sym (pause_is events));
   each = subst (λ (pause : ℕ). EachIsWanted pause events) (sym (pause_is events)) each;

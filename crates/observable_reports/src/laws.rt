@@ -1,5 +1,5 @@
 //! What holds of the amounts that reports show, and of statistics that are read over a bus. Each function is a theorem: its contract says it, and its body is empty.
-ghost use Rattle.observable_reports.specs.SameStatistics.{StatisticsSame};
+ghost use Rattle.observable_reports.specs.SameStatistics.{ObservedReportsSame, StatisticsSame, StatisticsWhole};
 ghost use Rattle.observable_reports.specs.WrittenAmounts.{EachAmountIsWritten, EachWordIsANumber};
 
 /// The text of an amount writes exactly that number, or, if it has no end in decimal, that number rounded down to thousandths.
@@ -18,4 +18,15 @@ pub fn each_word_is_a_number()
 /// of a further bank, that `fetch_observables` answers is as in the window's image.
 pub fn statistics_are_read_as_the_module_has_them()
     ensures { StatisticsSame }
+{}
+
+/// So are the reports of what it answers, whatever was refused.
+pub fn statistics_change_no_report()
+    ensures { ObservedReportsSame }
+{}
+
+/// Over a bus without a script, with a new window of an image that has no other statistics than those that bank 0 advertises: each instance that
+/// `fetch_observables` answers is as the image has it.
+pub fn statistics_are_read_whole()
+    ensures { StatisticsWhole }
 {}

@@ -34,6 +34,25 @@ module _ {S : Type 0} (rules : Rules S) (old : Seen S) (room : length old.steps 
       let all_on = length-append mid.steps (reverse later) in
       omega (arith, room, full, few, at_most, made, made_on, all, all_on, ran.room, ran_on.room, length-reverse first, length-reverse later)
 
+  -- so many steps two readings make at most
+  later_few : (mid new : Seen S) (first : History) (copy memory : Memory) → Ran rules old mid (reverse first) → length first ≤ most_steps
+      → (more : Bool) → AreBanksRead more rules mid new copy (Ok memory) → (length new.steps ≤ length old.steps + 2 * most_steps) × (new.room ≡ old.room)
+  later_few mid new first copy memory ran at_most false (unchanged, answer) =
+      let made = ap (λ (steps : History). length steps) ran.steps in
+      let all = length-append old.steps (reverse first) in
+      let same = ap (λ (seen : Seen S). length seen.steps) unchanged in
+      (omega (arith, at_most, made, all, same, length-reverse first), ap (λ (seen : Seen S). seen.room) unchanged ∙ ran.room)
+  later_few mid new first copy memory ran at_most true (answer, (later, ran_on, is), joins) =
+      let made = ap (λ (steps : History). length steps) ran.steps in
+      let made_on = ap (λ (steps : History). length steps) ran_on.steps in
+      let all = length-append old.steps (reverse first) in
+      let all_on = length-append mid.steps (reverse later) in
+      (omega (arith, at_most, is.reading.at_most, made, made_on, all, all_on, length-reverse first, length-reverse later), ran_on.room ∙ ran.room)
+
+  pub fetching_few : (new : Seen S) (memory : Memory) → IsFetching rules old new (Ok memory) → (length new.steps ≤ length old.steps + 2 * most_steps) × (new.room ≡ old.room)
+  fetching_few new memory (inl (cause, answer, made)) = absurd cc
+  fetching_few new memory (inr (mid, copy, (history, ran, is), banks)) = later_few mid new history copy memory ran is.reading.at_most (nat_lt 1 (bank_count copy)) banks
+
   later_fault : (mid new : Seen S) (first : History) (copy : Memory) (fault : ReportFault) → Ran rules old mid (reverse first) → length first ≤ most_steps
       → (more : Bool) → AreBanksRead more rules mid new copy (Err fault) → fault ≡ GaveUp
   later_fault mid new first copy fault ran at_most false (unchanged, answer) = absurd cc

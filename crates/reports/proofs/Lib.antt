@@ -12,6 +12,7 @@ pub mod SameBanks
 pub mod LaneDigits
 pub mod SameContents
 pub mod FetchedReports
+pub mod BesideFetched
 pub mod SameRows
 pub mod PutPages
 mod UniqueDetails
