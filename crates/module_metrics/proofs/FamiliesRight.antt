@@ -1,28 +1,27 @@
 -- The metrics of each image are well formed, of whatever family its module is.
-use Rattle.std.proofs.Common.{◌≡◌, inl, inr, ℕ, ◌+◌, ◌<◌, ◌≤◌, Bool, true, false, nat_lt, List, [], ◌∷◌, ◌++◌, length, map, Option, None, Some, option_map, refl, sym, ap, ◌∙◌, subst, append_assoc, append-nil, if◌then◌else◌, arith}
+use Rattle.std.proofs.Common.{◌≡◌, inl, inr, ℕ, ◌+◌, ◌≤◌, Bool, true, false, nat_lt, List, [], ◌∷◌, ◌++◌, length, map, Option, None, Some, option_map, refl, sym, ap, ◌∙◌, subst, if◌then◌else◌, arith}
 use Rattle.std.proofs.lemmas.Bool.{and_parts, ltb-true}
 use Rattle.std.proofs.lemmas.Grind.{flat_map-append}
 use Rattle.std.specs.List.{AllByRecursion, flat_map, list_all}
 use Rattle.paged_memory.specs.declared.family.Family.{Family}
-use Rattle.paged_memory.specs.declared.family.Family.TheVariants.{Cmis, Sff8636, Sff8472}
+use Rattle.paged_memory.specs.declared.family.Family.TheVariants.{Cmis}
 use Rattle.paged_memory.specs.Images.{Memory}
-use Rattle.field_tables.specs.declared.field.Field.TheVariants.{QFlatMemory}
-use Rattle.field_tables.specs.Readings.{bit}
+use Rattle.module_decoding.specs.declared.report.Report.{Report}
 use Rattle.module_decoding.specs.declared.report.Report.TheVariants.{Flags, Inventory, Monitors}
 use Rattle.module_decoding.specs.CmisPages.{is_flat}
 use Rattle.module_decoding.specs.ModuleFamilies.{family_of}
 use Rattle.report_entries.specs.declared.flag.Flag.{Flag}
-use Rattle.report_entries.specs.Entries.{Entry, entry}
+use Rattle.report_entries.specs.Entries.{entry}
 use Rattle.report_entries.specs.FlagNames.{condition_name, flag_name, limit_name}
 use Rattle.report_entries.specs.FlagRows.{flags_entry, row_flags, rows_flags}
 use Rattle.report_entries.specs.Flags.{raised}
 use Rattle.report_entries.specs.Quantities.{name_of}
-use Rattle.report_entries.specs.Rows.{Row, row_fits, rows_entries}
+use Rattle.report_entries.specs.Rows.{row_fits}
 use Rattle.reports.specs.declared.fault.ReportFault.{ReportFault}
 use Rattle.reports.specs.FlagRows as warnings
 use Rattle.reports.specs.InventoryRows as identity
 use Rattle.reports.specs.MonitorRows as measures
-use Rattle.reports.specs.Reports.{all_lanes_entries, all_lanes_flag_states, banks_in, entries_in, entries_of, family_flags, flags_fault, inventory_fault, monitors_fault}
+use Rattle.reports.specs.Reports.{all_lanes_entries, all_lanes_flag_states, banks_in, entries_in, entries_of, family_entries, family_flags, flags_fault, inventory_fault, is_flat_in, monitors_fault, rows_of}
 use Rattle.reports.proofs.LaneDigits.{digits_of, written}
 use Rattle.reports.proofs.SameBanks.{Further, no_further, numbered, numbers, up_to_1, up_to_2, up_to_3}
 use Rattle.module_metrics.specs.AddedLabels.{AreAdded}
@@ -38,7 +37,7 @@ use Rattle.module_metrics.specs.ModuleMetrics.{content_metrics, fault_name, info
 use Rattle.module_metrics.specs.StateMetrics.{paths_name, state_name, statuses_name}
 use Rattle.module_metrics.specs.VdmMetrics.{listed_metrics, vdm_seen}
 use Rattle.module_metrics.specs.WellFormed.{AreApart, AreMetrics, IsMetric}
-use Rattle.module_metrics.proofs.ModuleRight.{AreRight, AreReported, IsSum, module_right}
+use Rattle.module_metrics.proofs.ModuleRight.{AreRight, AreReported, module_right}
 use Rattle.module_metrics.proofs.RowMetrics.{EntryIsPlain, both, entry_names, is_sure, keys_sub, names_of, names_sub, plain_rows, row_names, row_sums, sum_labels, sums_sub}
 use Rattle.module_metrics.proofs.ContentMetrics.{flag_labels}
 use Rattle.module_metrics.proofs.SeenInstances.{seen_numbered}
@@ -113,13 +112,12 @@ cmis_flags_apart up_to_1 = apart_to_1
 cmis_flags_apart up_to_2 = apart_to_2
 cmis_flags_apart up_to_3 = apart_to_3
 
-pub qsfp_flags_apart : (memory : Memory) → AreApart (map flag_labels (family_flags true Sff8636 memory))
-unfolding row_flags warnings.qsfp_rows flag_name limit_name condition_name name_of
-qsfp_flags_apart memory = flags_apart (family_flags true Sff8636 memory) refl refl
-
-pub sfp_flags_apart : (memory : Memory) → AreApart (map flag_labels (family_flags true Sff8472 memory))
-unfolding row_flags warnings.sfp_rows flag_name limit_name condition_name name_of
-sfp_flags_apart memory = flags_apart (family_flags true Sff8472 memory) refl refl
+family_flags_apart : (family : Family) (memory : Memory) → AreApart (map flag_labels (family_flags true family memory))
+unfolding row_flags warnings.qsfp_rows warnings.sfp_rows flag_name limit_name condition_name name_of
+family_flags_apart Cmis memory =
+    let found = numbered true (is_flat memory) memory in
+    subst (λ (banks : List ℕ). AreApart (map flag_labels (rows_flags memory banks (is_flat memory) warnings.cmis_rows))) found.1 (cmis_flags_apart found.0 memory (is_flat memory))
+family_flags_apart family memory = flags_apart (family_flags true family memory) refl refl
 
 raised_sub : (each_flag : List (Flag × Bool)) → Sub (map flag_labels (each_raised (raised each_flag))) (map flag_labels each_flag)
 unfolding flag_sample sample
@@ -148,27 +146,6 @@ unless_all : {A : Type 0} (P : A → Type 0) (fault : Option ReportFault) (xs : 
 unless_all P None xs all = all
 unless_all P (Some fault) xs all = tt
 
-keys_unless : (memory : Memory) (flat : Bool) (rows : List Row) → list_all is_sure rows ≡ true → (fault : Option ReportFault)
-    → Sub (map (λ (l : Label). l.key) (info_labels (unless fault (rows_entries memory [] flat rows)))) (flat_map row_keys rows)
-keys_unless memory flat rows sure None = keys_sub memory [] flat rows sure
-keys_unless memory flat rows sure (Some fault) = sub_none (flat_map row_keys rows)
-
-content_of : (all : Bool) (each_flag : List (Flag × Bool)) (memory : Memory) (banks : List ℕ) → length banks ≤ 3 → (flat other : Bool) (identity_rows measured_rows : List Row) (warned : List Entry) (warned_names : List (List ℕ))
-    → list_all is_sure identity_rows ≡ true → list_all row_fits identity_rows ≡ true → list_all row_fits measured_rows ≡ true
-    → Sub (flat_map (entry_names all each_flag) warned) warned_names → AllByRecursion EntryIsPlain warned → (first second third : Option ReportFault)
-    → AreReported (unless first (rows_entries memory [] flat identity_rows)) (unless second (rows_entries memory banks other measured_rows)) (unless third warned) identity_rows measured_rows warned_names all each_flag
-content_of all each_flag memory banks few flat other identity_rows measured_rows warned warned_names sure fits more named plain first second third = record {
-  identity_keys = keys_unless memory flat identity_rows sure first;
-  identity_named = unless_sub (entry_names all each_flag) first (rows_entries memory [] flat identity_rows) (flat_map row_names identity_rows) (names_sub all each_flag memory [] flat identity_rows);
-  measured_named = unless_sub (entry_names all each_flag) second (rows_entries memory banks other measured_rows) (flat_map row_names measured_rows) (names_sub all each_flag memory banks other measured_rows);
-  warned_named = unless_sub (entry_names all each_flag) third warned warned_names named;
-  identity_sums = unless_sub sum_labels first (rows_entries memory [] flat identity_rows) (flat_map row_sums identity_rows) (sums_sub memory [] flat identity_rows);
-  measured_sums = unless_sub sum_labels second (rows_entries memory banks other measured_rows) (flat_map row_sums measured_rows) (sums_sub memory banks other measured_rows);
-  identity_plain = unless_all EntryIsPlain first (rows_entries memory [] flat identity_rows) (plain_rows memory [] flat identity_rows (omega arith) fits);
-  measured_plain = unless_all EntryIsPlain second (rows_entries memory banks other measured_rows) (plain_rows memory banks other measured_rows few more);
-  warned_plain = unless_all EntryIsPlain third warned plain;
-}
-
 -- the flags that are told if that is asked for
 abbrev asked : Bool → Option ReportFault → List (Flag × Bool) → List (Flag × Bool)
 asked all fault each_flag = if all then unless fault each_flag else []
@@ -178,24 +155,29 @@ asked_apart false fault each_flag apart = tt
 asked_apart true None each_flag apart = apart
 asked_apart true (Some fault) each_flag apart = tt
 
--- ---- CMIS
+-- ---- the rows of each family
 
-cmis_rows : AreRight identity.cmis_rows measures.cmis_rows (flat_map row_names warnings.state_rows ++ flag_names)
-unfolding is_taken identity.cmis_rows measures.cmis_rows warnings.state_rows identity.qsfp_rows identity.sfp_rows info_name sums_name fault_name amount_name scope_name base_name state_name paths_name statuses_name count_name flags_name label
-cmis_rows = record { keys_own = refl; keys_new = refl; sums_new = refl; names_new = refl; names_other = refl }
+abbrev warned_names : Family → List (List ℕ)
+warned_names family = flat_map row_names (rows_of Flags family) ++ flag_names
 
-cmis_sums : AllByRecursion IsSum (flat_map row_sums identity.cmis_rows ++ flat_map row_sums measures.cmis_rows)
-unfolding identity.cmis_rows measures.cmis_rows label
-cmis_sums = (refl, (refl, tt))
+rows_right : (family : Family) → AreRight (rows_of Inventory family) (rows_of Monitors family) (warned_names family)
+unfolding is_taken identity.cmis_rows identity.qsfp_rows identity.sfp_rows measures.cmis_rows measures.qsfp_rows measures.sfp_rows warnings.state_rows info_name sums_name fault_name amount_name scope_name base_name state_name paths_name statuses_name count_name flags_name label
+rows_right Cmis = record { keys_own = refl; keys_new = refl; sums_new = refl; names_new = refl; names_other = refl }
+rows_right _ = record { keys_own = refl; keys_new = refl; sums_new = refl; names_new = refl; names_other = refl }
 
-cmis_fit : (list_all is_sure identity.cmis_rows ≡ true) × (list_all row_fits identity.cmis_rows ≡ true)
-    × (list_all row_fits measures.cmis_rows ≡ true) × (list_all row_fits warnings.state_rows ≡ true)
-unfolding identity.cmis_rows measures.cmis_rows warnings.state_rows
-cmis_fit = (refl, refl, refl, refl)
+identity_sure : (family : Family) → list_all is_sure (rows_of Inventory family) ≡ true
+unfolding identity.cmis_rows identity.qsfp_rows identity.sfp_rows
+identity_sure Cmis = refl
+identity_sure _ = refl
 
--- with the lanes of all banks
-abbrev banks_of : Memory → List ℕ
-banks_of memory = banks_in true Cmis memory
+rows_fit : (report : Report) (family : Family) → list_all row_fits (rows_of report family) ≡ true
+unfolding identity.cmis_rows identity.qsfp_rows identity.sfp_rows measures.cmis_rows measures.qsfp_rows measures.sfp_rows warnings.state_rows
+rows_fit Inventory Cmis = refl
+rows_fit Inventory _ = refl
+rows_fit Monitors Cmis = refl
+rows_fit Monitors _ = refl
+rows_fit Flags Cmis = refl
+rows_fit Flags _ = refl
 
 few_numbers : (further : Further) → length (numbers further) ≤ 3
 few_numbers no_further = omega arith
@@ -203,110 +185,70 @@ few_numbers up_to_1 = omega arith
 few_numbers up_to_2 = omega arith
 few_numbers up_to_3 = omega arith
 
-few_banks : (memory : Memory) → length (banks_of memory) ≤ 3
-few_banks memory = let found = numbered true (is_flat memory) memory in subst (λ (banks : List ℕ). length banks ≤ 3) found.1 (few_numbers found.0)
+few_banks : (all_lanes : Bool) (family : Family) (memory : Memory) → length (banks_in all_lanes family memory) ≤ 3
+few_banks all_lanes Cmis memory = let found = numbered all_lanes (is_flat memory) memory in subst (λ (banks : List ℕ). length banks ≤ 3) found.1 (few_numbers found.0)
+few_banks all_lanes _ memory = omega arith
 
--- of its states and flags
-cmis_named : (all : Bool) (each_flag : List (Flag × Bool)) (memory : Memory) → Sub (flat_map (entry_names all each_flag) (entries_in true Flags Cmis memory)) (flat_map row_names warnings.state_rows ++ flag_names)
-cmis_named all each_flag memory =
-    let f = entry_names all each_flag in
-    let states = rows_entries memory (banks_of memory) (is_flat memory) warnings.state_rows in
-    let last = flags_entry (raised (family_flags true Cmis memory)) in
-    subst (λ zs. Sub zs (flat_map row_names warnings.state_rows ++ flag_names)) (sym (flat_map-append f states (last ∷ [])))
-    (sub_append (flat_map f states) (flat_map row_names warnings.state_rows) (f last ++ []) flag_names (names_sub all each_flag memory (banks_of memory) (is_flat memory) warnings.state_rows)
-    (subst (λ zs. Sub (zs ++ []) flag_names) (sym (flags_named all each_flag (raised (family_flags true Cmis memory)))) (sub_all flag_names)))
+-- ---- what reports say of a module of a family
 
-cmis_apart : (memory : Memory) → AreApart (map flag_labels (family_flags true Cmis memory))
-cmis_apart memory =
-    let found = numbered true (is_flat memory) memory in
-    subst (λ (banks : List ℕ). AreApart (map flag_labels (rows_flags memory banks (is_flat memory) warnings.cmis_rows))) found.1 (cmis_flags_apart found.0 memory (is_flat memory))
+module _ (all : Bool) (each_flag : List (Flag × Bool)) (family : Family) (memory : Memory) where
+  entries_keys : (fault : Option ReportFault) → Sub (map (λ (l : Label). l.key) (info_labels (unless fault (entries_in false Inventory family memory)))) (flat_map row_keys (rows_of Inventory family))
+  entries_keys None = keys_sub memory (banks_in false family memory) (is_flat_in family memory) (rows_of Inventory family) (identity_sure family)
+  entries_keys (Some fault) = sub_none (flat_map row_keys (rows_of Inventory family))
 
-cmis_plain : (memory : Memory) → AllByRecursion EntryIsPlain (entries_in true Flags Cmis memory)
-cmis_plain memory =
-    both EntryIsPlain (rows_entries memory (banks_of memory) (is_flat memory) warnings.state_rows) (flags_entry (raised (family_flags true Cmis memory)) ∷ [])
-    (plain_rows memory (banks_of memory) (is_flat memory) warnings.state_rows (few_banks memory) cmis_fit.3) (flags_plain (family_flags true Cmis memory) (cmis_apart memory), tt)
+  entries_named : (all_lanes : Bool) (report : Report) → Sub (flat_map (entry_names all each_flag) (family_entries all_lanes report family memory)) (flat_map row_names (rows_of report family))
+  entries_named all_lanes report = names_sub all each_flag memory (banks_in all_lanes family memory) (is_flat_in family memory) (rows_of report family)
 
-cmis_right : (common : List Label) → AreAdded common → (all : Bool) (memory : Memory) (first second third : Option ReportFault) (fault : Option (List ℕ))
-    → (more : List Metric) → AllByRecursion (IsMetric common) more → Sub (names_of more) vdm_names
-    → AreMetrics common (module_metrics all (asked all third (family_flags true Cmis memory)) (unless first (entries_in false Inventory Cmis memory)) (unless second (entries_in true Monitors Cmis memory))
-    (unless third (entries_in true Flags Cmis memory)) fault ++ more)
-cmis_right common added all memory first second third fault more right named =
-    let each_flag = asked all third (family_flags true Cmis memory) in
-    let names = flat_map row_names warnings.state_rows ++ flag_names in
-    module_right common added (unless first (rows_entries memory [] (is_flat memory) identity.cmis_rows)) (unless second (rows_entries memory (banks_of memory) (is_flat memory) measures.cmis_rows))
-    (unless third (entries_in true Flags Cmis memory)) identity.cmis_rows measures.cmis_rows names all each_flag
-    (content_of all each_flag memory (banks_of memory) (few_banks memory) (is_flat memory) (is_flat memory) identity.cmis_rows measures.cmis_rows (entries_in true Flags Cmis memory) names cmis_fit.0 cmis_fit.1 cmis_fit.2
-    (cmis_named all each_flag memory) (cmis_plain memory) first second third)
-    cmis_rows (asked_apart all third (family_flags true Cmis memory) (cmis_apart memory)) cmis_sums fault more right named
+  entries_sums : (all_lanes : Bool) (report : Report) → Sub (flat_map sum_labels (family_entries all_lanes report family memory)) (flat_map row_sums (rows_of report family))
+  entries_sums all_lanes report = sums_sub memory (banks_in all_lanes family memory) (is_flat_in family memory) (rows_of report family)
 
--- ---- SFF-8636
+  entries_plain : (all_lanes : Bool) (report : Report) → AllByRecursion EntryIsPlain (family_entries all_lanes report family memory)
+  entries_plain all_lanes report = plain_rows memory (banks_in all_lanes family memory) (is_flat_in family memory) (rows_of report family) (few_banks all_lanes family memory) (rows_fit report family)
 
-qsfp_rows : AreRight identity.qsfp_rows measures.qsfp_rows flag_names
-unfolding is_taken identity.cmis_rows identity.qsfp_rows identity.sfp_rows measures.qsfp_rows info_name sums_name fault_name amount_name scope_name base_name count_name flags_name label
-qsfp_rows = record { keys_own = refl; keys_new = refl; sums_new = refl; names_new = refl; names_other = refl }
+  -- of its states and flags
+  warned_named : Sub (flat_map (entry_names all each_flag) (entries_in true Flags family memory)) (warned_names family)
+  warned_named =
+      let f = entry_names all each_flag in
+      let states = family_entries true Flags family memory in
+      let last = flags_entry (raised (family_flags true family memory)) in
+      subst (λ zs. Sub zs (warned_names family)) (sym (flat_map-append f states (last ∷ [])))
+      (sub_append (flat_map f states) (flat_map row_names (rows_of Flags family)) (f last ++ []) flag_names (entries_named true Flags)
+      (subst (λ zs. Sub (zs ++ []) flag_names) (sym (flags_named all each_flag (raised (family_flags true family memory)))) (sub_all flag_names)))
 
-qsfp_sums : AllByRecursion IsSum (flat_map row_sums identity.qsfp_rows ++ flat_map row_sums measures.qsfp_rows)
-unfolding identity.qsfp_rows measures.qsfp_rows label
-qsfp_sums = (refl, (refl, tt))
+  warned_plain : AllByRecursion EntryIsPlain (entries_in true Flags family memory)
+  warned_plain =
+      both EntryIsPlain (family_entries true Flags family memory) (flags_entry (raised (family_flags true family memory)) ∷ []) (entries_plain true Flags)
+      (flags_plain (family_flags true family memory) (family_flags_apart family memory), tt)
 
-qsfp_fit : (list_all is_sure identity.qsfp_rows ≡ true) × (list_all row_fits identity.qsfp_rows ≡ true) × (list_all row_fits measures.qsfp_rows ≡ true)
-unfolding identity.qsfp_rows measures.qsfp_rows
-qsfp_fit = (refl, refl, refl)
-
-sff_named : (all : Bool) (each_flag : List (Flag × Bool)) (raised : List Flag) → Sub (flat_map (entry_names all each_flag) (flags_entry raised ∷ [])) flag_names
-sff_named all each_flag raised = subst (λ zs. Sub (zs ++ []) flag_names) (sym (flags_named all each_flag raised)) (sub_all flag_names)
-
-qsfp_right : (common : List Label) → AreAdded common → (all : Bool) (memory : Memory) (first second third : Option ReportFault) (fault : Option (List ℕ))
-    → (more : List Metric) → AllByRecursion (IsMetric common) more → Sub (names_of more) vdm_names
-    → AreMetrics common (module_metrics all (asked all third (family_flags true Sff8636 memory)) (unless first (entries_in false Inventory Sff8636 memory)) (unless second (entries_in true Monitors Sff8636 memory))
-    (unless third (entries_in true Flags Sff8636 memory)) fault ++ more)
-qsfp_right common added all memory first second third fault more right named =
-    let flags = family_flags true Sff8636 memory in
-    let each_flag = asked all third flags in
-    let warned = flags_entry (raised flags) ∷ [] in
-    module_right common added (unless first (rows_entries memory [] (bit memory QFlatMemory) identity.qsfp_rows)) (unless second (rows_entries memory [] (bit memory QFlatMemory) measures.qsfp_rows)) (unless third warned)
-    identity.qsfp_rows measures.qsfp_rows flag_names all each_flag
-    (content_of all each_flag memory [] (omega arith) (bit memory QFlatMemory) (bit memory QFlatMemory) identity.qsfp_rows measures.qsfp_rows warned flag_names qsfp_fit.0 qsfp_fit.1 qsfp_fit.2
-    (sff_named all each_flag (raised flags)) (flags_plain flags (qsfp_flags_apart memory), tt) first second third)
-    qsfp_rows (asked_apart all third flags (qsfp_flags_apart memory)) qsfp_sums fault more right named
-
--- ---- SFF-8472
-
-sfp_rows : AreRight identity.sfp_rows measures.sfp_rows flag_names
-unfolding is_taken identity.cmis_rows identity.qsfp_rows identity.sfp_rows measures.sfp_rows info_name sums_name fault_name amount_name scope_name base_name count_name flags_name label
-sfp_rows = record { keys_own = refl; keys_new = refl; sums_new = refl; names_new = refl; names_other = refl }
-
-sfp_sums : AllByRecursion IsSum (flat_map row_sums identity.sfp_rows ++ flat_map row_sums measures.sfp_rows)
-unfolding identity.sfp_rows measures.sfp_rows label
-sfp_sums = (refl, (refl, (refl, tt)))
-
-sfp_fit : (list_all is_sure identity.sfp_rows ≡ true) × (list_all row_fits identity.sfp_rows ≡ true) × (list_all row_fits measures.sfp_rows ≡ true)
-unfolding identity.sfp_rows measures.sfp_rows
-sfp_fit = (refl, refl, refl)
-
-sfp_right : (common : List Label) → AreAdded common → (all : Bool) (memory : Memory) (first second third : Option ReportFault) (fault : Option (List ℕ))
-    → (more : List Metric) → AllByRecursion (IsMetric common) more → Sub (names_of more) vdm_names
-    → AreMetrics common (module_metrics all (asked all third (family_flags true Sff8472 memory)) (unless first (entries_in false Inventory Sff8472 memory)) (unless second (entries_in true Monitors Sff8472 memory))
-    (unless third (entries_in true Flags Sff8472 memory)) fault ++ more)
-sfp_right common added all memory first second third fault more right named =
-    let flags = family_flags true Sff8472 memory in
-    let each_flag = asked all third flags in
-    let warned = flags_entry (raised flags) ∷ [] in
-    module_right common added (unless first (rows_entries memory [] false identity.sfp_rows)) (unless second (rows_entries memory [] false measures.sfp_rows)) (unless third warned)
-    identity.sfp_rows measures.sfp_rows flag_names all each_flag
-    (content_of all each_flag memory [] (omega arith) false false identity.sfp_rows measures.sfp_rows warned flag_names sfp_fit.0 sfp_fit.1 sfp_fit.2
-    (sff_named all each_flag (raised flags)) (flags_plain flags (sfp_flags_apart memory), tt) first second third)
-    sfp_rows (asked_apart all third flags (sfp_flags_apart memory)) sfp_sums fault more right named
-
--- ---- all
+  reported : (first second third : Option ReportFault) → AreReported (unless first (entries_in false Inventory family memory)) (unless second (entries_in true Monitors family memory))
+      (unless third (entries_in true Flags family memory)) (rows_of Inventory family) (rows_of Monitors family) (warned_names family) all each_flag
+  reported first second third =
+      let names = entry_names all each_flag in
+      let identity = entries_in false Inventory family memory in
+      let measured = entries_in true Monitors family memory in
+      let warned = entries_in true Flags family memory in
+      record {
+        identity_keys = entries_keys first;
+        identity_named = unless_sub names first identity (flat_map row_names (rows_of Inventory family)) (entries_named false Inventory);
+        measured_named = unless_sub names second measured (flat_map row_names (rows_of Monitors family)) (entries_named true Monitors);
+        warned_named = unless_sub names third warned (warned_names family) warned_named;
+        identity_sums = unless_sub sum_labels first identity (flat_map row_sums (rows_of Inventory family)) (entries_sums false Inventory);
+        measured_sums = unless_sub sum_labels second measured (flat_map row_sums (rows_of Monitors family)) (entries_sums true Monitors);
+        identity_plain = unless_all EntryIsPlain first identity (entries_plain false Inventory);
+        measured_plain = unless_all EntryIsPlain second measured (entries_plain true Monitors);
+        warned_plain = unless_all EntryIsPlain third warned warned_plain;
+      }
 
 of_family : (common : List Label) → AreAdded common → (all : Bool) (memory : Memory) (first second third : Option ReportFault) (fault : Option (List ℕ))
     → (more : List Metric) → AllByRecursion (IsMetric common) more → Sub (names_of more) vdm_names → (family : Family)
     → AreMetrics common (module_metrics all (asked all third (family_flags true family memory)) (unless first (entries_in false Inventory family memory)) (unless second (entries_in true Monitors family memory))
     (unless third (entries_in true Flags family memory)) fault ++ more)
-of_family common added all memory first second third fault more right named Cmis = cmis_right common added all memory first second third fault more right named
-of_family common added all memory first second third fault more right named Sff8636 = qsfp_right common added all memory first second third fault more right named
-of_family common added all memory first second third fault more right named Sff8472 = sfp_right common added all memory first second third fault more right named
+of_family common added all memory first second third fault more right named family =
+    let flags = family_flags true family memory in
+    let each_flag = asked all third flags in
+    module_right common added (unless first (entries_in false Inventory family memory)) (unless second (entries_in true Monitors family memory)) (unless third (entries_in true Flags family memory))
+    (rows_of Inventory family) (rows_of Monitors family) (warned_names family) all each_flag (reported all each_flag family memory first second third)
+    (rows_right family) (asked_apart all third flags (family_flags_apart family memory)) fault more right named
 
 listed_right : (common : List Label) → AreAdded common → (with_vdm : Bool) (memory : Memory) → AllByRecursion (IsMetric common) (listed_metrics with_vdm memory)
 listed_right common added true memory = vdm_right common added (vdm_seen memory) (seen_numbered memory)

@@ -13,7 +13,7 @@ use Rattle.module_metrics.specs.Exposition.{Label, Metric, label, metric, sample
 use Rattle.module_metrics.specs.ModuleMetrics.{entry_metrics, entry_sums, fault_help, fault_metric, fault_metrics, fault_name, info_help, info_labels, info_metric, info_name, module_metrics, sums_help, sums_metric, sums_name}
 use Rattle.module_metrics.specs.WellFormed.{AreApart, AreLabels, AreMetrics, IsMetric, keys}
 use Rattle.module_metrics.proofs.RightMetrics.{all_then, is_own, labels_right}
-use Rattle.module_metrics.proofs.RowMetrics.{EntryIsPlain, both, entry_names, made_flat, names_of, row_names, row_sums, sum_labels}
+use Rattle.module_metrics.proofs.RowMetrics.{EntryIsPlain, IsSum, both, entry_names, made_flat, names_of, row_names, row_sums, sum_labels, sums_are}
 use Rattle.module_metrics.proofs.ContentMetrics.{content_right, flag_labels, labels_of}
 use Rattle.module_metrics.proofs.Sublists.{Sub, all_sub, apart_by, apart_sub, sub_all, sub_append, sub_none}
 use Rattle.module_metrics.proofs.Tested.{are_new, tested}
@@ -82,17 +82,13 @@ sum_own : list_all is_own (codes "sum" ∷ []) ≡ true
 unfolding is_taken
 sum_own = refl
 
--- a sample that has one label, the name of a sum
-abbrev pub IsSum : List Label → Type 0
-IsSum labels = keys labels ≡ codes "sum" ∷ []
-
 sum_right : (common : List Label) → AreAdded common → (labels : List Label) → IsSum labels → AreLabels (common ++ labels)
 sum_right common added labels is =
     labels_right common labels added (ap (list_all is_own) is ∙ sum_own) (subst (λ ks. AreApart ks) (sym is) (tt, tt))
 
 module _ (common : List Label) (added : AreAdded common) (identity measured warned : List Entry) (identity_rows measured_rows : List Row) (warned_names : List (List ℕ)) (all : Bool)
     (each_flag : List (Flag × Bool)) (content : AreReported identity measured warned identity_rows measured_rows warned_names all each_flag) (right : AreRight identity_rows measured_rows warned_names)
-    (listed_apart : AreApart (map flag_labels each_flag)) (sums_are : AllByRecursion IsSum (flat_map row_sums identity_rows ++ flat_map row_sums measured_rows)) where
+    (listed_apart : AreApart (map flag_labels each_flag)) where
   sums_of_rows : Sub (map labels_of (flat_map entry_sums (identity ++ measured))) (flat_map row_sums identity_rows ++ flat_map row_sums measured_rows)
   sums_of_rows =
       subst (λ zs. Sub zs (flat_map row_sums identity_rows ++ flat_map row_sums measured_rows))
@@ -105,7 +101,8 @@ module _ (common : List Label) (added : AreAdded common) (identity measured warn
     named = refl;
     helped = refl;
     labelled = all_then IsSum (λ (labels : List Label). AreLabels (common ++ labels)) (sum_right common added) (map labels_of (flat_map entry_sums (identity ++ measured)))
-        (all_sub IsSum (map labels_of (flat_map entry_sums (identity ++ measured))) (flat_map row_sums identity_rows ++ flat_map row_sums measured_rows) sums_of_rows sums_are);
+        (all_sub IsSum (map labels_of (flat_map entry_sums (identity ++ measured))) (flat_map row_sums identity_rows ++ flat_map row_sums measured_rows) sums_of_rows
+        (both IsSum (flat_map row_sums identity_rows) (flat_map row_sums measured_rows) (sums_are identity_rows) (sums_are measured_rows)));
     apart = apart_sub (map labels_of (flat_map entry_sums (identity ++ measured))) (flat_map row_sums identity_rows ++ flat_map row_sums measured_rows) sums_of_rows
         (apart_by first_value (flat_map row_sums identity_rows ++ flat_map row_sums measured_rows) (tested (map first_value (flat_map row_sums identity_rows ++ flat_map row_sums measured_rows)) right.sums_new));
   }

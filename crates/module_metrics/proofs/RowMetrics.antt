@@ -275,3 +275,17 @@ plain_rows memory banks flat [] few fits = tt
 plain_rows memory banks flat (row ∷ rows) few fits =
     let parts = and_parts (row_fits row) (list_all row_fits rows) fits in
     both EntryIsPlain (row_entries memory banks flat row) (rows_entries memory banks flat rows) (plain_row memory banks few flat row parts.0) (plain_rows memory banks flat rows few parts.1)
+
+-- ---- sums have their name as their only label
+
+abbrev pub IsSum : List Label → Type 0
+IsSum labels = keys labels ≡ codes "sum" ∷ []
+
+source_is_sum : (name : List ℕ) (s : Source) → AllByRecursion IsSum (source_sums name s)
+unfolding label
+source_is_sum name (Right sum) = (refl, tt)
+source_is_sum name _ = tt
+
+pub sums_are : (rows : List Row) → AllByRecursion IsSum (flat_map row_sums rows)
+sums_are [] = tt
+sums_are (row ∷ rows) = both IsSum (row_sums row) (flat_map row_sums rows) (source_is_sum row.name row.source) (sums_are rows)
