@@ -19,7 +19,7 @@ use Rattle.report_entries.specs.Quantities.{name_of}
 use Rattle.report_entries.specs.Rows.{row_fits}
 use Rattle.reports.specs.declared.fault.ReportFault.{ReportFault}
 use Rattle.reports.specs.FlagRows as warnings
-use Rattle.reports.specs.InventoryRows as identity
+use Rattle.reports.specs.InventoryRows.{inventory_rows}
 use Rattle.reports.specs.MonitorRows as measures
 use Rattle.reports.specs.Reports.{all_lanes_entries, all_lanes_flag_states, banks_in, entries_in, entries_of, family_entries, family_flags, flags_fault, inventory_fault, is_flat_in, monitors_fault, rows_of}
 use Rattle.reports.proofs.LaneDigits.{digits_of, written}
@@ -161,17 +161,17 @@ abbrev warned_names : Family → List (List ℕ)
 warned_names family = flat_map row_names (rows_of Flags family) ++ flag_names
 
 rows_right : (family : Family) → AreRight (rows_of Inventory family) (rows_of Monitors family) (warned_names family)
-unfolding is_taken identity.cmis_rows identity.qsfp_rows identity.sfp_rows measures.cmis_rows measures.qsfp_rows measures.sfp_rows warnings.state_rows info_name sums_name fault_name amount_name scope_name base_name state_name paths_name statuses_name count_name flags_name label
+unfolding is_taken inventory_rows measures.cmis_rows measures.qsfp_rows measures.sfp_rows warnings.state_rows info_name sums_name fault_name amount_name scope_name base_name state_name paths_name statuses_name count_name flags_name label
 rows_right Cmis = record { keys_own = refl; keys_new = refl; sums_new = refl; names_new = refl; names_other = refl }
 rows_right _ = record { keys_own = refl; keys_new = refl; sums_new = refl; names_new = refl; names_other = refl }
 
 identity_sure : (family : Family) → list_all is_sure (rows_of Inventory family) ≡ true
-unfolding identity.cmis_rows identity.qsfp_rows identity.sfp_rows
+unfolding inventory_rows
 identity_sure Cmis = refl
 identity_sure _ = refl
 
 rows_fit : (report : Report) (family : Family) → list_all row_fits (rows_of report family) ≡ true
-unfolding identity.cmis_rows identity.qsfp_rows identity.sfp_rows measures.cmis_rows measures.qsfp_rows measures.sfp_rows warnings.state_rows
+unfolding inventory_rows measures.cmis_rows measures.qsfp_rows measures.sfp_rows warnings.state_rows
 rows_fit Inventory Cmis = refl
 rows_fit Inventory _ = refl
 rows_fit Monitors Cmis = refl

@@ -3,8 +3,9 @@
 use Rattle.std.specs.Prelude.{◌≡◌, ℕ, ◌==◌, ◌&&◌, ◌||◌, Bool, true, false, not, if◌then◌else◌, length, List, [], ◌∷◌, ◌++◌, codes, MatchOption, Option, Some, None, Result, Ok, Err}
 use Rattle.std.specs.List.{after_first, before_first, flat_map, list_any, position_or_len}
 use Rattle.std.specs.Str.{bytes_eq}
+use Rattle.paged_memory.specs.declared.family.Family.TheVariants.{Cmis, Sff8636}
 use Rattle.report_entries.specs.Rows.{Row, Source, Word, Either, Code, Revision, Next, Text, Oui, Right, Amount, Length, Lanes, Limits, State, LaneStates}
-use Rattle.reports.specs.InventoryRows as inventory
+use Rattle.reports.specs.InventoryRows.{inventory_rows}
 use Rattle.module_metrics.specs.Exposition.{Label, label}
 use Rattle.module_metrics.specs.Grammar.{is_name, is_reserved}
 use Rattle.module_metrics.specs.MetricNames.{snake}
@@ -41,10 +42,11 @@ sample_keys =
 abbrev pub is_row_key : List Row → List ℕ → Bool
 is_row_key rows key = list_any (bytes_eq key) (flat_map row_keys rows)
 
+-- those and the labels of what a module is: of CMIS, and of SFF, whose families all have the same
 unfoldable pub is_taken : List ℕ → Bool
 is_taken key =
     list_any (bytes_eq key) sample_keys
-    || (is_row_key inventory.cmis_rows key || (is_row_key inventory.qsfp_rows key || is_row_key inventory.sfp_rows key))
+    || (is_row_key (inventory_rows Cmis) key || is_row_key (inventory_rows Sff8636) key)
 
 -- ---- words
 

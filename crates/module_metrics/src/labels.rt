@@ -11,8 +11,9 @@ ghost use Rattle.module_metrics.specs.MetricData.{label_of};
 use crate::label_fault::LabelFault;
 use crate::metric::{Label, add_label, no_labels};
 use crate::name::word_letter;
+use paged_memory::Family;
 use report_entries::{Line, Source};
-use reports::{cmis_inventory_lines, qsfp_inventory_lines, sfp_inventory_lines};
+use reports::inventory_lines;
 use std::alloc::Global;
 use std::marker::Model;
 
@@ -159,9 +160,8 @@ fn is_taken(key: &[u8]) -> bool
     ensures { result ≡ spec.is_taken key.now }
 {
     is_sample_key(key)
-        || is_row_key(cmis_inventory_lines(), key)
-        || is_row_key(qsfp_inventory_lines(), key)
-        || is_row_key(sfp_inventory_lines(), key)
+        || is_row_key(inventory_lines(Family::Cmis), key)
+        || is_row_key(inventory_lines(Family::Sff8636), key)
 }
 
 fn is_sample_key(key: &[u8]) -> bool

@@ -46,7 +46,7 @@ use Rattle.reports.specs.Apps.{apps_entries, apps_fault}
 use Rattle.reports.specs.Details as details
 use Rattle.reports.specs.Families as refusals
 use Rattle.reports.specs.FlagRows as flags
-use Rattle.reports.specs.InventoryRows as inventory
+use Rattle.reports.specs.InventoryRows.{inventory_rows}
 use Rattle.reports.specs.MonitorRows as monitors
 use Rattle.reports.specs.Reports.{all_lanes_entries, all_lanes_flag_states, banks_in, entries_in, entries_of, flag_rows_of, flags_fault, is_flat_in, report_fault, rows_of, family_entries, family_flags}
 use Rattle.reports.specs.SameReports.{IsSame}
@@ -76,7 +76,7 @@ keys_of family report flat = keys_by family (decided family report flat)
 module _ {a b : Memory} where
   -- with these further banks
   cmis_lines_in : (report : Report) (flat : Bool) (further : Further) (agree : KeysAgree a b (keys_by Cmis flat ++ bank_keys (numbers further))) → (rows_same agree (numbers further) flat (rows_of report Cmis)).test ≡ true
-  unfolding rows_same inventory.cmis_rows monitors.cmis_rows flags.state_rows
+  unfolding rows_same inventory_rows monitors.cmis_rows flags.state_rows
   cmis_lines_in Inventory true no_further agree = refl
   cmis_lines_in Inventory true up_to_1 agree = refl
   cmis_lines_in Inventory true up_to_2 agree = refl
@@ -98,7 +98,7 @@ module _ {a b : Memory} where
   cmis_lines_in _ _ _ agree = refl
 
   lines_in : (report : Report) (family : Family) (flat : Bool) (agree : KeysAgree a b (keys_of family report flat)) → family ≢ Cmis → (rows_same agree [] flat (rows_of report family)).test ≡ true
-  unfolding rows_same inventory.qsfp_rows inventory.sfp_rows monitors.qsfp_rows monitors.sfp_rows
+  unfolding rows_same inventory_rows monitors.qsfp_rows monitors.sfp_rows
   lines_in report Cmis flat agree other = absurd (other refl)
   lines_in Inventory Sff8636 true agree other = refl
   lines_in Inventory Sff8636 false agree other = refl

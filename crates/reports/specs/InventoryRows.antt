@@ -1,7 +1,8 @@
 -- What a module is, line by line. (docs/formats.md, "inventory"; OIF-CMIS-05.0, "Lower Memory" and "Administrative Information (Page
 -- 00h)"; SFF-8636, "Upper Page 00h"; SFF-8472, "Serial ID: Data Fields")
-use Rattle.std.specs.Prelude.{ℕ, List, [], ◌∷◌, codes}
-use Rattle.paged_memory.specs.declared.family.Family.TheVariants.{Sff8636, Sff8472}
+use Rattle.std.specs.Prelude.{ℕ, List, [], ◌∷◌, Option, Some, None, codes}
+use Rattle.paged_memory.specs.declared.family.Family.{Family}
+use Rattle.paged_memory.specs.declared.family.Family.TheVariants as families
 use Rattle.field_tables.specs.declared.field.Field.TheVariants as fields
 use Rattle.field_tables.specs.declared.field.Sum.{Sum}
 use Rattle.field_tables.specs.declared.field.Sum.TheVariants as sums
@@ -10,7 +11,7 @@ use Rattle.module_decoding.specs.SharedFields.{shared_fields}
 use Rattle.module_decoding.specs.declared.shared.SharedFields.{SharedFields}
 use Rattle.report_entries.specs.Rows.{Row, Word, Either, Code, Revision, Next, Text, Oui, Right, Amount, Length, always}
 
-unfoldable pub cmis_rows : List Row
+abbrev cmis_rows : List Row
 cmis_rows =
     always (codes "family") (Word (codes "CMIS"))
     ∷ always (codes "identifier") (Code fields.CIdentifier)
@@ -31,10 +32,15 @@ cmis_rows =
     ∷ always (codes "sum-00h") (Right sums.CSum00)
     ∷ []
 
+-- the sum after the base fields, if there is one
+abbrev extended_rows : Option Sum → List Row
+extended_rows (Some sum) = always (codes "sum-ext") (Right sum) ∷ []
+extended_rows None = []
+
 -- modules of SFF say the same, each by the fields of its standard
-abbrev sff_rows : List ℕ → SharedFields → Sum → List Row
-sff_rows family at sum_ext =
-    always (codes "family") (Word family)
+abbrev sff_rows : List ℕ → SharedFields → List Row
+sff_rows standard at =
+    always (codes "family") (Word standard)
     ∷ always (codes "identifier") (Code at.identifier)
     ∷ always (codes "vendor") (Text at.vendor)
     ∷ always (codes "oui") (Oui at.oui)
@@ -44,11 +50,9 @@ sff_rows family at sum_ext =
     ∷ always (codes "date") (Text at.date)
     ∷ always (codes "connector") (Code at.connector)
     ∷ always (codes "sum-base") (Right at.sum_base)
-    ∷ always (codes "sum-ext") (Right sum_ext)
-    ∷ []
+    ∷ extended_rows at.sum_ext
 
-unfoldable pub qsfp_rows : List Row
-qsfp_rows = sff_rows (codes "SFF-8636") (shared_fields Sff8636) sums.QSumExt
-
-unfoldable pub sfp_rows : List Row
-sfp_rows = sff_rows (codes "SFF-8472") (shared_fields Sff8472) sums.SSumExt
+unfoldable pub inventory_rows : Family → List Row
+inventory_rows families.Cmis = cmis_rows
+inventory_rows families.Sff8636 = sff_rows (codes "SFF-8636") (shared_fields families.Sff8636)
+inventory_rows families.Sff8472 = sff_rows (codes "SFF-8472") (shared_fields families.Sff8472)

@@ -22,21 +22,18 @@ use Rattle.report_entries.specs.Rows.{Row, rows_entries}
 use Rattle.reports.specs.declared.fault.ReportFault.{ReportFault}
 use Rattle.reports.specs.Families.{reported}
 use Rattle.reports.specs.FlagRows as flags
-use Rattle.reports.specs.InventoryRows as inventory
+use Rattle.reports.specs.InventoryRows.{inventory_rows}
 use Rattle.reports.specs.MonitorRows as monitors
 
 -- ---- the rows
 
 abbrev pub rows_of : Report → Family → List Row
-rows_of Inventory families.Cmis = inventory.cmis_rows
-rows_of Inventory families.Sff8636 = inventory.qsfp_rows
-rows_of Inventory families.Sff8472 = inventory.sfp_rows
+rows_of Inventory family = inventory_rows family
 rows_of Monitors families.Cmis = monitors.cmis_rows
 rows_of Monitors families.Sff8636 = monitors.qsfp_rows
 rows_of Monitors families.Sff8472 = monitors.sfp_rows
 rows_of Flags families.Cmis = flags.state_rows
-rows_of Flags families.Sff8636 = []
-rows_of Flags families.Sff8472 = []
+rows_of Flags family = []
 
 abbrev pub flag_rows_of : Family → List FlagRow
 flag_rows_of families.Cmis = flags.cmis_rows
@@ -48,13 +45,12 @@ flag_rows_of families.Sff8472 = flags.sfp_rows
 abbrev pub is_flat_in : Family → Memory → Bool
 is_flat_in families.Cmis memory = is_flat memory
 is_flat_in families.Sff8636 memory = bit memory QFlatMemory
-is_flat_in families.Sff8472 memory = false
+is_flat_in family memory = false
 
 -- the further banks whose lanes are reported: all that a CMIS module has, or none
 abbrev pub banks_in : Bool → Family → Memory → List ℕ
 banks_in all_lanes families.Cmis memory = if all_lanes then further_banks (is_flat memory) memory else []
-banks_in all_lanes families.Sff8636 memory = []
-banks_in all_lanes families.Sff8472 memory = []
+banks_in all_lanes family memory = []
 
 abbrev pub family_entries : Bool → Report → Family → Memory → List Entry
 family_entries all_lanes report family memory = rows_entries memory (banks_in all_lanes family memory) (is_flat_in family memory) (rows_of report family)

@@ -18,4 +18,4 @@ pub use report::{
     all_lanes_flag_states, all_lanes_flags, all_lanes_monitors, flags, flags_json, inventory,
     inventory_entries, inventory_json, monitors, monitors_json,
 };
-pub use tables::{cmis_inventory_lines, qsfp_inventory_lines, sfp_inventory_lines};
+pub use tables::inventory_lines;

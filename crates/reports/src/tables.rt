@@ -5,7 +5,7 @@ ghost use Rattle.std.specs.List.{list_all};
 ghost use Rattle.report_entries.specs.FlagRows.{flag_row_fits};
 ghost use Rattle.report_entries.specs.RowTables.{rows_in};
 ghost use Rattle.report_entries.specs.Rows.{row_fits};
-ghost use Rattle.reports.specs.InventoryRows as spec_inventory;
+ghost use Rattle.reports.specs.InventoryRows.{inventory_rows};
 ghost use Rattle.reports.specs.Reports.{flag_rows_of, rows_of};
 
 use field_tables::{Field, Sum, TextField};
@@ -22,15 +22,12 @@ pub fn rows(report: Report, family: Family) -> &'static [Line]
     ensures fit { IsTrue (list_all row_fits (rows_in result.now)) }
 {
     match (report, family) {
-        (Report::Inventory, Family::Cmis) => cmis_inventory_lines(),
-        (Report::Inventory, Family::Sff8636) => qsfp_inventory_lines(),
-        (Report::Inventory, Family::Sff8472) => sfp_inventory_lines(),
+        (Report::Inventory, _) => inventory_lines(family),
         (Report::Monitors, Family::Cmis) => CMIS_MONITORS,
         (Report::Monitors, Family::Sff8636) => QSFP_MONITORS,
         (Report::Monitors, Family::Sff8472) => SFP_MONITORS,
         (Report::Flags, Family::Cmis) => CMIS_STATES,
-        (Report::Flags, Family::Sff8636) => &[],
-        (Report::Flags, Family::Sff8472) => &[],
+        (Report::Flags, _) => &[],
     }
 }
 
@@ -69,12 +66,12 @@ macro_rules! line_table {
     };
 }
 
-// What modules of SFF say of themselves, by the fields of their standard.
-macro_rules! sff_inventory {
-    ($family:literal: $identifier:ident $connector:ident $oui:ident, $base:ident $ext:ident,
-        $vendor:ident $part:ident $revision:ident $serial:ident $date:ident) => {
-        line_table! {
-            "family": [Word $family];
+// What modules of SFF say of themselves, by the fields of each standard.
+macro_rules! sff_inventories {
+    ($($standard:literal: $identifier:ident $connector:ident $oui:ident, $base:ident $ext:ident,
+        $vendor:ident $part:ident $revision:ident $serial:ident $date:ident;)*) => {
+        &[$(line_table! {
+            "family": [Word $standard];
             "identifier": [Code $identifier];
             "vendor": [Text $vendor];
             "oui": [Oui $oui];
@@ -85,7 +82,7 @@ macro_rules! sff_inventory {
             "connector": [Code $connector];
             "sum-base": [Right $base];
             "sum-ext": [Right $ext];
-        }
+        }),*]
     };
 }
 
@@ -109,13 +106,22 @@ const CMIS_INVENTORY: &[Line] = line_table! {
     "sum-00h": [Right CSum00];
 };
 
-/// What a CMIS module is.
-#[tactic(auto, unfolding(crate::specs::InventoryRows::cmis_rows))]
-pub fn cmis_inventory_lines() -> &'static [Line]
-    ensures rows { rows_in result.now ≡ spec_inventory.cmis_rows }
+const SFF_INVENTORIES: &[&[Line]] = sff_inventories! {
+    "SFF-8636": QIdentifier QConnector QOui, QSumBase QSumExt, QVendor QPart QPartRevision QSerial QDate;
+    "SFF-8472": SIdentifier SConnector SOui, SSumBase SSumExt, SVendor SPart SPartRevision SSerial SDate;
+};
+
+/// What a module of this family is.
+#[tactic(auto, unfolding(crate::specs::InventoryRows::inventory_rows))]
+pub fn inventory_lines(family: Family) -> &'static [Line]
+    ensures rows { rows_in result.now ≡ inventory_rows family }
     ensures fit { IsTrue (list_all row_fits (rows_in result.now)) }
 {
-    CMIS_INVENTORY
+    match family {
+        Family::Cmis => CMIS_INVENTORY,
+        Family::Sff8636 => SFF_INVENTORIES[0],
+        Family::Sff8472 => SFF_INVENTORIES[1],
+    }
 }
 
 // What a CMIS module measures.
@@ -133,19 +139,6 @@ const CMIS_MONITORS: &[Line] = line_table! {
     "sum-02h": [Right CSum02] paged;
 };
 
-const QSFP_INVENTORY: &[Line] = sff_inventory! {
-    "SFF-8636": QIdentifier QConnector QOui, QSumBase QSumExt, QVendor QPart QPartRevision QSerial QDate
-};
-
-/// What a module of SFF-8636 is.
-#[tactic(auto, unfolding(crate::specs::InventoryRows::qsfp_rows))]
-pub fn qsfp_inventory_lines() -> &'static [Line]
-    ensures rows { rows_in result.now ≡ spec_inventory.qsfp_rows }
-    ensures fit { IsTrue (list_all row_fits (rows_in result.now)) }
-{
-    QSFP_INVENTORY
-}
-
 // What a module of SFF-8636 measures.
 const QSFP_MONITORS: &[Line] = line_table! {
     "temperature": [Amount QTemperature];
@@ -159,19 +152,6 @@ const QSFP_MONITORS: &[Line] = line_table! {
     "rx-power": [Lanes QRxPower];
     "rx-power-limits": [Limits QRxPowerLimits] paged;
 };
-
-const SFP_INVENTORY: &[Line] = sff_inventory! {
-    "SFF-8472": SIdentifier SConnector SOui, SSumBase SSumExt, SVendor SPart SPartRevision SSerial SDate
-};
-
-/// What a module of SFF-8472 is.
-#[tactic(auto, unfolding(crate::specs::InventoryRows::sfp_rows))]
-pub fn sfp_inventory_lines() -> &'static [Line]
-    ensures rows { rows_in result.now ≡ spec_inventory.sfp_rows }
-    ensures fit { IsTrue (list_all row_fits (rows_in result.now)) }
-{
-    SFP_INVENTORY
-}
 
 // What a module of SFF-8472 measures.
 const SFP_MONITORS: &[Line] = line_table! {
