@@ -65,6 +65,7 @@ extern "C" {
      check                                   as advertisement, then 14 (as plan); 21 to 24, of the first faulty line
      judge                                   1 2 14 (lower half, page 11h)
      read_begin, read_some_begin             36
+     further_banks                           1 2
      next                                    31 32
      reply                                   31 32 34
      end                                     31 33
@@ -820,6 +821,11 @@ enum dovecounter_requested_bank {
    of values of one of these. */
 uint32_t dovecounter_read_some_begin(uint8_t requested, uint8_t most, const struct dovecounter_patience *patience,
                                      struct dovecounter_conversation *conversation);
+
+/* Writes what to request for the lanes above 8: page 11h of each further bank that page 01h advertises (byte 142); 0 if there is
+   none, page 01h is missing, or dovecounter_observables refuses the module. Pass the halves of a first reading. Of the second,
+   which reads the lower half again, take those whose bank isn't 0; it leaves out a bank that is advertised and isn't there. */
+uint32_t dovecounter_further_banks(const struct dovecounter_half *halves, size_t half_count, uint8_t *requested);
 
 enum dovecounter_kind { DOVECOUNTER_FETCH = 0, DOVECOUNTER_STORE = 1, DOVECOUNTER_WAIT = 2 };
 

@@ -71,7 +71,8 @@ static void (*const calls[])(void) = {set_options,
                                       call_capabilities,
                                       begin_explicit,
                                       go_on_with_explicit,
-                                      call_explicit};
+                                      call_explicit,
+                                      call_further_banks};
 
 int LLVMFuzzerTestOneInput(const uint8_t *bytes, size_t size);
 

@@ -48,6 +48,12 @@ static void call_durations(void) {
     if (!status) stop_if(found->module_power_up == 0, "a state that takes no time");
 }
 
+static void call_further_banks(void) {
+#define FURTHER_BANKS(it) dovecounter_further_banks(halves, half_count, it)
+    ASK(uint8_t, found, LIST(1, 2), FURTHER_BANKS);
+    if (!status) stop_if(*found != 0 && *found != 0x81 && *found != 0x87, "a request for further banks");
+}
+
 /* Each place of the list in turn. */
 static void call_observables(void) {
     uint16_t *place = copied(SMALL, &(uint16_t){two_bytes()}, sizeof *place);

@@ -280,6 +280,21 @@ static void try_refusals(void) {
         }
 }
 
+/* Reads what is requested, without a refusal; answers how many operations it took. */
+static unsigned read_some(uint8_t requested) {
+    struct dovecounter_ending ending;
+    bus.operations = 0;
+    bus.piece = 128;
+    bus.refusals = 0;
+    bus.was_refused = false;
+    expect("begun", DOVECOUNTER_DONE, dovecounter_read_some_begin(requested, 128, &patience, &reading));
+    expect("a run", DOVECOUNTER_DONE, dovecounter_run(&reading, halves, transact, pause, &bus));
+    expect("an end", DOVECOUNTER_DONE, dovecounter_end(&reading, halves, &ending));
+    expect("no fault", 0, ending.fault.code);
+    for (int i = 0; i < reading.halves; i++) expect("a half of the module", 1, is_of_module(&halves[i]));
+    return bus.operations;
+}
+
 /* What is requested is read alone, after the lower half; bits for modules of other families request nothing, nor does a bank that the
    module lacks. */
 static void try_requests(void) {
@@ -298,28 +313,84 @@ static void try_requests(void) {
         {DOVECOUNTER_CMIS_BANK_2, 4, 2, 2, 0x11},
         {DOVECOUNTER_CMIS_BANK_1 | DOVECOUNTER_CMIS_BANK_2 | DOVECOUNTER_CMIS_BANK_3, 9, 3, 2, 0x11},
     };
-    struct dovecounter_ending ending;
     make("requests", 0x18, 0, 5);
-    bus.piece = 128;
-    bus.refusals = 0;
     expect("seven bytes at once", DOVECOUNTER_TOO_FEW_BYTES, dovecounter_read_some_begin(0, 7, &patience, &reading));
     for (size_t i = 0; i < sizeof requests / sizeof *requests; i++) {
-        bus.operations = 0;
-        expect("begun", DOVECOUNTER_DONE, dovecounter_read_some_begin(requests[i].requested, 128, &patience, &reading));
-        expect("a run", DOVECOUNTER_DONE, dovecounter_run(&reading, halves, transact, pause, &bus));
-        expect("an end", DOVECOUNTER_DONE, dovecounter_end(&reading, halves, &ending));
-        expect("no fault", 0, ending.fault.code);
-        expect("operations", requests[i].operations, bus.operations);
+        expect("operations", requests[i].operations, read_some(requests[i].requested));
         expect("halves", requests[i].halves, reading.halves);
         expect("the newest", requests[i].newest, halves[0].page);
         expect("of this bank", requests[i].bank, halves[0].bank);
-        for (int k = 0; k < reading.halves; k++) expect("a half of the module", 1, is_of_module(&halves[k]));
     }
+}
+
+/* ---- further banks ---- */
+
+static uint8_t further_banks(const struct dovecounter_half *of, size_t count) {
+    uint8_t requested = 0x5A;
+    expect("further banks", DOVECOUNTER_DONE, dovecounter_further_banks(of, count, &requested));
+    return requested;
+}
+
+/* Of a module that advertises banks by this code, and has so many: what is requested, the operations of that, and the halves. */
+static void try_banks(uint8_t code, unsigned banks, uint8_t wanted, unsigned operations, unsigned wanted_halves) {
+    make("banks", 0x1F, 0, 5);
+    module.lower[0][1] = 0x50;
+    module.upper[0][0x01][142 - 128] = (uint8_t)(0xFC | code);
+    module.banks = banks;
+    read_module(128, 0);
+    uint8_t requested = further_banks(halves, reading.halves);
+    expect("the request", wanted, requested);
+    if (requested == 0) return;
+    expect("operations", operations, read_some(requested));
+    expect("halves", wanted_halves, reading.halves);
+    for (unsigned i = 0; i + 1 < wanted_halves; i++) {
+        expect("the page", 0x11, halves[i].page);
+        expect("the bank", wanted_halves - 1 - i, halves[i].bank);
+    }
+}
+
+/* Modules without further banks: of other families or revisions, with flat memory, or without page 01h. */
+static void try_no_banks(void) {
+    struct dovecounter_half own[] = {{.device = 0xA0, .bytes = {0x18, 0x30}}, {0xA0, 1, 0, 0x01, {[142 - 128] = 2}}};
+    expect("four banks", 0x87, further_banks(own, 2));
+    expect("banks without page 01h", 0, further_banks(own, 1));
+    expect("banks without the lower half", 0, further_banks(own + 1, 1));
+    own[0].bytes[2] = 0x80;
+    expect("banks of flat memory", 0, further_banks(own, 2));
+    own[0].bytes[2] = 0;
+    own[0].bytes[1] = 0x60;
+    expect("banks of revision 6", 0, further_banks(own, 2));
+    own[0].bytes[1] = 0x50;
+    own[0].bytes[0] = 0x11;
+    expect("banks of SFF-8636", 0, further_banks(own, 2));
+    own[0].bytes[0] = 0x03;
+    expect("banks of SFF-8472", 0, further_banks(own, 2));
+    own[0].bytes[0] = 0x0B;
+    expect("banks of another", 0, further_banks(own, 2));
+}
+
+static void try_further_banks(void) {
+    struct dovecounter_half many[17] = {{0}};
+    uint8_t requested = 0x5A;
+    try_banks(0, 1, 0, 0, 0);
+    try_banks(1, 2, DOVECOUNTER_CMIS_BANK_1, 4, 2);
+    try_banks(1, 1, DOVECOUNTER_CMIS_BANK_1, 3, 1); /* it lacks what it advertises */
+    try_banks(2, 4, DOVECOUNTER_CMIS_BANK_1 | DOVECOUNTER_CMIS_BANK_2 | DOVECOUNTER_CMIS_BANK_3, 10, 4);
+    try_banks(2, 3, DOVECOUNTER_CMIS_BANK_1 | DOVECOUNTER_CMIS_BANK_2 | DOVECOUNTER_CMIS_BANK_3, 9, 3);
+    try_banks(3, 4, 0, 0, 0); /* the code is reserved */
+    try_no_banks();
+    for (int i = 0; i < 17; i++) many[i].device = 0xA0;
+    expect("17 halves", DOVECOUNTER_TOO_MANY_HALVES, dovecounter_further_banks(many, 17, &requested));
+    expect("16 halves", 0, further_banks(many, 16));
+    many[15].upper = 2;
+    expect("a half without a place", DOVECOUNTER_NO_PLACE, dovecounter_further_banks(many, 16, &requested));
+    expect("nothing is written", 0x5A, requested);
 }
 
 int main(void) {
     try_modules();
     try_requests();
+    try_further_banks();
     try_refused_piece(0);
     try_refused_piece(1);
     try_refusals();

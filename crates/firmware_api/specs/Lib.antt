@@ -30,3 +30,4 @@ pub mod ObservableNumbers
 pub mod SettingsTold
 pub mod ExplicitTold
 pub mod VdmTold
+pub mod FurtherBanks

@@ -12,6 +12,7 @@ mod conversation;
 mod durations;
 mod explicit;
 mod flags;
+mod further_banks;
 mod half;
 mod identity;
 mod judging;
