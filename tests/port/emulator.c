@@ -44,10 +44,10 @@ static bool read_digits(const char *digits, uint8_t bytes[128]) {
 void load_line(struct emulator *module, const char *line) {
     char digits[257];
     unsigned bank, page;
-    if (sscanf(line, "lower A0 %256s", digits) == 1)
-        read_digits(digits, module->lower);
-    else if (sscanf(line, "upper A0 %x %x %256s", &bank, &page, digits) == 3 && bank == 0 && page < 256)
-        module->present[page] = read_digits(digits, module->pages[page]);
+    if (sscanf(line, "lower A0 %256s", digits) == 1) read_digits(digits, module->lower);
+    if (sscanf(line, "upper A0 %x %x %256s", &bank, &page, digits) != 3 || bank > 3 || page > 255) return;
+    if (bank == 0) module->present[page] = read_digits(digits, module->pages[page]);
+    if (bank != 0 && page == 0x11) module->has_lanes[bank - 1] = read_digits(digits, module->lanes[bank - 1]);
 }
 
 /* Polarity, disable and squelch of single lanes. */
@@ -231,25 +231,32 @@ static void apply_settings(struct emulator *module, uint8_t mask) {
 }
 
 uint8_t fetch_byte(struct emulator *module, uint8_t address) {
-    uint8_t at = address & 127, *bytes = module->pages[module->page], byte;
+    uint8_t at = address & 127, byte;
+    uint8_t *bytes = module->bank == 0 ? module->pages[module->page] : module->lanes[module->bank - 1];
+    bool has_paths = module->bank == 0 && module->page == 0x11;
     if (address < 126) {
         byte = module->lower[address];
         if (address >= 8 && address <= 11) module->lower[address] = 0;
         return byte;
     }
     if (address < 128) return address == 126 ? module->bank : module->page;
-    if (module->page == 0x11 && at < 4) return (uint8_t)(module->path[2 * at] | module->path[2 * at + 1] << 4);
-    if (module->page == 0x11 && at >= STATUSES && at < ACTIVE)
+    if (has_paths && at < 4) return (uint8_t)(module->path[2 * at] | module->path[2 * at + 1] << 4);
+    if (has_paths && at >= STATUSES && at < ACTIVE)
         return (uint8_t)(module->status[2 * (at - STATUSES)] | module->status[2 * (at - STATUSES) + 1] << 4);
     byte = bytes[at];
     if (module->page == 0x11 && at >= LATCHED && at <= LAST_LATCHED) bytes[at] = 0;
     return byte;
 }
 
+static bool is_there(const struct emulator *module, uint8_t bank, uint8_t page) {
+    return bank == 0 ? module->present[page] : bank <= 3 && page == 0x11 && module->has_lanes[bank - 1];
+}
+
 static void select_page(struct emulator *module, uint8_t page) {
-    bool there = module->next_bank == 0 && module->present[page];
-    module->bank = module->next_bank = 0;
+    bool there = is_there(module, module->next_bank, page);
+    module->bank = there ? module->next_bank : 0;
     module->page = there ? page : 0;
+    module->next_bank = 0;
     if (module->stuck >= 0) module->page = (uint8_t)module->stuck;
 }
 

@@ -1,4 +1,4 @@
-/* A CMIS module of eight lanes with paged memory, as its host sees it: for tests of cmis-port. Written from OIF-CMIS-05.0, apart from the
+/* A CMIS module with paged memory, as its host sees it, of which the lanes of bank 0 can be changed: for tests of cmis-port. Written from OIF-CMIS-05.0, apart from the
    simulated module of cmisctl. */
 #ifndef EMULATOR_H
 #define EMULATOR_H
@@ -21,7 +21,9 @@ enum config_status {
 struct emulator {
     uint8_t lower[128], pages[256][128]; /* as they were loaded, with what is stored and latched */
     bool present[256];                   /* pages of bank 0 */
-    uint8_t bank, page, next_bank;       /* the selection; what was stored at 126 */
+    uint8_t lanes[3][128];               /* page 11h of banks 1 to 3 */
+    bool has_lanes[3];
+    uint8_t bank, page, next_bank; /* the selection; what was stored at 126 */
     uint8_t path[8], status[8];
     unsigned path_left[8]; /* milliseconds until a transient state ends */
     uint8_t applied[8];    /* what becomes active */

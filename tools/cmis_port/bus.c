@@ -40,12 +40,15 @@ static off_t place_in_row(const struct bus *bus, const struct dovecounter_operat
     return operation->offset + (operation->offset < 128 ? 0 : 128 * bus->selection[1]);
 }
 
-/* A selection is kept here, since optoe selects pages by itself. As in a module, it becomes page 00h if the page is not there. */
+/* A selection is kept here, since optoe selects pages by itself. As in a module, it becomes page 00h of bank 0 if the page is not there,
+   and no page of another bank is. */
 static void transact_selection(struct bus *bus, const struct dovecounter_operation *operation, uint8_t *bytes) {
     uint8_t byte, *selection = bus->selection + operation->offset % 2;
     bool stores = operation->kind == DOVECOUNTER_STORE;
     memcpy(stores ? selection : bytes, stores ? operation->bytes : selection, operation->count);
-    if (stores && pread(bus->file, &byte, 1, 128 + 128 * bus->selection[1]) == 0) memset(bus->selection, 0, 2);
+    if (!stores) return;
+    bool is_there = bus->selection[0] == 0 && pread(bus->file, &byte, 1, 128 + 128 * bus->selection[1]) != 0;
+    if (!is_there) memset(bus->selection, 0, 2);
 }
 
 bool transact_in_a_row(struct bus *bus, const struct dovecounter_operation *operation, uint8_t *bytes) {

@@ -16,7 +16,7 @@ enum status refuse_by(const struct port *port, uint32_t status) {
 
 enum status image(struct port *port) {
     struct listed listed = {.count = 0};
-    bool whole = read_module(port, true) && (!port->vdm || read_listed(port, &listed));
+    bool whole = read_module(port, true) && read_further_banks(port) && (!port->vdm || read_listed(port, &listed));
     const char *end = port->json ? "\\n" : "\n";
     if (port->json) fputs("{\"image\": \"", stdout);
     print_image(stdout, port->halves, port->half_count, listed.halves, listed.count, end);

@@ -75,7 +75,7 @@ static void print_all(const struct port *port, struct printer *printer, const st
 
 /* The flags of what was read; whether they are known. Without page 11h they are those of the module alone. */
 static bool find_flags(const struct port *port, struct dovecounter_flags *flags) {
-    struct dovecounter_half halves[DOVECOUNTER_MOST_READ + 1];
+    struct dovecounter_half halves[MOST_HALVES + 1];
     size_t count = port->half_count;
     memcpy(halves, port->halves, count * sizeof *halves);
     if (bytes_at(port, ACTIVE) == NULL)

@@ -13,6 +13,7 @@
 #include <unistd.h>
 
 enum { LINE_SIZE = 1 << 16, LETS_GO = 10000, BUS_SIZE = 128 }; /* bytes; milliseconds; bytes */
+enum { MOST_TOLD = 64 };                                       /* halves of an image */
 
 const char no_module[] = "there is no module, as cmisd has it";
 
@@ -99,11 +100,15 @@ static bool consult(const char *name, char answer[LINE_SIZE]) {
     return is_known;
 }
 
+/* What the module lists itself (VDM) is left out: no command that takes the memory needs it. */
 static void take_memory(struct port *port, char *image, size_t length) {
+    static struct dovecounter_half told[MOST_TOLD];
     FILE *file = length > 0 ? fmemopen(image, length, "r") : NULL;
     if (file == NULL) return;
-    port->half_count = (uint8_t)read_halves(file, port->halves, DOVECOUNTER_MOST_READ);
+    size_t count = read_halves(file, told, MOST_TOLD);
     fclose(file);
+    for (size_t i = 0; i < count && port->half_count < MOST_HALVES; i++)
+        if (!told[i].upper || told[i].page >> 4 != 2) port->halves[port->half_count++] = told[i];
 }
 
 /* What the plan of cmisd goes by, unless words of this command line say so. */

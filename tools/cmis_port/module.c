@@ -18,9 +18,10 @@ bool is_other_family(const struct port *port) {
 struct talk {
     struct port *port;
     struct dovecounter_conversation conversation;
-    const char *name;   /* that is shown; NULL of a reading */
-    bool of_any_family; /* a reading goes on whatever the first half shows */
-    unsigned before;    /* operations that were made before it */
+    struct dovecounter_half *halves; /* those that a reading has read */
+    const char *name;                /* that is shown; NULL of a reading */
+    bool of_any_family;              /* a reading goes on whatever the first half shows */
+    unsigned before;                 /* operations that were made before it */
 };
 
 /* `bytes` are those of a fetch from `offset` on, which is 0 if nothing was fetched. */
@@ -57,26 +58,28 @@ static void wait_ms(void *context, uint32_t ms) {
 static unsigned run(struct talk *talk, struct dovecounter_ending *ending) {
     struct port *port = talk->port;
     talk->before = port->made;
-    uint32_t status = dovecounter_run(&talk->conversation, port->halves, make, wait_ms, talk);
-    port->half_count = talk->name == NULL ? talk->conversation.halves : port->half_count;
+    uint32_t status = dovecounter_run(&talk->conversation, talk->halves, make, wait_ms, talk);
     clear_progress();
-    if (status != DOVECOUNTER_DONE || dovecounter_end(&talk->conversation, port->halves, ending) != DOVECOUNTER_DONE)
+    if (status != DOVECOUNTER_DONE || dovecounter_end(&talk->conversation, talk->halves, ending) != DOVECOUNTER_DONE)
         return NO_ANSWER;
     return ending->fault.code;
 }
 
-/* Reads what the library asks for, from the beginning again if the adapter fetches less at once. */
-bool read_module(struct port *port, bool of_any_family) {
+/* Reads what is requested, or if that is 0, all of bank 0, from the beginning again if the adapter fetches less at once. */
+static bool read_requested(struct talk *talk, uint8_t requested) {
     const struct dovecounter_patience patience = {.pause = 20, .limit = 2000};
-    struct talk talk = {.port = port, .of_any_family = of_any_family};
+    struct port *port = talk->port;
     struct dovecounter_ending ending;
     unsigned fault;
     uint8_t most;
-    if (port->is_told) return true;
     port->ending = GOES_ON;
     do {
-        dovecounter_read_begin(most = port->most, &patience, &talk.conversation);
-        fault = run(&talk, &ending);
+        most = port->most;
+        if (requested == 0)
+            dovecounter_read_begin(most, &patience, &talk->conversation);
+        else
+            dovecounter_read_some_begin(requested, most, &patience, &talk->conversation);
+        fault = run(talk, &ending);
     } while (port->ending == GOES_ON && most != port->most);
     if (port->ending != GOES_ON) return false;
     if (fault == NO_ANSWER || fault == 0) return true; /* another family, or all was read */
@@ -85,13 +88,36 @@ bool read_module(struct port *port, bool of_any_family) {
     return false;
 }
 
-/* The bytes of the lower half or of page 11h from this one on; NULL if they were not read. */
+/* Reads what the library asks for. */
+bool read_module(struct port *port, bool of_any_family) {
+    struct talk talk = {.port = port, .halves = port->halves, .of_any_family = of_any_family};
+    if (port->is_told) return true;
+    bool whole = read_requested(&talk, 0);
+    port->half_count = talk.conversation.halves;
+    return whole;
+}
+
+/* Reads the lanes of the further banks that a module advertises which was read, as far as they are there. Of this reading pages of these
+   banks alone are taken: the lower half has lost its flags to the one before. */
+bool read_further_banks(struct port *port) {
+    struct dovecounter_half halves[DOVECOUNTER_MOST_READ];
+    struct talk talk = {.port = port, .halves = halves, .of_any_family = true};
+    uint8_t requested = 0;
+    if (!port->is_told) dovecounter_further_banks(port->halves, port->half_count, &requested);
+    if (requested == 0) return true;
+    bool whole = read_requested(&talk, requested);
+    for (uint8_t i = 0; i < talk.conversation.halves; i++)
+        if (halves[i].bank != 0) port->halves[port->half_count++] = halves[i];
+    return whole;
+}
+
+/* The bytes of the lower half or of page 11h of bank 0 from this one on; NULL if they were not read. */
 const uint8_t *bytes_at(const struct port *port, uint8_t offset) {
     for (size_t i = 0; i < port->half_count; i++) {
         const struct dovecounter_half *half = &port->halves[i];
         bool upper = offset >= 128;
-        if (half->device == 0xA0 && half->upper == upper && half->page == (upper ? 0x11 : 0))
-            return half->bytes + offset % 128;
+        bool is_in_bank = half->device == 0xA0 && half->bank == 0;
+        if (is_in_bank && half->upper == upper && half->page == (upper ? 0x11 : 0)) return half->bytes + offset % 128;
     }
     return NULL;
 }
@@ -125,7 +151,7 @@ static void begin(const struct port *port, enum work work, struct dovecounter_co
 
 /* Carries a procedure out. Says the fault that it ended in, or 0; NO_ANSWER if it was not ended. */
 unsigned carry_out(struct port *port, enum work work) {
-    struct talk talk = {.port = port, .name = works[work]};
+    struct talk talk = {.port = port, .halves = port->halves, .name = works[work]};
     struct dovecounter_ending ending;
     begin(port, work, &talk.conversation);
     unsigned fault = run(&talk, &ending);

@@ -66,7 +66,8 @@ static void carry_out_reading(struct port *port, struct listed *listed) {
 static const struct dovecounter_half *half_of(const struct dovecounter_half *halves, size_t count, uint8_t upper,
                                               uint8_t page) {
     for (size_t i = 0; i < count; i++)
-        if (halves[i].device == 0xA0 && halves[i].upper == upper && halves[i].page == page) return &halves[i];
+        if (halves[i].device == 0xA0 && halves[i].bank == 0 && halves[i].upper == upper && halves[i].page == page)
+            return &halves[i];
     return NULL;
 }
 
@@ -240,12 +241,12 @@ static enum status refuse_module(const struct port *port, uint32_t status) {
 
 enum status observables(struct port *port) {
     struct dovecounter_observable one;
-    struct listed listed;
+    struct listed listed = {.count = 0};
     uint16_t place = 0;
     if (!read_module(port, true)) return REFUSED;
     uint32_t status = dovecounter_observables(port->halves, port->half_count, &place, &one);
     if (status != DOVECOUNTER_DONE) return refuse_module(port, status);
-    bool whole = read_listed(port, &listed);
+    bool whole = read_further_banks(port) && read_listed(port, &listed);
     if (port->json)
         print_in_json(port, &listed);
     else

@@ -6,7 +6,8 @@
 #include <signal.h>
 
 enum status { DONE = 0, REFUSED = 1, COMMAND_LINE = 2, NOT_PROVISIONED = 3, IN_USE = 4, NOT_WRITTEN = 6 };
-enum { SETTINGS = 8 }; /* of a lane's signal */
+enum { SETTINGS = 8 };                            /* of a lane's signal */
+enum { MOST_HALVES = DOVECOUNTER_MOST_READ + 3 }; /* with page 11h of three further banks */
 enum work { PROVISION, ACTIVATE, WAKE, SLEEP };
 
 /* The words of flags about a link, or NULL. */
@@ -50,7 +51,7 @@ struct port {
     bool stored;                              /* or tried to, but for page selections */
     bool patient;                             /* a module that does not answer may be back */
     unsigned steps[4];                        /* of each work that was done */
-    struct dovecounter_half halves[DOVECOUNTER_MOST_READ];
+    struct dovecounter_half halves[MOST_HALVES];
     uint8_t half_count; /* of those, as many as were read */
     struct dovecounter_plan plan;
     struct dovecounter_settings_change tunes; /* what lanes of the plan get, of a module with these limits */
@@ -91,6 +92,7 @@ enum { LOW_POWER = 1, READY = 3, POWER_DOWN = 4 };                              
 enum { DEACTIVATED = 1, ALL_LANES = 0xFF, NO_ANSWER = 255 };
 bool is_other_family(const struct port *port);
 bool read_module(struct port *port, bool of_any_family);
+bool read_further_banks(struct port *port);
 const uint8_t *bytes_at(const struct port *port, uint8_t offset);
 unsigned state_of(const struct port *port);
 unsigned lanes_in(const struct port *port, unsigned path_state);
