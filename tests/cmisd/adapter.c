@@ -33,7 +33,8 @@ struct adapter {
     uint32_t takes;          /* milliseconds for each transaction */
     uint32_t hides;          /* a fetch of this byte of page 10h alone is refused, if it isn't 0 */
     uint32_t probes;         /* what became of it: fetches of byte 0 alone */
-    uint32_t unused[2];
+    uint32_t refuses_banks;  /* asked for: selections of further banks are refused */
+    uint32_t unused;
     uint32_t shows;         /* asked for: the state that byte 3 shows, if it isn't 0 */
     uint32_t refuses_power; /* so is this: transactions with byte 26 are refused */
     /* these became of it */
@@ -152,8 +153,9 @@ static void count_changes(uint32_t changes[8], uint8_t codes[8], const uint8_t *
     }
 }
 
+/* Those of bank 0, which the daemon counts. */
 static void judge_fetch(struct adapter *it, unsigned offset, const uint8_t *bytes, unsigned count) {
-    bool shows_lanes = it->simulated.module.page == 0x11;
+    bool shows_lanes = it->simulated.module.page == 0x11 && it->simulated.module.bank == 0;
     unsigned end = offset + count;
     if (shows_lanes && offset <= 128 && end >= 132) count_changes(it->state_changes, it->states, bytes + 128 - offset);
     if (shows_lanes && offset <= 202 && end >= 206)
@@ -247,12 +249,17 @@ static bool refuses_apply(struct adapter *it, const struct i2c_rdwr_ioctl_data *
     return true;
 }
 
+static bool selects_bank(const struct i2c_msg *message) {
+    return message->buf[0] == 126 && message->len == 3 && message->buf[1] != 0;
+}
+
 static bool transact(struct adapter *it, const struct i2c_rdwr_ioctl_data *data) {
     bool was_up[8];
     if (it->random == 0) it->random = 88172645463325252U + (uint64_t)now() * 1000003;
     it->transactions++;
     if (!it->present || below(it, 100) < it->refuse) return false;
     if (it->refuses_power && data->msgs[0].buf[0] == 26) return false;
+    if (it->refuses_banks && selects_bank(&data->msgs[0])) return false;
     if (it->serial != it->seen_serial || it->resets != it->seen_resets) begin(it);
     let_time_pass(it);
     memcpy(it->judged, it->wanted, sizeof it->judged); /* the test may want something else meanwhile */

@@ -12,6 +12,8 @@ enum { LANES_PAGE = 0x11, MODULE_FLAGS = 32, LANE_FLAGS = 152, OUTPUTS = 2 };
 /* Of a module that is read again, and of another one that may have replaced it. */
 enum { MOST_HALVES = 2 * DOVECOUNTER_MOST_READ };
 
+enum { FURTHER_BANKS = 3 };
+
 /* A section of the configuration. */
 struct entry {
     char name[NAME_SIZE], weights[TEXT_SIZE];
@@ -37,7 +39,16 @@ struct listing {
 /* What PORT.image has: the memory as it was read, and what the module lists. Zeros follow both. */
 struct image {
     uint8_t half_count, listed_count;
-    struct dovecounter_half halves[MOST_HALVES], listed[DOVECOUNTER_MOST_VDM];
+    struct dovecounter_half halves[MOST_HALVES + FURTHER_BANKS], listed[DOVECOUNTER_MOST_VDM];
+};
+
+/* The lanes above 8. */
+struct banks {
+    struct dovecounter_conversation reading;
+    struct dovecounter_half halves[DOVECOUNTER_MOST_READ]; /* of the reading under way */
+    struct dovecounter_half read[FURTHER_BANKS];           /* of the last one, so many: */
+    uint8_t read_count;
+    bool is_due, is_under_way;
 };
 
 /* Which outputs are disabled, by lane: of the transmitters, and of the receivers. */
@@ -83,8 +94,9 @@ struct port {
 
     struct listing listing;
     struct outputs outputs;
+    struct banks banks;
     bool is_rested;     /* the last operation of the library has ended a look, or a job in a failure */
-    int64_t goes_on_at; /* until when the reading of `listing` or `outputs` under way pauses, or 0 */
+    int64_t goes_on_at; /* until when the reading of `listing`, `outputs` or `banks` under way pauses, or 0 */
 
     struct {
         bool is_once;           /* what is asked; if lanes that are up stand against it, */
@@ -137,6 +149,12 @@ void go_on_listing(struct port *port);
 bool begin_outputs(struct port *port);
 void go_on_with_outputs(struct port *port);
 void print_outputs(FILE *out, const struct port *port);
+
+/* banks.c */
+void expect_banks(struct port *port, const struct dovecounter_port_outcome *led_to);
+void forget_banks(struct port *port);
+bool begin_banks(struct port *port);
+void go_on_with_banks(struct port *port);
 
 /* told.c */
 void say_reason(char words[WORDS_SIZE], const struct dovecounter_left *left);

@@ -77,6 +77,8 @@ static struct image image_of(const struct port *port) {
     struct image image = {.half_count = (uint8_t)port->half_count};
     if (port->entry.vdm > 0) image.listed_count = port->listing.read_count;
     memcpy(image.halves, port->halves, image.half_count * sizeof *image.halves);
+    for (uint8_t i = 0; image.half_count > 0 && i < port->banks.read_count; i++)
+        image.halves[image.half_count++] = port->banks.read[i];
     memcpy(image.listed, port->listing.read, image.listed_count * sizeof *image.listed);
     return image;
 }
@@ -126,7 +128,8 @@ static bool put_file(const struct port *port, const char *ending, void (*print)(
     return is_whole;
 }
 
-_Static_assert(sizeof(struct image) == 2 + (MOST_HALVES + DOVECOUNTER_MOST_VDM) * sizeof(struct dovecounter_half),
+_Static_assert(sizeof(struct image) ==
+                   2 + (MOST_HALVES + FURTHER_BANKS + DOVECOUNTER_MOST_VDM) * sizeof(struct dovecounter_half),
                "images are compared byte by byte, so each byte has to be a member's");
 
 /* Written only if it differs from what the file has. */

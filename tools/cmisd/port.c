@@ -63,6 +63,7 @@ bool is_still(const struct port *port) { return port->is_held || port->is_lent |
 static void forget(struct port *port) {
     port->is_read_again = false;
     port->half_count = 0;
+    forget_banks(port);
 }
 
 /* Others have had its bus, and may have changed or exchanged the module. What comes of that is told if it is new. */
@@ -282,6 +283,7 @@ static void step(struct port *port) {
     struct dovecounter_port_next next;
     bool still = is_still(port), has_pin = port->entry.presence[0] != 0;
     bool lists = port->listing.is_under_way, ends = port->is_retired || is_stopping;
+    bool reads = port->outputs.is_under_way || port->banks.is_under_way;
     bool looks = (has_pin || !still) && port->looks_at <= now();
     if (has_former(port)) return (void)(port->due = now() + SOON);
     if (lists && (ends || !looks)) return go_on_listing(port);
@@ -289,13 +291,14 @@ static void step(struct port *port) {
     if (still && !lists) shut(port);
     if (!still && !port->is_open) return wait_for_bus(port);
     if (port->outputs.is_under_way && !looks) return go_on_with_outputs(port);
-    if (looks && (has_pin || lists || port->outputs.is_under_way)) return look(port);
+    if (port->banks.is_under_way && !looks) return go_on_with_banks(port);
+    if (looks && (has_pin || lists || reads)) return look(port);
     find_next(port, &next);
     if (next.kind == DOVECOUNTER_PORT_DO) return carry_out(port, &next);
     if (!still && port->looks_at <= now()) return look(port);
     port->due = has_pin || !still ? port->looks_at : INT64_MAX;
     if (next.kind == DOVECOUNTER_PORT_UNTIL && next.moment < (uint64_t)port->due) port->due = (int64_t)next.moment;
-    if (!still && !begin_outputs(port)) begin_listing(port);
+    if (!still && !begin_outputs(port) && !begin_banks(port)) begin_listing(port);
 }
 
 /* ---- threads */

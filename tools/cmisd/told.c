@@ -141,14 +141,16 @@ static void forget_former(struct port *port) {
     for (size_t i = 0; i < port->half_count; i++)
         if (port->anew >> i & 1) port->halves[count++] = port->halves[i];
     port->half_count = count;
+    port->banks.read_count = 0;
 }
 
-/* A module at which something is done, or has failed, is no longer only read again. */
+/* A module at which something is done, or has failed, is no longer only read again. The image waits for lanes above 8 that are read next. */
 void hear(struct port *port, const struct dovecounter_port_outcome *outcome) {
     char words[WORDS_SIZE];
     bool has_failed = outcome->kind == DOVECOUNTER_PORT_FAILED;
     if (has_image(outcome) && port->is_read_again) forget_former(port);
-    if (has_image(outcome)) put_image(port);
+    expect_banks(port, outcome);
+    if (has_image(outcome) && !port->banks.is_due) put_image(port);
     if (has_failed || outcome->note != DOVECOUNTER_PORT_QUIET) port->is_read_again = false;
     if (outcome->note == DOVECOUNTER_PORT_IDENTIFIED || outcome->note == DOVECOUNTER_PORT_CAME_UP) find_plan(port);
     if (outcome->kind == DOVECOUNTER_PORT_WENT) tell_note(port, outcome->note);
