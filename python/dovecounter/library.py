@@ -603,6 +603,7 @@ FUNCTIONS: Dict[str, Tuple[Any, Tuple[Any, ...]]] = {
     "wake_begin": (None, _BEGUN),
     "sleep_begin": (None, _BEGUN),
     "read_some_begin": (c_uint32, (c_uint8, c_uint8, *_BEGUN)),
+    "further_banks": (c_uint32, (*_HALVES, POINTER(c_uint8))),
     "next": (c_uint32, (POINTER(Conversation), POINTER(Half), POINTER(Operation))),
     "reply": (c_uint32, (POINTER(Conversation), POINTER(Half), c_uint8, *_BYTES)),
     "end": (c_uint32, (POINTER(Conversation), POINTER(Half), POINTER(Ending))),

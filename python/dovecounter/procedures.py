@@ -5,7 +5,7 @@ import asyncio
 import contextlib
 import copy
 import time
-from ctypes import byref
+from ctypes import byref, c_uint8
 from dataclasses import dataclass
 from enum import Flag
 from typing import Any, Awaitable, Callable, Dict, Optional, Tuple, TypeVar, Union
@@ -337,17 +337,19 @@ class Request(Flag):
     SFF8472_DIAGNOSTICS = 64
     """the lower half of 0xA2"""
     EVERYTHING = 127
-    """all of these, which reports and plans need"""
+    """all of these, which reports and plans need, and then the lanes of further banks"""
 
 
 class Reading(Procedure):
     """Reads the halves of a module that are requested, by default all that reports and plans need
-    (docs/bus.md, "Reading an image"). The bus fetches at most `most` bytes at once, 8 to 255.
-    Raises a Fault PV4 while it is iterated if 4096 operations did not do, and TimeoutError if the
-    module is silent, for two seconds where no other Patience is given. A simulated module needs
-    page 10h too, which is not read."""
+    (docs/bus.md, "Reading an image"). After all of them, page 11h of the further banks that page 01h
+    advertises follows, for lanes from 9 on, as far as they are there. The bus fetches at most `most`
+    bytes at once, 8 to 255. Raises a Fault PV4 while it is iterated if 4096 operations did not do,
+    or as many for further banks, and TimeoutError if the module is silent, for two seconds where no
+    other Patience is given. A simulated module needs page 10h too, which is not read."""
 
     _begin = staticmethod(library.function("read_some_begin"))
+    _further_banks = staticmethod(library.function("further_banks"))
 
     def __init__(
         self,
@@ -356,21 +358,46 @@ class Reading(Procedure):
         requested: Request = Request.EVERYTHING,
     ) -> None:
         super().__init__(patience)
-        status = self._begin(
-            look_at_type("what is requested", requested, Request).value,
-            look_at("the number of bytes at once", most, 255, least=8),
-            byref(self._patience),
-            byref(self._saved),
-        )
-        library.expect_done(status)
+        self._most = look_at("the number of bytes at once", most, 255, least=8)
         self._image: Optional[Image] = None
+        self._made_before = 0
+        self._goes_on = look_at_type("what is requested", requested, Request) == Request.EVERYTHING
+        self._read(requested.value)
 
     @property
     def image(self) -> Image:
-        """What was read. Raises ValueError before the end."""
+        """What was read; without further banks as long as these are read, and if that fails. Raises
+        ValueError before."""
         if self._image is None:
             raise ValueError("the reading has not ended")
         return self._image
+
+    def _read(self, requested: int) -> None:
+        begun = byref(self._patience), byref(self._saved)
+        library.expect_done(self._begin(requested, self._most, *begun))
+
+    def _made(self) -> int:
+        return self._made_before + super()._made()
+
+    def _ask(self, found: library.Operation) -> int:
+        status = super()._ask(found)
+        return super()._ask(found) if status == _ENDED and self._reads_on() else status
+
+    def _reads_on(self) -> bool:
+        """Whether further banks are read from now on, since all of bank 0 was."""
+        ending, requested = library.Ending(), c_uint8()
+        self._put_end(ending)
+        if not self._goes_on or ending.fault.code:
+            return False
+        self._goes_on = False
+        status = self._further_banks(self._halves, self._saved.halves, byref(requested))
+        library.expect_done(status)
+        if requested.value == 0:
+            return False
+        self._end(ending)
+        self._made_before = self._made()
+        self._read(requested.value)
+        return True
 
     def _end(self, ending: Any) -> None:
         if ending.fault.code == _GAVE_UP_WAITING:
@@ -378,4 +405,5 @@ class Reading(Procedure):
         halves: Dict[Key, bytes] = {}
         for half in self._halves[: self._saved.halves]:
             halves[Key(half.device, bool(half.upper), half.bank, half.page)] = bytes(half.bytes)
-        self._image = Image(halves)
+        # the lower half is read again for further banks, and has lost its flags by then
+        self._image = Image({**halves, **(self._image.halves if self._image else {})})

@@ -10,7 +10,7 @@ import re
 import subprocess
 import sys
 import time
-from typing import Any, Callable, Dict, List, Optional, Type
+from typing import Any, Callable, Dict, List, Optional, Tuple, Type
 
 import pytest
 
@@ -56,6 +56,9 @@ __all__ = ["refusing_bus", "simulated_module"]  # pytest finds them here
 pytestmark = pytest.mark.filterwarnings("ignore::dovecounter.KeptPathNotActive")
 
 DR4 = example("qsfp_dd_400g_dr4.txt")
+CMIS_ALONE = (
+    Request.CMIS_PAGE_00 | Request.CMIS_PAGE_01 | Request.CMIS_PAGE_02 | Request.CMIS_PAGE_11
+)
 
 
 def test_runs_are_those_of_the_program_whatever_is_refused() -> None:
@@ -114,6 +117,103 @@ def test_a_reading_gives_the_halves_that_are_read(most: int) -> None:
         for key in (page(0x00), page(0x01), page(0x02)):
             assert reading.image.halves[key] == image.halves[key]
         assert reading.image.applications() == image.applications()
+
+
+def with_banks(code: int, *banks: int) -> Image:
+    """A module that advertises banks by this code, and has the lanes of these."""
+    advert = bytearray(DR4.halves[page(0x01)])
+    advert[142 - 128] = code
+    advert[127] = sum(advert[2:127]) % 256
+    lanes = {page(0x11, bank): bytes([bank]) * 128 for bank in banks}
+    return Image({**DR4.halves, page(0x01): bytes(advert), **lanes})
+
+
+@pytest.mark.parametrize("most", [8, 128])
+@pytest.mark.parametrize(
+    "code, banks, read",
+    [
+        (0, (1,), ()),
+        (1, (1,), (1,)),
+        (1, (1, 2), (1,)),
+        (1, (), ()),
+        (2, (1, 2, 3), (1, 2, 3)),
+        (2, (1, 3), (1, 3)),
+        (3, (1, 2, 3), ()),
+    ],
+)
+def test_a_reading_goes_on_with_the_further_banks_that_are_advertised(
+    code: int, banks: Tuple[int, ...], read: Tuple[int, ...], most: int
+) -> None:
+    chance = random.Random(most)
+    image = with_banks(code, *banks)
+    module, reading = SimulatedModule(image), Reading(most)
+    operations = 0
+    while (step := next(reading, None)) is not None:
+        reading = copy.copy(reading)
+        if isinstance(step, Wait):
+            reading.waited()
+            continue
+        operations += 1
+        reading.reply(False if chance.random() < 0.1 else module.transact(step))
+    assert repr(reading) == f"<Reading after {operations} operations>"
+    found = reading.image.halves
+    assert [key.bank for key in found if key.bank] == list(read)
+    assert all(found[page(0x11, bank)] == bytes([bank]) * 128 for bank in read)
+    assert len(found) == 5 + len(read)
+    assert list(reading) == [] and reading.image.halves == found
+
+
+def run_until_refused(reading: Reading, answered: int) -> List[Operation]:
+    """Reads a module of four banks over a bus that refuses all after so many operations."""
+    module = SimulatedModule(with_banks(2, 1, 2, 3))
+    made: List[Operation] = []
+
+    def transact(operation: Operation) -> Reply:
+        made.append(operation)
+        return module.transact(operation) if len(made) <= answered else False
+
+    for _ in range(2):  # it goes on no further
+        with pytest.raises(TimeoutError):
+            reading.run(transact, pause=lambda seconds: None)
+    return made
+
+
+def test_what_was_read_of_bank_0_stays_if_further_banks_are_refused() -> None:
+    reading = Reading()
+    made = run_until_refused(reading, 17)
+    assert [str(key) for key in reading.image.halves] == [
+        "lower A0",
+        *(f"upper A0 00 {number}" for number in ("00", "01", "02", "11")),
+    ]
+    assert made[13].offset == 0 and made[14].data == b"\x01\x11"
+
+
+def test_no_further_banks_are_read_if_bank_0_is_refused() -> None:
+    reading = Reading()
+    made = run_until_refused(reading, 9)  # page 01h was read before
+    assert b"\x01\x11" not in [operation.data for operation in made]
+    pytest.raises(ValueError, lambda: reading.image)
+
+
+def test_the_lower_half_is_that_of_the_first_reading() -> None:
+    module, reading = SimulatedModule(with_banks(1, 1)), Reading()
+    fetched: List[bytes] = []
+
+    def transact(operation: Operation) -> Reply:
+        reply = module.transact(operation)
+        if operation.offset == 0 and isinstance(reply, bytes):
+            reply = reply[:8] + bytes([len(fetched) + 1]) + reply[9:]
+            fetched.append(reply)
+        return reply
+
+    reading.run(transact)
+    assert len(fetched) == 2 and reading.image.halves[LOWER] == fetched[0]
+
+
+def test_other_requests_are_for_bank_0_alone() -> None:
+    module, reading = SimulatedModule(with_banks(1, 1)), Reading(requested=CMIS_ALONE)
+    reading.run(module.transact)
+    assert len(reading.image.halves) == 5 and repr(reading) == "<Reading after 13 operations>"
 
 
 def test_a_module_shows_all_of_its_halves() -> None:
