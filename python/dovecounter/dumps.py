@@ -29,13 +29,6 @@ VERSIONS = {"module-image 1": 16, "module-image 2": MOST_HALVES}
 BANKS = (1, 2, 4, 1)
 """how many banks of eight lanes a module has, by the code on page 01h, of which the last one is reserved"""
 
-# Identifiers of SFF-8024, by the standard that says what is where.
-DETAILS_ALONE = (0x1B, *range(0x1F, 0x26))  # of CMIS, and no other command reads them
-CMIS = (0x18, 0x19, 0x1E) + DETAILS_ALONE
-EIGHT_LANES = (0x18, 0x19)
-SFF_8636 = (0x0C, 0x0D, 0x11)
-SFF_8472 = (0x03,)
-
 BYTE = "[0-9a-fA-F]{2}"
 
 Halves = Dict[str, bytes]
@@ -81,60 +74,99 @@ def order(key: str) -> Tuple[str, str, List[str]]:
     return device, half, place
 
 
+# Families of modules, by the standard that says what is where.
+
+
+class Family(NamedTuple):
+    """What is read of the modules of a standard."""
+
+    identifiers: Sequence[int]
+    """those of SFF-8024"""
+    halves: Mapping[str, Sequence[str]]
+    """the halves besides lower A0, each with the commands of cmisctl that need it"""
+    flat: int = 0
+    """the bit of byte 2 that is 1 if the memory has page 00h alone"""
+    has_banks: bool = False
+    """whether byte 126 selects a bank, and byte 142 of page 01h advertises others and VDM"""
+
+    @property
+    def has_a2(self) -> bool:
+        """Whether A0 has one page, and A2 the diagnostics, if byte 92 says that there are any."""
+        return "lower A2" in self.halves
+
+
+REPORTS = ("inventory", "monitors", "flags", "details", "metrics")
+PROVISIONING = ("provision", "trace")
+PLANNING = ("apps", "plan", "check", "draw", *PROVISIONING)
+EIGHT_LANES = (0x18, 0x19)  # of CMIS, and there are plans for them alone
+DETAILS_ALONE = (0x1B, *range(0x1F, 0x26))  # of CMIS, and no other command reads them
+
+FAMILIES = {
+    "CMIS": Family(
+        (*EIGHT_LANES, 0x1E, *DETAILS_ALONE),
+        {
+            upper(0x00): ("inventory", "details", "metrics", *PLANNING),
+            upper(0x01): ("monitors", "details", "metrics", *PLANNING),
+            upper(0x02): ("monitors", "metrics"),
+            upper(0x10): PROVISIONING,
+            upper(0x11): ("monitors", "flags", "details", "metrics", *PROVISIONING),
+        },
+        flat=0x80,
+        has_banks=True,
+    ),
+    "SFF-8636": Family(
+        (0x0C, 0x0D, 0x11),
+        {upper(0x00): ("inventory", "details", "metrics"), upper(0x03): ("monitors", "metrics")},
+        flat=0x04,
+    ),
+    "SFF-8472": Family((0x03,), {"lower A2": ("monitors", "flags", "details", "metrics")}),
+}
+_UNKNOWN = Family((), {})
+
+
+def family_of(identifier: int) -> Family:
+    """The family of modules with this identifier; one without halves if they are not read."""
+    return next((it for it in FAMILIES.values() if identifier in it.identifiers), _UNKNOWN)
+
+
 def is_known(identifier: int) -> bool:
     """Whether modules with this identifier are read."""
-    return identifier in CMIS + SFF_8636 + SFF_8472
+    return family_of(identifier) is not _UNKNOWN
 
 
 def is_flat(lower: bytes) -> bool:
     """Whether the memory has page 00h alone."""
-    if lower[0] in CMIS:
-        return bool(lower[2] & 0x80)
-    return lower[0] in SFF_8636 and bool(lower[2] & 0x04)
+    return bool(lower[2] & family_of(lower[0]).flat)
+
+
+def shows_page_00h(lower: bytes) -> bool:
+    """Whether page 00h is behind this half, since no other page is selected or can be."""
+    return lower[127] == 0 or is_flat(lower) or family_of(lower[0]).has_a2
 
 
 def wanted(lower: bytes) -> Dict[str, List[str]]:
     """The halves that are read of a module besides this one, each with the commands of cmisctl that need it."""
-    needed = _wanted_by_family(lower)
-    if lower[0] not in DETAILS_ALONE:
-        return needed
-    return {
-        key: [command for command in commands if command == "details"]
-        for key, commands in needed.items()
-    }
+    halves, reading = family_of(lower[0]).halves, _commands_for(lower)
+    keys = [upper(0x00)] if is_flat(lower) else list(halves)
+    return {key: [command for command in halves[key] if command in reading] for key in keys}
 
 
-def _wanted_by_family(lower: bytes) -> Dict[str, List[str]]:
-    """The same, if each command read each module of the family."""
-    identifier = lower[0]
-    if identifier in SFF_8472:
-        has_diagnostics = lower[92] & 0x40
-        return {"lower A2": ["monitors", "flags", "details", "metrics"] if has_diagnostics else []}
-    if is_flat(lower):
-        return {upper(0x00): ["inventory", "details", "metrics"]}
-    if identifier in SFF_8636:
-        return {
-            upper(0x00): ["inventory", "details", "metrics"],
-            upper(0x03): ["monitors", "metrics"],
-        }
-    if identifier not in CMIS:
-        return {}
-    provisioning = ["provision", "trace"] if identifier in EIGHT_LANES else []
-    planning = ["apps", "plan", "check", "draw", *provisioning] if provisioning else []
-    return {
-        upper(0x00): ["inventory", "details", "metrics", *planning],
-        upper(0x01): ["monitors", "details", "metrics", *planning],
-        upper(0x02): ["monitors", "metrics"],
-        upper(0x10): provisioning,
-        upper(0x11): ["monitors", "flags", "details", "metrics", *provisioning],
-    }
+def _commands_for(lower: bytes) -> Sequence[str]:
+    """The commands for which more than this half is read."""
+    if lower[0] in DETAILS_ALONE:
+        return ("details",)
+    if family_of(lower[0]).has_a2 and not lower[92] & 0x40:
+        return ()
+    return REPORTS if is_flat(lower) or lower[0] not in EIGHT_LANES else REPORTS + PLANNING
 
 
 def with_observables(halves: Mapping[str, bytes]) -> List[str]:
     """The halves of the observables that a CMIS module lists itself (VDM), as far as those tell that are known already: page 01h
     whether there are any, page 2Fh how many groups there are."""
     lower, advert, control = halves["lower A0"], halves.get(upper(0x01)), halves.get(upper(0x2F))
-    if lower[0] not in CMIS or is_flat(lower) or advert is None or not advert[142 - HALF] & 0x40:
+    if not family_of(lower[0]).has_banks or is_flat(lower) or advert is None:
+        return []
+    if not advert[142 - HALF] & 0x40:
         return []
     if control is None:
         return [upper(0x2F)]
@@ -146,7 +178,7 @@ def with_observables(halves: Mapping[str, bytes]) -> List[str]:
 def of_further_banks(halves: Mapping[str, bytes]) -> List[str]:
     """The halves of the lanes above 8, as far as those tell that are known already: page 01h how many banks a CMIS module has."""
     lower, advert = halves["lower A0"], halves.get(upper(0x01))
-    if lower[0] not in CMIS or is_flat(lower) or advert is None:
+    if not family_of(lower[0]).has_banks or is_flat(lower) or advert is None:
         return []
     return [upper(0x11, bank) for bank in range(1, BANKS[advert[142 - HALF] & 3])]
 
@@ -163,7 +195,7 @@ def image_text(halves: Mapping[str, bytes]) -> str:
 
 def key_in_row(identifier: int, number: int) -> Optional[str]:
     """The half of this number in a row, from 0 on; None for one that an image has no place for."""
-    if identifier in SFF_8472:
+    if family_of(identifier).has_a2:
         first = ["lower A0", upper(0x00), "lower A2"]
         page, device = number - len(first), "A2"
     else:
@@ -208,8 +240,8 @@ def _halves_of_row(row: Row, shows_selection: bool, remark: Remark) -> Halves:
 def _key_of_upper(lower: bytes, shows_selection: bool, remark: Remark) -> Optional[str]:
     """Which half the upper one of 256 bytes is, or None if these don't tell."""
     page = lower[127]
-    bank = lower[126] if lower[0] in CMIS and page >= 0x10 else 0
-    if page == 0 or is_flat(lower) or lower[0] in SFF_8472:
+    bank = lower[126] if family_of(lower[0]).has_banks and page >= 0x10 else 0
+    if shows_page_00h(lower):
         return upper(0x00)
     selected = upper(page, bank)
     if not shows_selection:
@@ -606,7 +638,7 @@ def image_halves(form: str, halves: Mapping[str, bytes], remark: Remark) -> Halv
     needed = wanted(lower)
     needed.update({key: ["observables"] for key in [*of_further_banks(halves), *with_observables(halves)]})
     copy = halves.get(upper(0x00), lower)[0]
-    if lower[0] not in SFF_8472 and copy != lower[0]:
+    if upper(0x00) in needed and copy != lower[0]:
         remark(
             f"page 00h begins with {copy:02x}h, and should with the identifier, {lower[0]:02x}h: are all bytes in their places?"
         )

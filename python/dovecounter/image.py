@@ -98,25 +98,27 @@ def page(number: int, bank: int = 0, device: int = 0xA0) -> Key:
     return Key(device, True, bank, number)
 
 
+def _key_of(words: str) -> Key:
+    half, device, *place = words.split()
+    bank, number = (int(digits, 16) for digits in place or ("0", "0"))
+    return Key(0xA0 + int(device[1]), half == "upper", bank, number)
+
+
 # Which halves have to be there, by the code of the fault that says that one of them isn't.
 _Needed = Mapping[str, Tuple[Key, ...]]
 _OF_APPLICATIONS: _Needed = {
     "AD4": (LOWER, page(0x00), page(0x01), page(0x11)),
     "SM1": (LOWER, page(0x00), page(0x01), page(0x10), page(0x11)),
 }
-_OF_INVENTORY: _Needed = {"RP6": (LOWER, page(0x00)), "SF3": (page(0x00),)}
-_OF_FLAGS: _Needed = {"RP6": (LOWER, page(0x11)), "SF3": (LOWER_A2,)}
-_OF_MONITORS: _Needed = {"RP6": (LOWER, page(0x01), page(0x02), page(0x11)), "SF3": (LOWER_A2,)}
 _OF_OBSERVABLES: _Needed = {"RP6": (LOWER,)}
 _DIAGNOSTICS = 0x20  # of byte 142 of page 01h: it has pages 13h and 14h
 # What calls that take halves need, besides what a module lists itself (VDM) and what a simulated
 # one shows.
 _OF_CALLS = (
-    *(LOWER, *map(page, (0x00, 0x01, 0x02, 0x03, 0x10, 0x11)), LOWER_A2),
+    *(LOWER, *(_key_of(words) for it in dumps.FAMILIES.values() for words in it.halves)),
     *(page(0x11, bank) for bank in (1, 2, 3)),  # lanes from 9 on
 )
 _DESCRIPTORS = range(0x20, 0x24)  # pages of what a module lists itself, one of each group
-_OF_QSFP_MONITORS: _Needed = {"SF3": (page(0x03),)}
 
 
 class Image:
@@ -200,7 +202,7 @@ class Image:
                 f"{os.fspath(name)} lacks the lower half of A0, which names the module"
             )
         if name_of_a2 is not None:
-            if lower[0] not in dumps.SFF_8472 or str(LOWER_A2) in halves:
+            if not dumps.family_of(lower[0]).has_a2 or str(LOWER_A2) in halves:
                 raise ValueError(
                     "a second file is for an SFP module of whose A2h the first has nothing"
                 )
@@ -228,8 +230,7 @@ class Image:
             raise ValueError(
                 f"its first byte is 0x{dump[0]:02x}, the identifier of no module that is read"
             )
-        is_sfp = dump[0] in dumps.SFF_8472
-        if len(dump) == 2 * HALF and dump[127] and not dumps.is_flat(dump) and not is_sfp:
+        if len(dump) == 2 * HALF and not dumps.shows_page_00h(dump):
             # a page was selected, and nothing says that the second half is that one
             dump = dump[:HALF]
         return cls(_halves_in_row(lambda offset, count: dump[offset : offset + count]))
@@ -274,29 +275,25 @@ class Image:
         return Patience(found.pause, found.limit)
 
     def inventory(self) -> Inventory:
-        """What the module is. Needs the lower half of 0xA0, and its page 00h unless the module is of
-        SFF-8472. Raises a Fault of RP1, RP4, RP6 or SF3."""
+        """What the module is. Needs the halves that `cmisctl inventory` needs (docs/formats.md,
+        "Modules that are read"). Raises a Fault of RP1, RP4, RP6 or SF3."""
         found = library.Identity()
-        self.take(_identity(*self.arguments(), byref(found)), _OF_INVENTORY)
+        self.take(_identity(*self.arguments(), byref(found)), self._needed_by("inventory"))
         return inventory_of(found)
 
     def flags(self) -> Flags:
-        """The states of the module and the flags that it raises. Needs the lower half of 0xA0; of a
-        CMIS module with paged memory page 11h too, and of a module of SFF-8472 the lower half of
-        0xA2. In memory that was read, most flags have become 0 by that. Raises a Fault of RP1, RP4,
-        RP6, SF3, SF4 or SF6."""
+        """The states of the module and the flags that it raises. Needs the halves that
+        `cmisctl flags` needs. In memory that was read, most flags have become 0 by that. Raises a
+        Fault of RP1, RP4, RP6, SF3, SF4 or SF6."""
         found = library.Flags()
-        self.take(_flags(*self.arguments(), byref(found)), _OF_FLAGS)
+        self.take(_flags(*self.arguments(), byref(found)), self._needed_by("flags"))
         return flags_of(found)
 
     def monitors(self) -> Monitors:
-        """What the module measures. Needs the lower half of 0xA0; of a CMIS module with paged memory
-        the pages 01h, 02h and 11h too, of a module of SFF-8636 with paged memory page 03h, and of a
-        module of SFF-8472 the lower half of 0xA2. Raises a Fault of RP1, RP4, RP6 or SF3 to SF6."""
+        """What the module measures. Needs the halves that `cmisctl monitors` needs. Raises a Fault
+        of RP1, RP4, RP6 or SF3 to SF6."""
         found = library.Monitors()
-        status = _monitors(*self.arguments(), byref(found))
-        is_qsfp = CODES.get(status) == "SF3" and self._halves[LOWER][0] in dumps.SFF_8636
-        self.take(status, _OF_QSFP_MONITORS if is_qsfp else _OF_MONITORS)
+        self.take(_monitors(*self.arguments(), byref(found)), self._needed_by("monitors"))
         return monitors_of(found)
 
     def observables(self) -> Tuple[Observable, ...]:
@@ -387,6 +384,13 @@ class Image:
         ]
         return (library.Half * len(halves)).from_buffer_copy(b"".join(halves)), len(halves)
 
+    def _needed_by(self, command: str) -> _Needed:
+        """The halves that a command of cmisctl needs of this module."""
+        lower = self._halves.get(LOWER)
+        others = dumps.wanted(lower) if lower else {}
+        halves = (LOWER, *(_key_of(words) for words in others if command in others[words]))
+        return {"RP6": halves, "SF3": halves}
+
     def take(self, status: int, needed: _Needed = _OF_APPLICATIONS) -> None:
         """Raises what a status says of these halves."""
         code = CODES.get(status)
@@ -439,12 +443,6 @@ def _contents(name: Union[str, "os.PathLike[str]"]) -> bytes:
 def _by_key(halves: Mapping[str, bytes]) -> Dict[Key, bytes]:
     """Halves by their keys, of which each is given by the beginning of its line."""
     return {_key_of(words): half for words, half in halves.items()}
-
-
-def _key_of(words: str) -> Key:
-    half, device, *place = words.split()
-    bank, number = (int(digits, 16) for digits in place or ("0", "0"))
-    return Key(0xA0 + int(device[1]), half == "upper", bank, number)
 
 
 def _halves_in_row(read: Callable[[int, int], bytes]) -> Dict[Key, bytes]:

@@ -5,12 +5,12 @@ import pathlib
 import subprocess
 import sys
 import warnings
-from typing import List, Tuple
+from typing import Dict, List, Tuple
 
 import pytest
 
 from shared import IMAGES, ROOT, example
-from dovecounter import LOWER, Image, Key, page
+from dovecounter import LOWER, Image, Key, dumps, page
 
 DUMPS = ROOT / "tests/lib/dumps"
 OF_TOOLS = sorted(file for file in DUMPS.iterdir() if file.name != "sfp_a2.i2cdump")
@@ -97,6 +97,60 @@ def test_what_is_absent_is_warned_of(tmp_path: pathlib.Path) -> None:
     file.write_text(SFP.without(LOWER_A2).to_text())
     with pytest.warns(UserWarning, match="lower A2 is not there, and monitors, flags, details and"):
         assert Image.from_file(file) == SFP.without(LOWER_A2)
+
+
+OF_FLAT = {"00": "inventory details metrics"}
+OF_DETAILS = {"00": "details", "01": "details", "02": "", "10": "", "11": "details"}
+OF_CMIS = {
+    "00": "inventory details metrics",
+    "01": "monitors details metrics",
+    "02": "monitors metrics",
+    "10": "",
+    "11": "monitors flags details metrics",
+}
+OF_EIGHT_LANES = {
+    "00": "inventory details metrics apps plan check draw provision trace",
+    "01": "monitors details metrics apps plan check draw provision trace",
+    "02": "monitors metrics",
+    "10": "provision trace",
+    "11": "monitors flags details metrics provision trace",
+}
+OF_A2 = "monitors flags details metrics"
+
+
+@pytest.mark.parametrize(
+    "identifier, others, wanted",
+    [
+        (0x18, {}, OF_EIGHT_LANES),
+        (0x19, {2: 0x7F}, OF_EIGHT_LANES),
+        (0x19, {2: 0x80}, OF_FLAT),
+        (0x1E, {}, OF_CMIS),
+        (0x1E, {2: 0x80}, OF_FLAT),
+        (0x1B, {}, OF_DETAILS),
+        (0x25, {2: 0x80}, {"00": "details"}),
+        (0x11, {2: 0xFB}, {**OF_FLAT, "03": "monitors metrics"}),
+        (0x0C, {2: 0x04}, OF_FLAT),
+        (0x03, {2: 0xFF, 92: 0x40}, {"A2": OF_A2}),
+        (0x03, {92: 0xBF}, {"A2": ""}),
+        (0xFF, {2: 0xFF, 92: 0xFF}, {}),
+    ],
+)
+def test_which_halves_of_a_module_are_wanted_by_which_commands(
+    identifier: int, others: Dict[int, int], wanted: Dict[str, str]
+) -> None:
+    lower = bytearray(128)
+    lower[0] = identifier
+    for place, byte in others.items():
+        lower[place] = byte
+    found = dumps.wanted(bytes(lower))
+    assert {key[-2:]: " ".join(commands) for key, commands in found.items()} == wanted
+    assert dumps.is_known(identifier) == bool(wanted)
+    assert dumps.is_flat(bytes(lower)) == (list(wanted) == ["00"])
+    for selected, is_page_00h in ((0, True), (1, list(wanted) in (["00"], ["A2"]))):
+        lower[127] = selected
+        assert dumps.shows_page_00h(bytes(lower)) == is_page_00h
+    last = dumps.key_in_row(identifier, 256)
+    assert last == ("upper A2 00 fd" if identifier == 3 else "upper A0 00 ff")
 
 
 def test_an_image_may_have_64_halves(tmp_path: pathlib.Path) -> None:

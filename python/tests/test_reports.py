@@ -24,6 +24,7 @@ from dovecounter import (
     Monitors,
     PathState,
     Support,
+    dumps,
     page,
 )
 
@@ -196,6 +197,25 @@ def test_a_fault_names_the_half_that_is_absent() -> None:
     ):
         compare(image)
     assert said(Image.flags, flag_lines, sfp.without(Key(0xA2))) == ["fault SF3 lower A2"]
+
+
+@pytest.mark.parametrize("path", IMAGES, ids=operator.attrgetter("name"))
+def test_a_report_needs_the_halves_that_are_wanted_for_it(path: pathlib.Path) -> None:
+    image = image_of(path)
+    wanted = dumps.wanted(image.halves[LOWER])
+    reports: Dict[str, Callable[[Image], Any]] = {
+        "inventory": Image.inventory,
+        "flags": Image.flags,
+        "monitors": Image.monitors,
+    }
+    for command, ask in reports.items():
+        if said(ask, lambda _: [], image):
+            continue  # the module has no such report
+        for key in image.halves:
+            is_needed = key == LOWER or command in wanted.get(str(key), [])
+            lacking = said(ask, lambda _: [], image.without(key))
+            faults = [f"fault RP6 {key}"], [f"fault SF3 {key}"]
+            assert lacking in faults if is_needed else lacking == []
 
 
 # The codes of "Durations Advertising" (page 01h, bytes 144, 167 and 168): the end of each range, in
