@@ -154,7 +154,7 @@ def test_numbers_are_those_of_the_header() -> None:
     assert requested is not None
     bits = {name: int(bit) for name, bit in re.findall(r"DOVECOUNTER_(\w+) = (\d+)", requested[1])}
     members = {name: member.value for name, member in Request.__members__.items()}
-    assert members == {**bits, "EVERYTHING": sum(bits.values())}
+    assert members == {**bits, "EVERYTHING": sum(set(bits.values()))}
     named = re.findall(
         r"DOVECOUNTER_\w+ = (\d+),? */\* ((?:AD|CT|KP|SM|RP|SF)\d):",
         (ROOT / "include/dovecounter.h").read_text(),
