@@ -20,8 +20,8 @@ use Rattle.command_line.specs.declared.fault.Fault.TheVariants as fault
 
 -- a new bus with a new window is where a reading begins
 pub begins : {E : Type 0} (memory : Memory) (window : Windowed) (script : List Directive) (made : Result (Scripted Windowed) E) → window ≡ started memory → script ≡ []
-    → IfOk made (λ bus. bus ≡ record { device = window; script = script; steps = []; room = 2 * most_steps }) → IfOk made (λ bus. seen_at bus ≡ window_at_start memory)
-begins memory window script (Ok bus) shows none new = ap seen_at new ∙ (λ i. record { steps = []; room = 2 * most_steps; state = (none i, shows i) })
+    → IfOk made (λ bus. bus ≡ record { device = window; script = script; steps = []; room = 3 * most_steps }) → IfOk made (λ bus. seen_at bus ≡ window_at_start memory)
+begins memory window script (Ok bus) shows none new = ap seen_at new ∙ (λ i. record { steps = []; room = 3 * most_steps; state = (none i, shows i) })
 begins memory window script (Err refused) shows none new = tt
 
 pub fetched_from : (memory : Memory) (bus : Scripted Windowed) (after : WindowBus) (answer : Result Memory ReportFault) → seen_at bus ≡ window_at_start memory

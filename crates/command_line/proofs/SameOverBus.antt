@@ -29,18 +29,18 @@ use Rattle.command_line.specs.declared.fault.Fault.{Fault}
 use Rattle.command_line.specs.declared.fault.Fault.TheVariants as fault
 use Rattle.command_line.proofs.OwnAnswers.{cut_fault, judged}
 
--- the bus has room for both readings, so they have one fault
-pub reading_fault : (memory : Memory) (f : ReportFault) → IsFetchedFrom memory (Err f) → f ≡ report.GaveUp
-reading_fault memory f (after, is) = fetching_gives_up (script_rules window_conduct) (window_at_start memory) (omega arith) after f is
+-- the bus has room for all readings, so they have one fault
+fetching_fault : (memory : Memory) (f : ReportFault) → IsFetchedFrom memory (Err f) → f ≡ report.GaveUp
+fetching_fault memory f (after, is) = fetching_gives_up (script_rules window_conduct) (window_at_start memory) (omega arith) after f is
 
-pub same_reports : (memory fetched : Memory) → IsImage memory → IsFetchedFrom memory (Ok fetched) → ReportsSame fetched memory
+same_reports : (memory fetched : Memory) → IsImage memory → IsFetchedFrom memory (Ok fetched) → ReportsSame fetched memory
 same_reports memory fetched image (after, is) = fetched_reports (window_at_start memory) after memory fetched image refl is
 
--- ---- a command that reads an image alone, by what it tells of what there is to report of, with the flag and without it
+-- ---- a command that reads an image alone, by how it is read over a bus, and what is told of what there is to report of, with the flag and without it
 
-module _ (reported : Bool → Result Memory ReportFault → Reported) where
+module _ (IsRead : Memory → Result Memory ReportFault → Type 0) (reported : Bool → Result Memory ReportFault → Reported) where
   abbrev IsMine : Bool → List ℕ → Answer → Type 0
-  IsMine over = IsReported IsFetchedFrom over (reported over)
+  IsMine over = IsReported IsRead over (reported over)
 
   abbrev pub IsAnswerOver : Bool → List ℕ → Answer → Type 0
   IsAnswerOver over = IsAnswerTo (Image ∷ []) (λ inputs. IsMine over inputs.image)
@@ -83,26 +83,27 @@ module _ (reported : Bool → Result Memory ReportFault → Reported) where
   err_to input (fault.Parts n) mine is = is
   err_to input f mine is = (is.0, is.1, mine is.2)
 
-  -- ---- with it, it is reported of a memory with the same reports, unless the reading came to no end
+  -- ---- with it, it is reported of what was read, unless the reading came to no end
 
   pub record IsReportedOfCopy (text : List ℕ) (answer : Answer) : Type 0 where
     pub memory : Memory
-    pub fetched : Memory
+    pub copy : Memory
     pub is_text : IsTextOf (lines_of text) memory
-    pub alike : ReportsSame fetched memory
-    pub is_reported : answer ≡ answer_of_reported (reported true (Ok fetched))
+    pub is_read : IsRead memory (Ok copy)
+    pub is_reported : answer ≡ answer_of_reported (reported true (Ok copy))
 
-  pub reported_of_copy : (text : List ℕ) (a : Answer) (read : Result Memory ReportFault) → IsReading IsFetchedFrom true text read → a ≡ answer_of_reported (reported true read)
+  pub reported_of_copy : ((memory : Memory) (f : ReportFault) → IsRead memory (Err f) → f ≡ report.GaveUp)
+      → (text : List ℕ) (a : Answer) (read : Result Memory ReportFault) → IsReading IsRead true text read → a ≡ answer_of_reported (reported true read)
       → IsGivenUp (answer_of_reported (reported true (Err report.GaveUp))) → ¬ (IsGivenUp a) → IsReportedOfCopy text a
-  reported_of_copy text a (Ok fetched) is same gives_up ended = record {
+  reported_of_copy one_fault text a (Ok copy) is same gives_up ended = record {
     memory = is.memory;
-    fetched = fetched;
+    copy = copy;
     is_text = is.is_text;
-    alike = same_reports is.memory fetched is.is_text.image is.read;
+    is_read = is.read;
     is_reported = same;
   }
-  reported_of_copy text a (Err f) is same gives_up ended =
-      let gave_up : f ≡ report.GaveUp = reading_fault is.memory f is.read in
+  reported_of_copy one_fault text a (Err f) is same gives_up ended =
+      let gave_up : f ≡ report.GaveUp = one_fault is.memory f is.read in
       absurd (ended (rw (same, gave_up) gives_up))
 
 -- what is reported by a fault, or else by what is said, is reported alike of memories with the same report
@@ -123,18 +124,19 @@ module _ (name : ReportName) (options : Options) (pick : (fetched memory : Memor
   plain : (text : List ℕ) (a : Answer) → IsReported IsFetchedFrom true (reported_of true) text a → ¬ (IsGivenUp a) → IsReported IsFetchedFrom false (reported_of false) text a
   plain text (Err (fault.Image f)) first ended = first
   plain text a (read, is, same) ended =
-      let copy = reported_of_copy reported_of text a read is same refl ended in
+      let copy = reported_of_copy IsFetchedFrom reported_of fetching_fault text a read is same refl ended in
+      let reports = same_reports copy.memory copy.copy copy.is_text.image copy.is_read in
       let tell : Option ReportFault → List Entry → Reported = λ refused entries. text_unless refused (shown_as options.coloring options.json (printed options.json entries)) in
-      let alike = same_reported tell (λ f x y. refl) (refusal_of name) (entries_of name) copy.fetched copy.memory (pick copy.fetched copy.memory copy.alike) in
+      let alike = same_reported tell (λ f x y. refl) (refusal_of name) (entries_of name) copy.copy copy.memory (pick copy.copy copy.memory reports) in
       (Ok copy.memory, copy.is_text, copy.is_reported ∙ ap answer_of_reported alike)
 
-  plain_to : (input : List ℕ) (a : Answer) → IsAnswerOver reported_of true input a → ¬ (IsGivenUp a) → IsAnswerOver reported_of false input a
+  plain_to : (input : List ℕ) (a : Answer) → IsAnswerOver IsFetchedFrom reported_of true input a → ¬ (IsGivenUp a) → IsAnswerOver IsFetchedFrom reported_of false input a
   plain_to input (Ok t) is ended = (is.0, is.1, plain (image_of input) (Ok t) is.2 ended)
-  plain_to input (Err f) is ended = err_to reported_of input f (λ mine. plain (image_of input) (Err f) mine ended) is
+  plain_to input (Err f) is ended = err_to IsFetchedFrom reported_of input f (λ mine. plain (image_of input) (Err f) mine ended) is
 
   reported_alike : IsReportedAlike (over_bus (Report name) options)
   reported_alike input a is ended memory read =
-      let plain = plain_to input a is ended in record { plain = plain; alone = λ other. alone reported_of input a other plain memory read }
+      let plain = plain_to input a is ended in record { plain = plain; alone = λ other. alone IsFetchedFrom reported_of input a other plain memory read }
 
 pub each_reported_alike : (name : ReportName) (options : Options) → IsReportedAlike (over_bus (Report name) options)
 each_reported_alike Inventory options = reported_alike Inventory options (λ fetched memory all. all.inventory)

@@ -1,5 +1,5 @@
 -- What a report speaks of: the memory of the image that is given, or what is read of its module over a bus that refuses
--- nothing by itself; for observables the statistics (VDM) too. (docs/formats.md, "Reports over a bus"; docs/bus.md, "Windows" and "Reading
+-- nothing by itself; for observables and metrics the statistics (VDM) too. (docs/formats.md, "Reports over a bus"; docs/bus.md, "Windows" and "Reading
 -- an image"; this project's own)
 use Rattle.std.specs.Prelude.{◌≡◌, ◌*◌, ℕ, Bool, true, false, List, [], Result, Ok, Err}
 use Rattle.text_lines.specs.Lines.{lines_of}
@@ -21,9 +21,9 @@ use Rattle.command_line.specs.declared.fault.Fault.TheVariants as fault
 abbrev pub WindowBus : Type 0
 WindowBus = Seen (List Directive × Windowed)
 
--- before any step, with room for two readings, without a script, with a new window of a memory
+-- before any step, with room for three readings, without a script, with a new window of a memory
 abbrev pub window_at_start : Memory → WindowBus
-window_at_start memory = record { steps = []; room = 2 * most_steps; state = ([], started memory) }
+window_at_start memory = record { steps = []; room = 3 * most_steps; state = ([], started memory) }
 
 -- to read the module of this memory over that bus is answered so
 abbrev pub IsFetchedFrom : Memory → Result Memory ReportFault → Type 0

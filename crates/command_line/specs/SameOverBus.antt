@@ -1,8 +1,12 @@
--- That a report with `--bus` is the one without it, and so are metrics, but for those of VDM. (docs/formats.md, "Reports over a bus"; this project's own)
-use Rattle.std.specs.Prelude.{◌≡◌, ◌≢◌, ◌∷◌, ◌++◌, [], ℕ, Bool, true, false, List, Option, Some, option_map, Ok, Err}
+-- That a report with `--bus` is the one without it, and so are metrics, but for statistics (VDM) that bank 0 doesn't advertise. (docs/formats.md,
+-- "Reports over a bus"; this project's own)
+use Rattle.std.specs.Prelude.{◌≡◌, ◌≢◌, ◌≤◌, ◌∷◌, ◌++◌, [], ℕ, Bool, true, false, List, Option, Some, option_map, Ok, Err}
+use Rattle.std.specs.FinMap as map
 use Rattle.text_lines.specs.Lines.{lines_of}
 use Rattle.paged_memory.specs.Images as images
 use Rattle.paged_memory.specs.ImageText.{IsTextOf}
+use Rattle.paged_memory.specs.Keys.{page_key}
+use Rattle.observable_reports.specs.SameStatistics.{HasOwnStatistics}
 use Rattle.module_metrics.specs.Exposition.{Label, exposition}
 use Rattle.module_metrics.specs.VdmMetrics.{vdm_metrics, vdm_seen}
 use Rattle.reports.specs.declared.fault.ReportFault.TheVariants.{GaveUp}
@@ -48,11 +52,21 @@ IsReportedAlike request =
 abbrev pub image_of : List ℕ → List ℕ
 image_of input = text_in (Image ∷ []) (parts_of input) Image
 
--- without `--bus` the same is followed by the metrics of what the module of the image lists itself (VDM)
+-- the metrics of what a module lists itself (VDM)
+abbrev pub listed_text : List Label → images.Memory → List ℕ
+listed_text labels memory = exposition labels (vdm_metrics (vdm_seen memory))
+
+-- the metrics of reports are followed by those of the statistics that were read, which are the image's; without `--bus` by those of all that the image
+-- has
 pub record IsFollowed (labels : List Label) (request : Bool → Request) (input text : List ℕ) (reported : Option ReportedFault) : Type 0 where
   pub memory : images.Memory
+  pub read : images.Memory
+  pub reports : List ℕ
   pub is_image : IsTextOf (lines_of (image_of input)) memory
-  pub whole : IsPlainAnswer request input (Ok (text ++ exposition labels (vdm_metrics (vdm_seen memory)), reported))
+  pub is_text : text ≡ reports ++ listed_text labels read
+  pub whole : IsPlainAnswer request input (Ok (reports ++ listed_text labels memory, reported))
+  pub pages : (page : ℕ) (bytes : List ℕ) → 0x20 ≤ page → map.get read (page_key page) ≡ Some bytes → map.get memory (page_key page) ≡ Some bytes
+  pub own : HasOwnStatistics memory → vdm_seen read ≡ vdm_seen memory
 
 abbrev pub IsFollowedAnswer : List Label → (Bool → Request) → List ℕ → Answer → Type 0
 IsFollowedAnswer labels request input (Ok (text, reported)) = IsFollowed labels request input text reported
@@ -63,3 +77,9 @@ abbrev pub AreReportedBefore : List Label → (Bool → Request) → Type 0
 AreReportedBefore labels request =
     (input : List ℕ) (answer : Answer) → IsAnswerOf (request true) input answer → ¬ (IsGivenUp answer) → answer ≢ Err Memory → answer ≢ Err Io
     → IsFollowedAnswer labels request input answer
+
+-- of an image that has no other statistics than those that bank 0 advertises, the answer is that without `--bus`
+abbrev pub AreReportedAlike : (Bool → Request) → Type 0
+AreReportedAlike request =
+    (input : List ℕ) (answer : Answer) → ((memory : images.Memory) → IsTextOf (lines_of (image_of input)) memory → HasOwnStatistics memory)
+    → IsAnswerOf (request true) input answer → ¬ (IsGivenUp answer) → answer ≢ Err Memory → answer ≢ Err Io → IsPlainAnswer request input answer

@@ -5,7 +5,7 @@ ghost use Rattle.command_line.specs.FaultTexts.{has_sentence};
 ghost use Rattle.command_line.specs.Limits.{input_limit};
 ghost use Rattle.command_line.specs.Parts.{parts_of};
 ghost use Rattle.command_line.specs.PlanThenCheck.{input_with, plan_request, IsEnded, IsGoodBehind, IsGoodBehindInput, IsGoodInPlace};
-ghost use Rattle.command_line.specs.SameOverBus.{AreReportedBefore, IsReportedAlike, over_bus};
+ghost use Rattle.command_line.specs.SameOverBus.{AreReportedAlike, AreReportedBefore, IsReportedAlike, over_bus};
 ghost use Rattle.command_line.specs.declared.choice.commands.CommandName.TheVariants.{Metrics, Report};
 ghost use Rattle.command_line.specs.declared.choice.commands.ReportName.{ReportName};
 ghost use Rattle.command_line.specs.declared.choice.options.Options.{Options};
@@ -29,10 +29,12 @@ pub fn what_is_planned_is_good()
 
 /// What a report prints with `--bus`, and how it ends, is what it prints without and how it ends then, with `--json` and without
 /// it, in colors or not, unless the module was not read whole, or an allocation or a read was refused. So it is with metrics, whatever labels they
-/// have, and whether all flags are reported or those that are raised; but without the flag, those of what the module lists itself (VDM) follow.
+/// have, and whether all flags are reported or those that are raised, if the image has no other statistics (VDM) than those that bank 0 advertises. If it has
+/// others, metrics differ in them alone.
 pub fn a_bus_changes_no_report()
     ensures reports { (report : ReportName) (options : Options) → IsReportedAlike (over_bus (Report report) options) }
-    ensures metrics { (options : Options) → AreReportedBefore options.labels (over_bus Metrics options) }
+    ensures metrics { (options : Options) → AreReportedAlike (over_bus Metrics options) }
+    ensures other_metrics { (options : Options) → AreReportedBefore options.labels (over_bus Metrics options) }
 {}
 
 /// Each fault has a sentence, however the input begins.

@@ -35,7 +35,7 @@ use Rattle.module_metrics.specs.Laws.{EveryModulesMetricsAreRight}
 use Rattle.module_metrics.specs.MetricNames.{amount_name, scope_name}
 use Rattle.module_metrics.specs.ModuleMetrics.{content_metrics, fault_name, info_labels, info_name, module_metrics, sums_name}
 use Rattle.module_metrics.specs.StateMetrics.{paths_name, state_name, statuses_name}
-use Rattle.module_metrics.specs.VdmMetrics.{listed_metrics, vdm_seen}
+use Rattle.module_metrics.specs.VdmMetrics.{vdm_metrics, vdm_seen}
 use Rattle.module_metrics.specs.WellFormed.{AreApart, AreMetrics, IsMetric}
 use Rattle.module_metrics.proofs.ModuleRight.{AreRight, AreReported, module_right}
 use Rattle.module_metrics.proofs.RowMetrics.{EntryIsPlain, both, entry_names, is_sure, keys_sub, names_of, names_sub, plain_rows, row_names, row_sums, sum_labels, sums_sub}
@@ -250,16 +250,8 @@ of_family common added all memory first second third fault more right named fami
     (rows_of Inventory family) (rows_of Monitors family) (warned_names family) all each_flag (reported all each_flag family memory first second third)
     (rows_right family) (asked_apart all third flags (family_flags_apart family memory)) fault more right named
 
-listed_right : (common : List Label) → AreAdded common → (with_vdm : Bool) (memory : Memory) → AllByRecursion (IsMetric common) (listed_metrics with_vdm memory)
-listed_right common added true memory = vdm_right common added (vdm_seen memory) (seen_numbered memory)
-listed_right common added false memory = tt
-
-listed_named : (with_vdm : Bool) (memory : Memory) → Sub (names_of (listed_metrics with_vdm memory)) vdm_names
-listed_named true memory = vdm_named_once (vdm_seen memory)
-listed_named false memory = sub_none vdm_names
-
 pub every_module_right : EveryModulesMetricsAreRight
 unfolding metrics_of requested_flags entries_of all_lanes_entries all_lanes_flag_states
-every_module_right common all with_vdm memory added =
+every_module_right common all memory added =
     of_family common added all memory (inventory_fault memory) (monitors_fault memory) (flags_fault memory) (option_map code_of (first_fault memory))
-    (listed_metrics with_vdm memory) (listed_right common added with_vdm memory) (listed_named with_vdm memory) (family_of memory)
+    (vdm_metrics (vdm_seen memory)) (vdm_right common added (vdm_seen memory) (seen_numbered memory)) (vdm_named_once (vdm_seen memory)) (family_of memory)

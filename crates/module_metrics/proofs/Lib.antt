@@ -20,3 +20,4 @@ pub mod Appended
 pub mod LabelTexts
 pub mod Fractions
 pub mod Reported
+pub mod SameListed

@@ -31,5 +31,5 @@ metrics_are common [] all = tt
 metrics_are common (m ∷ metrics) all = both IsLine (metric_lines common m) (metrics_lines common metrics) (metric_are common m all.0) (metrics_are common metrics all.1)
 
 pub each_line_is_one : EachLineIsOne
-each_line_is_one common all with_vdm memory added =
-    metrics_are common (metrics_of all with_vdm memory) ((every_module_right common all with_vdm memory added).each)
+each_line_is_one common all memory added =
+    metrics_are common (metrics_of all memory) ((every_module_right common all memory added).each)

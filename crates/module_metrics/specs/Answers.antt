@@ -12,7 +12,7 @@ use Rattle.reports.specs.Reports.{all_lanes_entries, all_lanes_flag_states, flag
 use Rattle.module_metrics.specs.Exposition.{Label, Metric, exposition}
 use Rattle.module_metrics.specs.ModuleMetrics.{fault_metrics, module_metrics}
 use Rattle.module_metrics.specs.Unless.{unless}
-use Rattle.module_metrics.specs.VdmMetrics.{listed_metrics}
+use Rattle.module_metrics.specs.VdmMetrics.{vdm_metrics, vdm_seen}
 
 -- the first word of a fault's line
 abbrev pub code_of : ReportFault → List ℕ
@@ -26,15 +26,15 @@ first_fault memory = option_or (option_or (inventory_fault memory) (monitors_fau
 unfoldable pub requested_flags : Bool → Memory → List (Flag × Bool)
 requested_flags all memory = if all then unless (flags_fault memory) (all_lanes_flag_states memory) else []
 
--- with the lanes of all banks; with those of VDM, or without
-unfoldable pub metrics_of : Bool → Bool → Memory → List Metric
-metrics_of all with_vdm memory =
+-- with the lanes of all banks, and then those of VDM
+unfoldable pub metrics_of : Bool → Memory → List Metric
+metrics_of all memory =
     module_metrics all (requested_flags all memory)
     (unless (inventory_fault memory) (inventory_entries memory))
     (unless (monitors_fault memory) (all_lanes_entries Monitors memory))
     (unless (flags_fault memory) (all_lanes_entries Flags memory))
     (option_map code_of (first_fault memory))
-    ++ listed_metrics with_vdm memory
+    ++ vdm_metrics (vdm_seen memory)
 
 -- ---- without an image
 

@@ -28,10 +28,10 @@ EachAmountIsTheReports = (z : ℤ) → FitsSigned w64 z → Writes (thousandths 
 -- whatever labels were added, whatever is in memory
 abbrev pub EveryModulesMetricsAreRight : Type 0
 EveryModulesMetricsAreRight =
-    (common : List Label) (all with_vdm : Bool) (memory : Memory) → AreAdded common → AreMetrics common (metrics_of all with_vdm memory)
+    (common : List Label) (all : Bool) (memory : Memory) → AreAdded common → AreMetrics common (metrics_of all memory)
 
 -- of help, of a type, or of a sample
 abbrev pub EachLineIsOne : Type 0
 EachLineIsOne =
-    (common : List Label) (all with_vdm : Bool) (memory : Memory) → AreAdded common
-    → AllByRecursion IsLine (metrics_lines common (metrics_of all with_vdm memory))
+    (common : List Label) (all : Bool) (memory : Memory) → AreAdded common
+    → AllByRecursion IsLine (metrics_lines common (metrics_of all memory))

@@ -100,7 +100,3 @@ measure_metrics seen of = values_metrics seen of ++ limits_metrics seen of
 
 unfoldable pub vdm_metrics : List Seen → List Metric
 vdm_metrics seen = flat_map (measure_metrics seen) measures
-
--- if they are asked for
-abbrev pub listed_metrics : Bool → Memory → List Metric
-listed_metrics with_vdm memory = if with_vdm then vdm_metrics (vdm_seen memory) else []

@@ -35,7 +35,7 @@ pub struct Answer {
     pub fault: Option<ReportFault>,
 }
 
-/// What the reports of the module of an image say, and then, if asked for, what it lists itself (VDM), as metrics whose samples all have these labels.
+/// What the reports of the module of an image say, and then what it lists itself (VDM), as metrics whose samples all have these labels.
 /// Of its flags those that are raised are told, or all. The only refusal is out of memory: a report that has a fault has no entries, and the first fault is a metric.
 #[tactic(auto, unfolding(crate::specs::Answers::metrics_of, crate::specs::Answers::first_fault, crate::specs::MetricData::metrics_in, report_entries::specs::Entries::as_entries))]
 pub fn metrics(
@@ -43,9 +43,8 @@ pub fn metrics(
     image: &Image,
     labels: &Labels,
     all: bool,
-    with_vdm: bool,
 ) -> Result<Answer, ReportFault>
-    ensures text { IfOk result (λ answer. answer.text.items ≡ exposition labels.now (metrics_of all with_vdm image.now)) }
+    ensures text { IfOk result (λ answer. answer.text.items ≡ exposition labels.now (metrics_of all image.now)) }
     ensures fault { IfOk result (λ answer. answer.fault ≡ first_fault image.now) }
     ensures labels { IfOk result (λ answer. AreAdded labels.now) }
     ensures refused { IfErr result (λ refusal. refusal ≡ Memory) }
@@ -56,7 +55,7 @@ pub fn metrics(
     let warned = warned(alloc, image, &mut fault)?;
     let flags = requested_flags(alloc, image, all)?;
     let mut metrics = module_metrics(alloc, all, &flags, &identity, &measured, &warned, fault)?;
-    add_listed(alloc, &mut metrics, image, with_vdm)?;
+    add_listed(alloc, &mut metrics, image)?;
     Ok(Answer {
         text: exposition::text(alloc, labels.as_slice(), &metrics)?,
         fault,

@@ -6,7 +6,7 @@ ghost use Rattle.module_metrics.specs.Unless.{unless};
 ghost use Rattle.module_metrics.specs.Exposition.{label};
 ghost use Rattle.module_metrics.specs.MetricData.{labels_in, metrics_in, number_in, samples_in};
 ghost use Rattle.module_metrics.specs.VdmMetrics as spec;
-ghost use Rattle.module_metrics.specs.VdmMetrics.{is_of, limit_sample, limit_samples, limits_metrics, listed, listed_metrics, measure_metrics, number_labels, number_samples, place_labels, seen_before, some_metrics, value_sample, values_metrics, vdm_metrics, vdm_seen};
+ghost use Rattle.module_metrics.specs.VdmMetrics.{is_of, limit_sample, limit_samples, limits_metrics, listed, measure_metrics, number_labels, number_samples, place_labels, seen_before, some_metrics, value_sample, values_metrics, vdm_metrics, vdm_seen};
 ghost use Rattle.reports.specs.Families.{detail_fault};
 
 use crate::flag_metrics::add_lane;
@@ -70,20 +70,11 @@ fn add_seen(seen: &mut Vec<Seen>, number: u16, observation: Observation) -> Resu
 
 // ---- metrics
 
-/// Adds the metrics of what a module lists itself, if they are asked for.
-pub fn add_listed(
-    alloc: Global,
-    metrics: &mut Vec<Metric>,
-    image: &Image,
-    with_vdm: bool,
-) -> Result<(), AllocError>
-    ensures { OnOk result (metrics_in metrics.new ≡ metrics_in metrics.old ++ listed_metrics with_vdm image.now) }
+/// Adds the metrics of what a module lists itself.
+pub fn add_listed(alloc: Global, metrics: &mut Vec<Metric>, image: &Image) -> Result<(), AllocError>
+    ensures { OnOk result (metrics_in metrics.new ≡ metrics_in metrics.old ++ vdm_metrics (vdm_seen image.now)) }
 {
-    if with_vdm {
-        add_vdm(alloc, metrics, &vdm_seen(alloc, image)?)
-    } else {
-        Ok(())
-    }
+    add_vdm(alloc, metrics, &vdm_seen(alloc, image)?)
 }
 
 // The metrics of instances: the values of each quantity and figure, then their limits, unless there are none.

@@ -44,5 +44,5 @@ module _ (given : List ℕ) (image : Image) (read : IsTextOf (lines_of given) im
       (image, read, told.0, told.1)
 
   -- without labels of one's own
-  pub metrics_told : (all : Bool) (labels : List Label) (text : List ℕ) → labels ≡ [] → text ≡ exposition labels (metrics_of all true image) → IsMetricsOf all given (Ok text)
-  metrics_told all labels text none is = (image, read, refl, is ∙ ap (λ (l : List Label). exposition l (metrics_of all true image)) none)
+  pub metrics_told : (all : Bool) (labels : List Label) (text : List ℕ) → labels ≡ [] → text ≡ exposition labels (metrics_of all image) → IsMetricsOf all given (Ok text)
+  metrics_told all labels text none is = (image, read, refl, is ∙ ap (λ (l : List Label). exposition l (metrics_of all image)) none)

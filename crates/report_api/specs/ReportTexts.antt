@@ -25,7 +25,7 @@ IsDetails = IsReport details_fault (λ image. json_text (report_json (details_en
 
 -- faults of reports are among the metrics
 abbrev pub IsMetricsOf : Bool → List ℕ → Answer → Type 0
-IsMetricsOf all = IsReport (λ image. None) (λ image. exposition [] (metrics_of all true image))
+IsMetricsOf all = IsReport (λ image. None) (λ image. exposition [] (metrics_of all image))
 
 -- C has a number for whether all flags are wanted
 abbrev pub IsMetrics : ℕ → List ℕ → Answer → Type 0

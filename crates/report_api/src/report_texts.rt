@@ -48,5 +48,5 @@ fn metrics_of(alloc: Global, all: bool, image: &[u8]) -> Result<Vec<u8>, Fault>
     ensures { IsMetricsOf all image.now (answer_of result) }
 {
     let image = LargeImage::read(image)?;
-    Ok(metrics(alloc, &image.view(), &Labels::new(alloc), all, true)?.text)
+    Ok(metrics(alloc, &image.view(), &Labels::new(alloc), all)?.text)
 }

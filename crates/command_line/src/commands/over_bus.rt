@@ -13,8 +13,8 @@ use paged_memory::{Image, LARGE, LargeImage, Window};
 use reports::fetch_image;
 use std::alloc::{AllocError, Global};
 
-/// The most steps: as many as the two readings of a module's halves may make. The statistics of a module that refuses nothing fit in as well.
-const ROOM: usize = 2 * MAX_STEPS as usize;
+/// The most steps: as many as the two readings of a module's halves and that of its statistics may make.
+const ROOM: usize = 3 * MAX_STEPS as usize;
 
 /// The image of this text, or, over a bus, what is read of the module that has it.
 pub fn image_to_report(alloc: Global, text: &[u8], is_over_bus: bool) -> Result<LargeImage, Fault>
@@ -28,7 +28,7 @@ pub fn image_to_report(alloc: Global, text: &[u8], is_over_bus: bool) -> Result<
     }
 }
 
-/// The same for its observables: over a bus also what is read of the module's statistics (VDM).
+/// The same for its observables and metrics: over a bus also what is read of the module's statistics (VDM).
 pub fn image_to_observe(alloc: Global, text: &[u8], is_over_bus: bool) -> Result<LargeImage, Fault>
     ensures { MatchResult result (λ read. IsReading IsObservedFrom is_over_bus text.now (Ok read)) (IsInputRefusal IsObservedFrom is_over_bus text.now) }
 {

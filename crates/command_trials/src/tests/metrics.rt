@@ -9,7 +9,7 @@ use std::test::Fail;
 // The text of an image's metrics.
 fn text_of(alloc: Global, image: &str, words: &[&str], all: bool) -> Result<String, Fail> {
     let image = LargeImage::read(image.as_bytes())?;
-    let answer = metrics(alloc, &image.view(), &labels_of(alloc, words)?, all, true)?;
+    let answer = metrics(alloc, &image.view(), &labels_of(alloc, words)?, all)?;
     Ok(String::from_utf8(answer.text)?)
 }
 
@@ -93,7 +93,6 @@ fn a_report_with_a_fault_leaves_the_others(rt: HostRuntime) -> Result<(), Fail> 
         &only(&module.view(), &kept)?.view(),
         &labels,
         false,
-        true,
     )?;
     assert_eq!(rt; answer.fault, Some(ReportFault::Absent(page(0x02))));
     let text = String::from_utf8(answer.text)?;

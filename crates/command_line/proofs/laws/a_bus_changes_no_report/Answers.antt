@@ -1,4 +1,4 @@
-use Rattle.command_line.proofs.SameMetrics.{metrics_reported_before}
+use Rattle.command_line.proofs.SameMetrics.{metrics_reported_alike, metrics_reported_before}
 use Rattle.command_line.proofs.SameOverBus.{each_reported_alike}
 use Rattle.command_line.proofs.laws.a_bus_changes_no_report.Goals as goal
 
@@ -6,4 +6,7 @@ pub returns-clause-reports : goal.returns-clause-reports
 returns-clause-reports c = each_reported_alike
 
 pub returns-clause-metrics : goal.returns-clause-metrics
-returns-clause-metrics c = metrics_reported_before
+returns-clause-metrics c = metrics_reported_alike
+
+pub returns-clause-other_metrics : goal.returns-clause-other_metrics
+returns-clause-other_metrics c = metrics_reported_before
