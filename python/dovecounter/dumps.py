@@ -636,7 +636,9 @@ def image_halves(form: str, halves: Mapping[str, bytes], remark: Remark) -> Halv
     """Those of a dump's halves that an image has, of which A0's lower one is there; with a remark for each that is absent."""
     lower = halves["lower A0"]
     needed = wanted(lower)
-    needed.update({key: ["observables"] for key in [*of_further_banks(halves), *with_observables(halves)]})
+    needed.update(
+        {key: ["observables"] for key in [*of_further_banks(halves), *with_observables(halves)]}
+    )
     copy = halves.get(upper(0x00), lower)[0]
     if upper(0x00) in needed and copy != lower[0]:
         remark(

@@ -426,7 +426,12 @@ def test_what_is_no_file_of_settings_is_refused(tmp_path: pathlib.Path) -> None:
     for identity, base in (("GOOD", (TARGET,) * 8), (of("GOOD", "PART1"), ({},) * 8)):
         with pytest.raises(TypeError):
             written(tmp_path, FILE).of(identity, "100G", 0, base)  # type: ignore[arg-type]
-    for port, error in ((-1, ValueError), (2**32, ValueError), ("4", TypeError), (True, TypeError)):
+    for port, error in (
+        (-1, ValueError),
+        (2**32, ValueError),
+        ("4", TypeError),
+        (True, TypeError),
+    ):
         with pytest.raises(error, match="the port is"):
             written(tmp_path, FILE).of(of("GOOD", "PART1"), "100G", port)  # type: ignore[arg-type]
     for count in (0, 7, 9):
