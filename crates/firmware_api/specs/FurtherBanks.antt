@@ -1,4 +1,4 @@
--- What a reading is to request for the lanes above 8 of a module, as C is told. (docs/firmware.md, "Reading a module"; OIF-CMIS-05.0,
+-- What a reading is to request for the lanes above 8 of a module, in C. (docs/firmware.md, "Reading a module"; OIF-CMIS-05.0,
 -- "Management Memory Map", page 01h byte 142)
 use Rattle.std.specs.Prelude.{ℕ, ◌||◌, nat_lt, Bool, Option, Some, None, if◌then◌else◌}
 use Rattle.paged_memory.specs.declared.family.Family.{Family}
