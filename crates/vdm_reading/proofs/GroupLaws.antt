@@ -362,9 +362,9 @@ all_high [] = true
 all_high (page ∷ pages) = is_high page && all_high pages
 
 among_high : (page : ℕ) (pages : List ℕ) → all_high pages ≡ true → IsAmong page pages → is_high page ≡ true
-among_high page [] all among = absurd among
-among_high page (other ∷ pages) all (inl is) = ap is_high is ∙ (and_parts (is_high other) (all_high pages) all).0
-among_high page (other ∷ pages) all (inr later) = among_high page pages (and_parts (is_high other) (all_high pages) all).1 later
+among_high _ [] all among = absurd among
+among_high _ (other ∷ pages) all (inl is) = ap is_high is ∙ (and_parts (is_high other) (all_high pages) all).0
+among_high number (other ∷ pages) all (inr later) = among_high number pages (and_parts (is_high other) (all_high pages) all).1 later
 
 pages_high : (count : ℕ) → all_high (pages_of count) ≡ true
 pages_high count = by (count == 0) (count == 1) (count == 2) where
