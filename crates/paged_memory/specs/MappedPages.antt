@@ -5,7 +5,7 @@ use Rattle.std.specs.FinMap as map
 use Rattle.bus_model.specs.declared.device.Dev.{Dev}
 use Rattle.bus_model.specs.declared.device.Dev.TheVariants.{A0, A2}
 use Rattle.paged_memory.specs.declared.family.Family.{Family}
-use Rattle.paged_memory.specs.declared.family.Family.TheVariants.{Cmis, Sff8636, Sff8472}
+use Rattle.paged_memory.specs.declared.family.Family.TheVariants as families
 use Rattle.paged_memory.specs.declared.key.Key.{Key}
 use Rattle.paged_memory.specs.declared.mapped_page.MappedPage.{MappedPage}
 use Rattle.paged_memory.specs.declared.page_addressing.PageAddressing.{PageAddressing}
@@ -16,9 +16,9 @@ use Rattle.paged_memory.specs.Images.{Memory, byte_at}
 
 -- by a module's family; one that is of none of these is taken for one of CMIS
 abbrev pub selecting_in : Option Family → Option PageAddressing
-selecting_in (Some Cmis) = Some BankAndPage
-selecting_in (Some Sff8636) = Some PageAlone
-selecting_in (Some Sff8472) = None
+selecting_in (Some families.Cmis) = Some BankAndPage
+selecting_in (Some families.Sff8636) = Some PageAlone
+selecting_in (Some families.Sff8472) = None
 selecting_in None = Some BankAndPage
 
 abbrev pub selecting_by : ℕ → Option PageAddressing
