@@ -8,7 +8,7 @@ use Rattle.std.specs.List.{list_all, range_with_len}
 use denote.Enum.Bare.{tag_one}
 use denote.Enum.Declared.{tag_of}
 use Rattle.paged_memory.specs.declared.family.Family.{Family}
-use Rattle.paged_memory.specs.declared.family.Family.TheVariants.{Cmis, Sff8636, Sff8472}
+use Rattle.paged_memory.specs.contracts.family.Family as family_enum
 use Rattle.paged_memory.specs.declared.key.Key.{Key}
 use Rattle.paged_memory.specs.KeyOrder.{device_rank, half_rank}
 use Rattle.field_tables.specs.contracts.field.Field as field_enum
@@ -66,14 +66,9 @@ number_of (of_field field) = (0, tag_of field_enum.the_type field)
 number_of (of_text text) = (1, tag_of text_enum.the_type text)
 number_of (of_sum s) = (2, tag_of sum_enum.the_type s)
 
-abbrev standard_rank : Family → ℕ
-standard_rank Cmis = 0
-standard_rank Sff8636 = 1
-standard_rank Sff8472 = 2
-
 -- one number for each standard and half
 abbrev half_code : Family → Key → ℕ
-half_code standard key = ((standard_rank standard * 2 + device_rank key.dev) * 2 + half_rank key.half) * 256 + key.page
+half_code standard key = ((tag_of family_enum.the_type standard * 2 + device_rank key.dev) * 2 + half_rank key.half) * 256 + key.page
 
 -- the numbers of an entry, and its values with their spans
 record Claim : Type 0 where

@@ -4,7 +4,7 @@ use Rattle.std.specs.Prelude.{ℕ, ◌%◌, ◌==◌, Bool, ◌&&◌, sum, List,
 use Rattle.std.specs.FinMap as map
 use Rattle.bus_model.specs.declared.device.Dev.TheVariants.{A0, A2}
 use Rattle.paged_memory.specs.declared.family.Family.{Family}
-use Rattle.paged_memory.specs.declared.family.Family.TheVariants.{Cmis, Sff8636, Sff8472}
+use Rattle.paged_memory.specs.declared.family.Family.TheVariants as standards
 use Rattle.paged_memory.specs.declared.key.Half.TheVariants.{Lower, Upper}
 use Rattle.paged_memory.specs.declared.key.Key.{Key}
 use Rattle.paged_memory.specs.Images.{Memory}
@@ -16,14 +16,14 @@ use Rattle.field_tables.specs.Spans.{span, bytes_in, span_fits}
 
 -- standard; device, half and page, first and last byte of those that are summed; the address of the sum
 abbrev pub sum_line_of : Sum → Family × (Span × ℕ)
-sum_line_of sums.CSum00 = (Cmis, (span A0 Upper 0x00 128 221, 222))
-sum_line_of sums.CSum01 = (Cmis, (span A0 Upper 0x01 130 254, 255))
-sum_line_of sums.CSum02 = (Cmis, (span A0 Upper 0x02 128 254, 255))
-sum_line_of sums.QSumBase = (Sff8636, (span A0 Upper 0x00 128 190, 191))
-sum_line_of sums.QSumExt = (Sff8636, (span A0 Upper 0x00 192 222, 223))
-sum_line_of sums.SSumBase = (Sff8472, (span A0 Lower 0x00 0 62, 63))
-sum_line_of sums.SSumExt = (Sff8472, (span A0 Lower 0x00 64 94, 95))
-sum_line_of sums.SSumDmi = (Sff8472, (span A2 Lower 0x00 0 94, 95))
+sum_line_of sums.CSum00 = (standards.Cmis, (span A0 Upper 0x00 128 221, 222))
+sum_line_of sums.CSum01 = (standards.Cmis, (span A0 Upper 0x01 130 254, 255))
+sum_line_of sums.CSum02 = (standards.Cmis, (span A0 Upper 0x02 128 254, 255))
+sum_line_of sums.QSumBase = (standards.Sff8636, (span A0 Upper 0x00 128 190, 191))
+sum_line_of sums.QSumExt = (standards.Sff8636, (span A0 Upper 0x00 192 222, 223))
+sum_line_of sums.SSumBase = (standards.Sff8472, (span A0 Lower 0x00 0 62, 63))
+sum_line_of sums.SSumExt = (standards.Sff8472, (span A0 Lower 0x00 64 94, 95))
+sum_line_of sums.SSumDmi = (standards.Sff8472, (span A2 Lower 0x00 0 94, 95))
 
 abbrev pub sum_row : Sum → Span × ℕ
 sum_row s = (sum_line_of s).1

@@ -4,7 +4,7 @@ use Rattle.std.specs.Prelude.{ℕ, suc, ◌-◌, Bool, ◌&&◌, nat_le, List, O
 use Rattle.std.specs.FinMap as map
 use Rattle.bus_model.specs.declared.device.Dev.TheVariants.{A0}
 use Rattle.paged_memory.specs.declared.family.Family.{Family}
-use Rattle.paged_memory.specs.declared.family.Family.TheVariants.{Cmis, Sff8636, Sff8472}
+use Rattle.paged_memory.specs.declared.family.Family.TheVariants as standards
 use Rattle.paged_memory.specs.declared.key.Half.TheVariants.{Lower, Upper}
 use Rattle.paged_memory.specs.declared.key.Key.{Key}
 use Rattle.paged_memory.specs.Images.{Memory}
@@ -16,22 +16,22 @@ use Rattle.field_tables.specs.Spans.{span, bytes_in, span_fits}
 
 -- standard, device, half and page, first and last byte
 abbrev pub text_line_of : TextField → Family × Span
-text_line_of texts.CVendor = (Cmis, span A0 Upper 0x00 129 144)
-text_line_of texts.CPart = (Cmis, span A0 Upper 0x00 148 163)
-text_line_of texts.CPartRevision = (Cmis, span A0 Upper 0x00 164 165)
-text_line_of texts.CSerial = (Cmis, span A0 Upper 0x00 166 181)
-text_line_of texts.CDate = (Cmis, span A0 Upper 0x00 182 189)
-text_line_of texts.CClei = (Cmis, span A0 Upper 0x00 190 199)
-text_line_of texts.QVendor = (Sff8636, span A0 Upper 0x00 148 163)
-text_line_of texts.QPart = (Sff8636, span A0 Upper 0x00 168 183)
-text_line_of texts.QPartRevision = (Sff8636, span A0 Upper 0x00 184 185)
-text_line_of texts.QSerial = (Sff8636, span A0 Upper 0x00 196 211)
-text_line_of texts.QDate = (Sff8636, span A0 Upper 0x00 212 219)
-text_line_of texts.SVendor = (Sff8472, span A0 Lower 0x00 20 35)
-text_line_of texts.SPart = (Sff8472, span A0 Lower 0x00 40 55)
-text_line_of texts.SPartRevision = (Sff8472, span A0 Lower 0x00 56 59)
-text_line_of texts.SSerial = (Sff8472, span A0 Lower 0x00 68 83)
-text_line_of texts.SDate = (Sff8472, span A0 Lower 0x00 84 91)
+text_line_of texts.CVendor = (standards.Cmis, span A0 Upper 0x00 129 144)
+text_line_of texts.CPart = (standards.Cmis, span A0 Upper 0x00 148 163)
+text_line_of texts.CPartRevision = (standards.Cmis, span A0 Upper 0x00 164 165)
+text_line_of texts.CSerial = (standards.Cmis, span A0 Upper 0x00 166 181)
+text_line_of texts.CDate = (standards.Cmis, span A0 Upper 0x00 182 189)
+text_line_of texts.CClei = (standards.Cmis, span A0 Upper 0x00 190 199)
+text_line_of texts.QVendor = (standards.Sff8636, span A0 Upper 0x00 148 163)
+text_line_of texts.QPart = (standards.Sff8636, span A0 Upper 0x00 168 183)
+text_line_of texts.QPartRevision = (standards.Sff8636, span A0 Upper 0x00 184 185)
+text_line_of texts.QSerial = (standards.Sff8636, span A0 Upper 0x00 196 211)
+text_line_of texts.QDate = (standards.Sff8636, span A0 Upper 0x00 212 219)
+text_line_of texts.SVendor = (standards.Sff8472, span A0 Lower 0x00 20 35)
+text_line_of texts.SPart = (standards.Sff8472, span A0 Lower 0x00 40 55)
+text_line_of texts.SPartRevision = (standards.Sff8472, span A0 Lower 0x00 56 59)
+text_line_of texts.SSerial = (standards.Sff8472, span A0 Lower 0x00 68 83)
+text_line_of texts.SDate = (standards.Sff8472, span A0 Lower 0x00 84 91)
 
 abbrev pub text_span : TextField → Span
 text_span text = (text_line_of text).1
