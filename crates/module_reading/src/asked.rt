@@ -91,8 +91,5 @@ fn has_diagnostics(image: &Image) -> bool
 pub fn addressing(image: &Image) -> PageAddressing
     ensures { result ≡ spec.addressing_of image.now }
 {
-    match Family::managing(number(image, Field::CIdentifier)) {
-        Some(Family::Sff8636) => PageAddressing::PageAlone,
-        Some(Family::Cmis | Family::Sff8472) | None => PageAddressing::BankAndPage,
-    }
+    PageAddressing::by(number(image, Field::CIdentifier)).unwrap_or(PageAddressing::BankAndPage)
 }

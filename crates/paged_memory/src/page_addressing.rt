@@ -33,7 +33,8 @@ impl PageAddressing {
         }
     }
 
-    fn by(identifier: u8) -> Option<PageAddressing>
+    /// How they are selected on device A0 of a module with this identifier; one that is of no family is taken for one of CMIS.
+    pub fn by(identifier: u8) -> Option<PageAddressing>
         ensures { result ≡ selecting_by identifier }
     {
         match Family::managing(identifier) {
