@@ -40,7 +40,7 @@ fn banks_of_family(family: Family, image: &Image) -> u8
 {
     match family {
         Family::Cmis => requested_of(is_flat(image), bank_count(image)),
-        Family::Sff8636 | Family::Sff8472 => 0,
+        _ => 0,
     }
 }
 

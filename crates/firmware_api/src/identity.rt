@@ -76,7 +76,7 @@ fn put_identity_of(family: Family, image: &Image, identity: &mut ModuleIdentity)
 {
     match family {
         Family::Cmis => put_cmis(image, identity),
-        Family::Sff8636 | Family::Sff8472 => put_shared(image, family, identity),
+        _ => put_shared(image, family, identity),
     }
 }
 

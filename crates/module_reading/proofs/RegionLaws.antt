@@ -1,5 +1,5 @@
 -- What tells the halves apart that are read of a module, and which they are.
-use Rattle.std.proofs.Common.{◌≡◌, ◌≤◌, ◌<◌, ℕ, zero, suc, ◌/◌, ◌==◌, ◌&&◌, Bool, true, false, not, List, [], ◌∷◌, length, drop, map, Option, Some, None, refl, sym, ap, subst, ◌∙◌, if◌then◌else◌, arith}
+use Rattle.std.proofs.Common.{◌≡◌, ◌≤◌, ◌<◌, ℕ, zero, suc, ◌/◌, ◌==◌, ◌&&◌, Bool, true, false, not, List, [], ◌∷◌, length, drop, map, take, Option, Some, None, refl, sym, ap, subst, ◌∙◌, if◌then◌else◌, arith}
 use Rattle.std.proofs.lemmas.Bool.{and_from, and_parts, eqb-true, le-leb, leb-true, true≢false}
 use Rattle.std.specs.Prelude.{nat_le, option_map, unwrap_or, unsigned_abs, pos}
 use Rattle.std.specs.List.{AllByRecursion, list_all, slice_get}
@@ -23,7 +23,8 @@ use Rattle.paged_memory.proofs.WindowHistories.{IsSelectable}
 use Rattle.field_tables.specs.declared.field.Field.{Field}
 use Rattle.field_tables.specs.declared.field.Field.TheVariants.{CIdentifier, CFlatMemory, QFlatMemory, SAddressChange, SDiagPresent}
 use Rattle.field_tables.specs.FieldValues.{field_key, value_in}
-use Rattle.field_tables.specs.Readings.{bit, number, reading_at}
+use Rattle.field_tables.specs.Readings.{number, reading_at}
+use Rattle.field_tables.proofs.SameValues.{Agree, plain, same_number}
 use Rattle.module_reading.specs.Regions.{addressing_in, addressing_of, and_if, decides, family_regions, halves_for, halves_of, halves_of_banks, has_banks, identifier, is_for_banks, key_of, lower_alone, regions_in, regions_of, requested, wants}
 use Rattle.module_reading.specs.declared.region.Region.{Region}
 use Rattle.module_reading.specs.declared.request.Request.{Request}
@@ -227,24 +228,30 @@ can_be_selected request (Some family) memory =
 
 -- ---- memories with the same lower half
 
-same_number : (memory other : Memory) (field : Field) → finmap.get memory (field_key field) ≡ finmap.get other (field_key field) → number memory field ≡ number other field
-unfolding reading_at
-same_number memory other field same = ap (λ (half : Option (List ℕ)). unsigned_abs (unwrap_or (option_map (λ bytes. value_in bytes field 1) half) (pos 0))) same
+module _ (memory other : Memory) (low : Agree memory other (lower_key A0)) where
+  pub same_identifier : identifier memory ≡ identifier other
+  same_identifier = same_number memory other CIdentifier low refl refl
+
+  pub same_decides : (family : Family) → decides family memory ≡ decides family other
+  same_decides families.Cmis = ap (λ (flat : ℕ). flat == 1) (same_number memory other CFlatMemory low refl refl)
+  same_decides families.Sff8636 = ap (λ (flat : ℕ). flat == 1) (same_number memory other QFlatMemory low refl refl)
+  same_decides families.Sff8472 = λ i. (same_number memory other SDiagPresent low refl refl i == 1) && not (same_number memory other SAddressChange low refl refl i == 1)
+
+pub same_half : (memory other : Memory) (key : Key) → finmap.get memory key ≡ finmap.get other key → Agree memory other key
+same_half memory other key same = ap (option_map (take (plain key))) same
 
 module _ (memory other : Memory) (same : finmap.get memory (lower_key A0) ≡ finmap.get other (lower_key A0)) where
-  same_decides : (family : Family) → decides family memory ≡ decides family other
-  same_decides families.Cmis = ap (λ (flat : ℕ). flat == 1) (same_number memory other CFlatMemory same)
-  same_decides families.Sff8636 = ap (λ (flat : ℕ). flat == 1) (same_number memory other QFlatMemory same)
-  same_decides families.Sff8472 = λ i. (same_number memory other SDiagPresent same i == 1) && not (same_number memory other SAddressChange same i == 1)
+  low : Agree memory other (lower_key A0)
+  low = same_half memory other (lower_key A0) same
 
   pub same_regions : (request : Request) → regions_of request memory ≡ regions_of request other
-  same_regions request = ap (λ (id : ℕ). regions_in request (managed_by id) memory) (same_number memory other CIdentifier same) ∙ same_in (managed_by (identifier other)) where
+  same_regions request = ap (λ (id : ℕ). regions_in request (managed_by id) memory) (same_identifier memory other low) ∙ same_in (managed_by (identifier other)) where
     same_in : (family : Option Family) → regions_in request family memory ≡ regions_in request family other
-    same_in (Some family) = ap (family_regions request family) (same_decides family)
+    same_in (Some family) = ap (family_regions request family) (same_decides memory other low family)
     same_in None = refl
 
   pub same_paging : addressing_of memory ≡ addressing_of other
-  same_paging = ap (λ (id : ℕ). addressing_in (managed_by id)) (same_number memory other CIdentifier same)
+  same_paging = ap (λ (id : ℕ). addressing_in (managed_by id)) (same_identifier memory other low)
 
 -- ---- a memory that has nothing
 

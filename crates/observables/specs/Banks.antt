@@ -6,15 +6,20 @@ use Rattle.std.specs.Option.{option_map_or}
 use Rattle.bus_model.specs.declared.device.Dev.TheVariants.{A0}
 use Rattle.paged_memory.specs.Images.{Memory}
 use Rattle.paged_memory.specs.Keys.{upper_key}
+use Rattle.observables.specs.Pages.{is_cmis}
 use Rattle.observables.specs.Words.{byte_in, page_of}
 
 -- code 3 is reserved
 abbrev pub banks_by : ℕ → ℕ
 banks_by code = if code == 1 then 2 else if code == 2 then 4 else 1
 
--- how many banks the module advertises; one without page 01h
+-- how many banks page 01h of a CMIS module advertises; one without that page
+abbrev pub advertised_banks : Memory → ℕ
+advertised_banks memory = option_map_or (λ bytes. banks_by (byte_in bytes 142 % 4)) (page_of memory 0 0x01) 1
+
+-- modules of other families have one bank, whatever they have on page 01h
 abbrev pub bank_count : Memory → ℕ
-bank_count memory = option_map_or (λ bytes. banks_by (byte_in bytes 142 % 4)) (page_of memory 0 0x01) 1
+bank_count memory = if is_cmis memory then advertised_banks memory else 1
 
 -- a page of a bank, if memory has it, in the place of that of bank 0
 abbrev pub with_page : Memory → ℕ → ℕ → Memory → Memory

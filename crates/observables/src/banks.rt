@@ -4,13 +4,25 @@ ghost use Rattle.std.specs.FinMap as map;
 ghost use Rattle.paged_memory.specs.Images.{most_pages};
 ghost use Rattle.observables.specs.Banks as spec;
 
+use crate::pages::is_cmis;
 use crate::words::{byte_in, page_of};
 use bus_model::Dev;
 use paged_memory::{Image, Key, Page, SmallImage};
 
-/// How many banks the module has, as byte 142 of page 01h advertises them: one if the page is absent, or the code is reserved.
+/// How many banks the module has: one, or as many as byte 142 of page 01h of a CMIS module advertises.
 pub fn bank_count(image: &Image) -> u8
     ensures { result ≡ spec.bank_count image.now }
+{
+    if is_cmis(image) {
+        advertised_banks(image)
+    } else {
+        1
+    }
+}
+
+// One if the page is absent, or the code is reserved.
+fn advertised_banks(image: &Image) -> u8
+    ensures { result ≡ spec.advertised_banks image.now }
 {
     match page_of(image, 0, 0x01) {
         None => 1,

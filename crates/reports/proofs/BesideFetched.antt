@@ -24,12 +24,13 @@ use Rattle.module_decoding.specs.ModuleFamilies.{identifier}
 use Rattle.module_reading.specs.declared.region.Region.{Region}
 use Rattle.module_reading.specs.declared.region.Region.TheVariants.{Lower, FirstPage, Page}
 use Rattle.module_reading.specs.Regions.{everything, key_of, regions_of}
-use Rattle.module_reading.proofs.RegionLaws.{keys_are, same_regions}
-use Rattle.observables.specs.Banks.{bank_count, banks_by}
+use Rattle.module_reading.proofs.RegionLaws.{keys_are, same_half, same_regions}
+use Rattle.observables.specs.Banks.{bank_count}
 use Rattle.observables.specs.Pages.{has_observables}
 use Rattle.observables.specs.Words.{byte_in, page_of}
 use Rattle.reports.specs.Families.{detail_fault, unread}
 use Rattle.reports.proofs.FetchedPages.{HasPage, IsLow, all_low}
+use Rattle.reports.proofs.SameBanks.{same_count}
 use Rattle.reports.proofs.SameFamilies.{AllAgree, LanesAgree, family_agrees, low_agrees}
 use Rattle.reports.proofs.SameIf.{KeysAgree, is_among}
 
@@ -64,8 +65,8 @@ module _ (all before : Memory) (same : (key : Key) → key.page < 0x20 → map.g
         | inr later ↦ kept_among regions low.1 key later
       ]
 
-  same_count : bank_count all ≡ bank_count before
-  same_count = ap (λ (half : Option (List ℕ)). option_map_or (λ (bytes : List ℕ). banks_by (byte_in bytes 142 % 4)) half 1) (same (upper_key A0 0 0x01) first_below)
+  banks_same : bank_count all ≡ bank_count before
+  banks_same = same_count all before (same_half all before (lower_key A0) same_lower) (same_half all before (upper_key A0 0 0x01) (same (upper_key A0 0 0x01) first_below))
 
   module _ (memory : Memory) where
     agrees : (key : Key) → map.get all key ≡ map.get before key → Agree before memory key → Agree all memory key
@@ -77,7 +78,7 @@ module _ (all before : Memory) (same : (key : Key) → key.page < 0x20 → map.g
       all = subst (λ (regions : List Region). KeysAgree all memory (map key_of regions)) (sym same_asked) (record {
         half = λ key among. agrees key (kept_among (regions_of everything before) (all_low (managed_by (identifier before)) before) key among) (lanes.all.half key among);
       });
-      banks = λ bank above below. agrees (upper_key A0 bank 0x11) (same (upper_key A0 bank 0x11) lanes_below) (lanes.banks bank above (subst (λ (n : ℕ). bank < n) same_count below));
+      banks = λ bank above below. agrees (upper_key A0 bank 0x11) (same (upper_key A0 bank 0x11) lanes_below) (lanes.banks bank above (subst (λ (n : ℕ). bank < n) banks_same below));
     }
 
 -- ---- memories that agree in these halves

@@ -4,7 +4,6 @@ use Rattle.std.proofs.lemmas.Bool.{false≢true, lt-ltb, ltb-false, or_cases}
 use Rattle.std.specs.Prelude.{option_map, slice_index, unwrap_or}
 use Rattle.std.specs.FinMap as map
 use Rattle.std.specs.List.{AllByRecursion}
-use Rattle.std.specs.Option.{option_map_or}
 use Rattle.std.specs.Ordering.{eq_by_cmp}
 use Rattle.bus_model.specs.declared.device.Dev.TheVariants.{A0}
 use Rattle.bus_model.specs.declared.script.Directive.{Directive}
@@ -30,16 +29,16 @@ use Rattle.field_tables.proofs.SameValues.{Agree, plain, same_number}
 use Rattle.module_decoding.specs.ModuleFamilies.{identifier}
 use Rattle.module_reading.specs.declared.region.Region.{Region}
 use Rattle.module_reading.specs.declared.region.Region.TheVariants.{Lower, FirstPage, Page}
-use Rattle.module_reading.specs.ReadImages.{IsSettled}
+use Rattle.module_reading.specs.ReadImages.{IsKeyAmong, IsSettled}
 use Rattle.module_reading.specs.Regions.{addressing_in, addressing_of, everything, family_regions, is_flat, key_of, of_banks, regions_in, regions_of}
-use Rattle.module_reading.proofs.RegionLaws.{keys_are, same_regions}
-use Rattle.observables.specs.Banks.{bank_count, banks_by}
-use Rattle.observables.specs.Words.{byte_in}
+use Rattle.module_reading.proofs.RegionLaws.{keys_are, same_half, same_regions}
+use Rattle.observables.specs.Banks.{bank_count}
 use Rattle.reports.specs.FetchedImages.{AreBanksRead, AreFetched, IsFetching, with_banks}
 use Rattle.reports.proofs.FetchedHalves.{IsPaged, agrees_settled, fetched_agree, has_settled, identifier_is, low_settled, selecting_is}
-use Rattle.reports.proofs.FetchedPages.{HasPage, IsLow, all_low, among_page, among_regions, asks_first, asks_second, asks_third, few_banks, has_first, has_pages}
+use Rattle.reports.proofs.FetchedPages.{HasPage, IsLow, all_low, among_page, among_regions, asks_first, asks_second, asks_third, few_banks, has_first, has_pages, only_cmis}
 use Rattle.reports.proofs.PutPages.{banks_beside, banks_either, banks_lower, first_bank, second_bank, third_bank}
-use Rattle.reports.proofs.SameFamilies.{AllAgree, LanesAgree, low_agrees}
+use Rattle.reports.proofs.SameBanks.{same_count}
+use Rattle.reports.proofs.SameFamilies.{AllAgree, LanesAgree, found_cmis, low_agrees}
 use Rattle.reports.proofs.SameIf.{KeysAgree, is_among}
 
 -- ---- how pages are selected
@@ -70,8 +69,8 @@ kept_among from copy (region ∷ regions) low key e =
 same_asked : (from copy : Memory) → regions_of everything (with_banks from copy) ≡ regions_of everything copy
 same_asked from copy = same_regions (with_banks from copy) copy (banks_lower A0 from copy) everything
 
-same_count : (from copy : Memory) → bank_count (with_banks from copy) ≡ bank_count copy
-same_count from copy = ap (λ (half : Option (List ℕ)). option_map_or (λ (bytes : List ℕ). banks_by (byte_in bytes 142 % 4)) half 1) (banks_beside 1 from copy (omega arith))
+banks_same : (from copy : Memory) → bank_count (with_banks from copy) ≡ bank_count copy
+banks_same from copy = let all = with_banks from copy in same_count all copy (same_half all copy (lower_key A0) (banks_lower A0 from copy)) (same_half all copy (page_key 1) (banks_beside 1 from copy (omega arith)))
 
 all_kept : (from copy memory : Memory) → AllAgree copy memory → AllAgree (with_banks from copy) memory
 all_kept from copy memory all =
@@ -116,15 +115,19 @@ module _ (old mid : Seen (List Directive × Windowed)) (memory copy : Memory) (i
   none : (page : ℕ) → 0x20 ≤ page → map.get copy (page_key page) ≡ None
   none page above = no_high page (map.get copy (page_key page)) above refl
 
-  paged_by : map.contains_key copy (page_key 1) ≡ true → (managed_by (identifier copy) ≡ Some Cmis) × (is_flat copy ≡ false)
-  paged_by there = has_pages (managed_by (identifier copy)) copy (fetched.answered.only (page_key 1) there)
+  -- page 01h is among what was asked for of a module of this family
+  first_among : (family : Option Family) → managed_by (identifier copy) ≡ family → map.contains_key copy (page_key 1) ≡ true → IsKeyAmong (regions_in everything family copy) (page_key 1)
+  first_among family is there = subst (λ (f : Option Family). IsKeyAmong (regions_in everything f copy) (page_key 1)) is (fetched.answered.only (page_key 1) there)
+
+  of_cmis : managed_by (identifier copy) ≡ Some Cmis → selecting_on memory A0 ≡ Some BankAndPage
+  of_cmis cmis = selects memory copy image low (ap selecting_in cmis) (map.get memory (lower_key A0)) refl
 
   by_bank : map.contains_key copy (page_key 1) ≡ true → selecting_on memory A0 ≡ Some BankAndPage
-  by_bank there = selects memory copy image low (ap selecting_in (paged_by there).0) (map.get memory (lower_key A0)) refl
+  by_bank there = of_cmis (only_cmis (managed_by (identifier copy)) copy (first_among (managed_by (identifier copy)) refl there))
 
   -- the second one, of further banks
   module _ (new : Seen (List Directive × Windowed)) (from : Memory) (count : ℕ) (later : History) (ran_on : Ran (script_rules window_conduct) mid new (reverse later))
-      (read : AreFetched (of_banks count) (IsFull new) later (Ok from)) (first : map.contains_key copy (page_key 1) ≡ true) where
+      (read : AreFetched (of_banks count) (IsFull new) later (Ok from)) (cmis : managed_by (identifier copy) ≡ Some Cmis) (first : map.contains_key copy (page_key 1) ≡ true) where
     may : May mid.state later
     may = may_each (script_rules window_conduct) mid.state later ran_on.allowed
 
@@ -132,10 +135,10 @@ module _ (old mid : Seen (List Directive × Windowed)) (memory copy : Memory) (i
     low_from = low_settled memory from mid.state later image of_mid may (of_banks count) read.answered
 
     family : managed_by (identifier from) ≡ Some Cmis
-    family = ap managed_by (same_number from memory CIdentifier low_from refl refl ∙ sym (same_number copy memory CIdentifier low refl refl)) ∙ (paged_by first).0
+    family = ap managed_by (same_number from memory CIdentifier low_from refl refl ∙ sym (same_number copy memory CIdentifier low refl refl)) ∙ cmis
 
     flat : is_flat from ≡ false
-    flat = ap (λ (n : ℕ). n == 1) (same_number from memory CFlatMemory low_from refl refl ∙ sym (same_number copy memory CFlatMemory low refl refl)) ∙ (paged_by first).1
+    flat = ap (λ (n : ℕ). n == 1) (same_number from memory CFlatMemory low_from refl refl ∙ sym (same_number copy memory CFlatMemory low refl refl)) ∙ has_pages copy (first_among (Some Cmis) cmis first)
 
     asked_for : regions_of (of_banks count) from ≡ family_regions (of_banks count) Cmis false
     asked_for = ap (λ (family : Option Family). regions_in (of_banks count) family from) family ∙ ap (family_regions (of_banks count) Cmis) flat
@@ -143,7 +146,7 @@ module _ (old mid : Seen (List Directive × Windowed)) (memory copy : Memory) (i
     paged : (page : ℕ) → IsPaged memory (addressing_of from) page mid.state.1
     paged page =
         subst (λ (by : PageAddressing). IsPaged memory by page mid.state.1) (sym (ap addressing_in family))
-        (record { selecting = by_bank first; sound = record { memory_is = of_mid; bank = tt }; selectable = tt })
+        (record { selecting = of_cmis cmis; sound = record { memory_is = of_mid; bank = tt }; selectable = tt })
 
     each : AllByRecursion (IsSettled false later from) (family_regions (of_banks count) Cmis false)
     each = subst (AllByRecursion (IsSettled false later from)) asked_for read.answered.each
@@ -183,14 +186,15 @@ module _ (old mid : Seen (List Directive × Windowed)) (memory copy : Memory) (i
   fetched_by new result true e (Err fault, made, joins) = absurd cc
   fetched_by new result true e (Ok from, (later, ran_on, read), joins) =
       let result_is : with_banks from copy ≡ result = cc in
-      let first : map.contains_key copy (page_key 1) ≡ true = has_first (map.get copy (page_key 1)) (λ (bytes : List ℕ). banks_by (byte_in bytes 142 % 4)) e in
+      let (is, first) = has_first copy e in
+      let cmis = found_cmis (managed_by (identifier copy)) is in
       subst (λ (m : Memory). IsFetchedOf memory m new) result_is (record {
         lanes = record {
           all = all_kept from copy memory all;
           banks = λ bank above below.
-              lanes_at new from (bank_count copy) later ran_on read first bank above (subst (λ (n : ℕ). bank < n) (same_count from copy) below) (few_banks copy);
+              lanes_at new from (bank_count copy) later ran_on read cmis first bank above (subst (λ (n : ℕ). bank < n) (banks_same from copy) below) (few_banks copy);
         };
-        pages = put_pages new from (bank_count copy) later ran_on read first;
+        pages = put_pages new from (bank_count copy) later ran_on read cmis first;
         by_bank = λ there. by_bank first;
         behind = still_of mid new memory later ran_on of_mid;
       })

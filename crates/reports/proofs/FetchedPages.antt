@@ -16,6 +16,7 @@ use Rattle.module_reading.specs.declared.region.Region.TheVariants.{Lower, First
 use Rattle.module_reading.specs.ReadImages.{IsKeyAmong}
 use Rattle.module_reading.specs.Regions.{decides, everything, family_regions, is_flat, regions_in}
 use Rattle.observables.specs.Banks.{bank_count, banks_by}
+use Rattle.observables.specs.Pages.{is_cmis}
 use Rattle.observables.specs.Words.{byte_in}
 use Rattle.reports.proofs.PutPages.{one_number}
 
@@ -95,14 +96,21 @@ lacks_false : (family : Family) → is_family Cmis (Some family) ≡ false → l
 lacks_false Cmis other = absurd cc
 lacks_false _ other = refl
 
--- only of a CMIS module whose memory isn't flat is page 01h
-pub has_pages : (family : Option Family) (memory : Memory) → IsKeyAmong (regions_in everything family memory) (page_key 1) → (family ≡ Some Cmis) × (is_flat memory ≡ false)
-has_pages None memory among = absurd (no_first (regions_in everything None memory) refl among)
-has_pages (Some family) memory among = by family (decides family memory) refl among where
-  by : (family : Family) (holds : Bool) → decides family memory ≡ holds → IsKeyAmong (family_regions everything family holds) (page_key 1) → (Some family ≡ Some Cmis) × (is_flat memory ≡ false)
-  by family true is among = absurd (no_first (family_regions everything family true) (lacks_true family) among)
-  by Cmis false is among = (refl, is)
-  by other false is among = absurd (no_first (family_regions everything other false) (lacks_false other refl) among)
+-- only of a CMIS module is page 01h
+pub only_cmis : (family : Option Family) (memory : Memory) → IsKeyAmong (regions_in everything family memory) (page_key 1) → family ≡ Some Cmis
+only_cmis None memory among = absurd (no_first (regions_in everything None memory) refl among)
+only_cmis (Some family) memory among = by family (decides family memory) among where
+  by : (family : Family) (holds : Bool) → IsKeyAmong (family_regions everything family holds) (page_key 1) → Some family ≡ Some Cmis
+  by family true among = absurd (no_first (family_regions everything family true) (lacks_true family) among)
+  by Cmis false among = refl
+  by other false among = absurd (no_first (family_regions everything other false) (lacks_false other refl) among)
+
+-- of a CMIS module with page 01h, memory isn't flat
+pub has_pages : (memory : Memory) → IsKeyAmong (regions_in everything (Some Cmis) memory) (page_key 1) → is_flat memory ≡ false
+has_pages memory among = by (is_flat memory) refl among where
+  by : (flat : Bool) → is_flat memory ≡ flat → IsKeyAmong (family_regions everything Cmis flat) (page_key 1) → is_flat memory ≡ false
+  by false is among = is
+  by true is among = absurd (no_first (family_regions everything Cmis true) refl among)
 
 -- ---- those of further banks
 
@@ -131,14 +139,23 @@ few_by code = by (code == 1) (code == 2) where
   by false true = omega arith
   by false false = omega arith
 
-few : (half : Option (List ℕ)) (tell : List ℕ → ℕ) → option_map_or (λ (bytes : List ℕ). banks_by (tell bytes)) half 1 ≤ 4
-few None tell = omega arith
-few (Some bytes) tell = few_by (tell bytes)
+-- of a module of CMIS or of another family, with page 01h or without
+abbrev count_by : Bool → Option (List ℕ) → ℕ
+count_by cmis half = if cmis then option_map_or (λ (bytes : List ℕ). banks_by (byte_in bytes 142 % 4)) half 1 else 1
+
+few : (cmis : Bool) (half : Option (List ℕ)) → count_by cmis half ≤ 4
+few true (Some bytes) = few_by (byte_in bytes 142 % 4)
+few true None = omega arith
+few false half = omega arith
 
 pub few_banks : (memory : Memory) → bank_count memory ≤ 4
-few_banks memory = few (map.get memory (page_key 1)) (λ bytes. byte_in bytes 142 % 4)
+few_banks memory = few (is_cmis memory) (map.get memory (page_key 1))
 
--- a module with more banks than one has page 01h
-pub has_first : (half : Option (List ℕ)) (tell : List ℕ → ℕ) → nat_lt 1 (option_map_or tell half 1) ≡ true → is_some half ≡ true
-has_first None tell e = absurd cc
-has_first (Some bytes) tell e = refl
+first_by : (cmis : Bool) (half : Option (List ℕ)) → nat_lt 1 (count_by cmis half) ≡ true → (cmis ≡ true) × (is_some half ≡ true)
+first_by true (Some bytes) e = (refl, refl)
+first_by true None e = absurd cc
+first_by false half e = absurd cc
+
+-- a module with more banks than one is of CMIS, and has page 01h
+pub has_first : (memory : Memory) → nat_lt 1 (bank_count memory) ≡ true → (is_cmis memory ≡ true) × (map.contains_key memory (page_key 1) ≡ true)
+has_first memory e = first_by (is_cmis memory) (map.get memory (page_key 1)) e

@@ -1,5 +1,5 @@
--- Which further banks a module's lanes are read of is the same of two memories that agree in page 01h and in page 11h of each bank
--- that it advertises.
+-- Which further banks a module's lanes are read of is the same of two memories that agree in the lower half, in page 01h and in page 11h of
+-- each bank that it advertises.
 use Rattle.std.proofs.Common.{◌≡◌, inl, inr, ◌⊎◌, ℕ, ◌<◌, ◌≤◌, ◌%◌, ◌&&◌, ◌||◌, Bool, true, false, nat_lt, List, [], ◌∷◌, ◌++◌, Option, Some, None, map, take, refl, sym, ap, subst, ◌∙◌, if◌then◌else◌, arith}
 use Rattle.std.proofs.lemmas.Bool.{and_parts, ltb-true, or_cases}
 use Rattle.std.proofs.lemmas.List.{get_or-take}
@@ -9,11 +9,14 @@ use Rattle.std.specs.List.{AllByRecursion}
 use Rattle.std.specs.Option.{option_map_or}
 use Rattle.std.specs.Ordering.{eq_by_cmp}
 use Rattle.bus_model.specs.declared.device.Dev.TheVariants.{A0}
+use Rattle.paged_memory.specs.declared.family.Family.TheVariants.{Cmis}
 use Rattle.paged_memory.specs.declared.key.Key.{Key}
+use Rattle.paged_memory.specs.Families.{is_family, managed_by}
 use Rattle.paged_memory.specs.Images.{Memory}
 use Rattle.paged_memory.specs.KeyOrder.{key_cmp}
-use Rattle.paged_memory.specs.Keys.{upper_key}
+use Rattle.paged_memory.specs.Keys.{lower_key, upper_key}
 use Rattle.field_tables.proofs.SameValues.{Agree}
+use Rattle.module_reading.proofs.RegionLaws.{same_identifier}
 use Rattle.observables.specs.Banks.{bank_count, banks_by}
 use Rattle.observables.specs.Words.{byte_in, page_of}
 use Rattle.report_entries.specs.Banks.{from_bank, further_banks, has_lanes}
@@ -84,8 +87,11 @@ module _ (a b : Memory) where
   taken (Some bytes) = ap (λ (n : ℕ). banks_by (n % 4)) (get_or-take 128 bytes 14 0 (omega arith))
 
   -- as many banks are advertised
-  pub same_count : Agree a b (upper_key A0 0 0x01) → bank_count a ≡ bank_count b
-  same_count first = sym (taken (page_of a 0 0x01)) ∙ ap count_in first ∙ taken (page_of b 0 0x01)
+  pub same_count : Agree a b (lower_key A0) → Agree a b (upper_key A0 0 0x01) → bank_count a ≡ bank_count b
+  same_count low first =
+      let id = same_identifier a b low in
+      let advertised = sym (taken (page_of a 0 0x01)) ∙ ap count_in first ∙ taken (page_of b 0 0x01) in
+      λ i. if is_family Cmis (managed_by (id i)) then advertised i else 1
 
   is_mapped : (half : Option (List ℕ)) → is_some (option_map (take 128) half) ≡ is_some half
   is_mapped None = refl
@@ -94,9 +100,9 @@ module _ (a b : Memory) where
   there_same : (key : Key) → option_map (take 128) (map.get a key) ≡ option_map (take 128) (map.get b key) → map.contains_key a key ≡ map.contains_key b key
   there_same key agree = sym (is_mapped (map.get a key)) ∙ ap is_some agree ∙ is_mapped (map.get b key)
 
-  module _ (first : Agree a b (upper_key A0 0 0x01)) (banks : BanksAgree) where
+  module _ (low : Agree a b (lower_key A0)) (first : Agree a b (upper_key A0 0 0x01)) (banks : BanksAgree) where
     has_same : (bank : ℕ) → 1 ≤ bank → has_lanes a bank ≡ has_lanes b bank
-    has_same bank from = by (nat_lt bank (bank_count a)) refl ∙ ap (λ (count : ℕ). nat_lt bank count && map.contains_key b (bank_key bank)) (same_count first) where
+    has_same bank from = by (nat_lt bank (bank_count a)) refl ∙ ap (λ (count : ℕ). nat_lt bank count && map.contains_key b (bank_key bank)) (same_count low first) where
       by : (advertised : Bool) → nat_lt bank (bank_count a) ≡ advertised → nat_lt bank (bank_count a) && map.contains_key a (bank_key bank) ≡ nat_lt bank (bank_count a) && map.contains_key b (bank_key bank)
       by true e = ap (λ (there : Bool). nat_lt bank (bank_count a) && there) (there_same (bank_key bank) (banks bank from (ltb-true bank (bank_count a) e)))
       by false e = rw e refl

@@ -7,7 +7,7 @@ use Rattle.bus_model.specs.declared.device.Dev.TheVariants.{A0, A2}
 use Rattle.paged_memory.specs.declared.family.Family.{Family}
 use Rattle.paged_memory.specs.declared.family.Family.TheVariants.{Cmis, Sff8636, Sff8472}
 use Rattle.paged_memory.specs.declared.key.Key.{Key}
-use Rattle.paged_memory.specs.Families.{family_by, is_family, is_of, managed_by}
+use Rattle.paged_memory.specs.Families.{family_by, is_of, managed_by}
 use Rattle.paged_memory.specs.Images.{Memory}
 use Rattle.paged_memory.specs.Keys.{lower_key, upper_key}
 use Rattle.field_tables.specs.declared.field.Field.TheVariants.{QFlatMemory, SAddressChange, SDiagPresent}
@@ -32,6 +32,7 @@ use Rattle.module_decoding.specs.ModuleFamilies as families
 use Rattle.module_decoding.specs.ModuleFamilies.{family_of, identifier}
 use Rattle.module_decoding.specs.Reports.{fault_in, fault_of, lacked, of_sff, pages_of, sff8472_fault, sff8636_fault}
 use Rattle.module_reading.specs.Regions.{decides, has_diagnostics}
+use Rattle.module_reading.proofs.RegionLaws.{same_decides}
 use Rattle.module_details.specs.AppDetails as app_details
 use Rattle.module_details.specs.CmisDetails as cmis
 use Rattle.module_details.specs.QsfpDetails as qsfp
@@ -53,7 +54,7 @@ use Rattle.reports.specs.SameReports.{IsSame}
 use Rattle.reports.proofs.SameApps.{advertised_same, details_of, details_same}
 use Rattle.reports.proofs.SameDetailRows.{tables_same}
 use Rattle.reports.proofs.SameBanks.{BanksAgree, Further, bank_keys, flat_banks_same, further_agree, no_further, numbered, numbers, paged_banks_same, up_to_1, up_to_2, with_more}
-use Rattle.reports.proofs.SameFamilies.{AllAgree, FamilyAgrees, LanesAgree, by_told, family_agrees, is_managed, keys_by, low_agrees, none_applies, none_mapped, same_found, same_renamed, same_told}
+use Rattle.reports.proofs.SameFamilies.{AllAgree, FamilyAgrees, LanesAgree, by_told, family_agrees, found_cmis, is_managed, keys_by, low_agrees, none_applies, none_mapped, same_found, same_renamed}
 use Rattle.reports.proofs.SameIf.{KeysAgree, SameIf, absent_read, and_if, by, each_agree, first, is_among}
 use Rattle.reports.proofs.SameRows.{flag_rows_same, rows_same}
 
@@ -101,13 +102,8 @@ module _ {a b : Memory} where
   unfolding rows_same inventory_rows monitors.qsfp_rows monitors.sfp_rows
   lines_in report Cmis flat agree other = absurd (other refl)
   lines_in Inventory Sff8636 true agree other = refl
-  lines_in Inventory Sff8636 false agree other = refl
   lines_in Monitors Sff8636 true agree other = refl
-  lines_in Monitors Sff8636 false agree other = refl
-  lines_in Flags Sff8636 flat agree other = refl
-  lines_in Inventory Sff8472 flat agree other = refl
-  lines_in Monitors Sff8472 flat agree other = refl
-  lines_in Flags Sff8472 flat agree other = refl
+  lines_in _ _ _ agree other = refl
 
   cmis_flags_in : (flat : Bool) (further : Further) (agree : KeysAgree a b (keys_by Cmis flat ++ bank_keys (numbers further))) → (flag_rows_same agree (numbers further) flat (flag_rows_of Cmis)).test ≡ true
   unfolding flag_rows_same flags.cmis_rows
@@ -141,8 +137,8 @@ module _ {a b : Memory} where
 
 module _ (a b : Memory) (low : Agree a b (lower_key A0)) where
   flat_same : (family : Family) → is_flat_in family a ≡ is_flat_in family b
-  flat_same Cmis = same_told a b low Cmis
-  flat_same Sff8636 = same_told a b low Sff8636
+  flat_same Cmis = same_decides a b low Cmis
+  flat_same Sff8636 = same_decides a b low Sff8636
   flat_same _ = refl
 
   -- the halves that a report reads of a module of this family, with the lanes of all banks or of bank 0
@@ -203,7 +199,7 @@ module _ (a b : Memory) (low : Agree a b (lower_key A0)) where
   same_qsfp_faults agree Monitors =
       let limits = same_refusal a b qsfp_refusals.threshold_reasons refl (low, λ here. (low, λ of. (low, λ paged. ((agree false paged).half (upper_key A0 0 0x03) refl, λ there. tt)))) in
       let module_fault = same_refusal a b qsfp_refusals.module_reasons refl (low, λ here. (low, λ of. tt)) in
-      λ i. option_or (module_fault i) (if same_told a b low Sff8636 i then None else limits i)
+      λ i. option_or (module_fault i) (if same_decides a b low Sff8636 i then None else limits i)
 
   -- diagnostics are there, and can be read without an address change
   are_diagnosed : not (bit a SDiagPresent) ≡ false → bit a SAddressChange ≡ false → has_diagnostics a ≡ true
@@ -248,7 +244,7 @@ module _ (a b : Memory) (low : Agree a b (lower_key A0)) where
   same_banks all_lanes banks Cmis agree = by (is_flat a) refl ∙ ap (λ (flat : Bool). if all_lanes then further_banks flat b else []) (flat_same Cmis) where
     by : (flat : Bool) → is_flat a ≡ flat → (if all_lanes then further_banks flat a else []) ≡ (if all_lanes then further_banks flat b else [])
     by true is = flat_banks_same a b all_lanes
-    by false is = paged_banks_same a b ((agree false is).half (upper_key A0 0 0x01) refl) banks all_lanes
+    by false is = paged_banks_same a b low ((agree false is).half (upper_key A0 0 0x01) refl) banks all_lanes
   same_banks all_lanes banks _ agree = refl
 
 -- what is the same of each family, if its halves agree, is the same of any
@@ -279,10 +275,6 @@ same_flag_states a b all = by_family true Flags (family_flags true) a b all (λ 
 
 -- ---- what a module advertises
 
-is_cmis : (family : Option Family) → is_family Cmis family ≡ true → family ≡ Some Cmis
-is_cmis (Some Cmis) e = refl
-is_cmis _ e = absurd cc
-
 -- no fault is left only of a paged CMIS module
 pub same_apps : (a b : Memory) → AllAgree a b → IsSame apps_fault (λ (m : Memory). apps_entries (advertised_by m)) a b
 unfolding advert_fault advertised_same
@@ -296,7 +288,7 @@ same_apps a b all =
     }) where
       paged_agree : not (is_of Cmis (identifier a)) ≡ false → is_flat a ≡ false → KeysAgree a b (keys_by Cmis false)
       paged_agree of paged =
-          let cmis = is_cmis (family_by (identifier a)) (not-false (is_of Cmis (identifier a)) of) in
+          let cmis = found_cmis (family_by (identifier a)) (not-false (is_of Cmis (identifier a)) of) in
           family_agrees a b Cmis (is_managed (identifier a) Cmis cmis) all false paged
 
       pages_agree : KeysAgree a b (keys_by Cmis false) → AgreeInTurn a b page_reasons

@@ -7,12 +7,12 @@ use Rattle.std.specs.List.{AllByRecursion}
 use Rattle.std.specs.Option.{option_or}
 use Rattle.bus_model.specs.declared.device.Dev.TheVariants.{A0}
 use Rattle.paged_memory.specs.declared.family.Family.{Family}
-use Rattle.paged_memory.specs.declared.family.Family.TheVariants.{Cmis, Sff8636, Sff8472}
+use Rattle.paged_memory.specs.declared.family.Family.TheVariants.{Cmis}
 use Rattle.paged_memory.specs.declared.key.Key.{Key}
 use Rattle.paged_memory.specs.Families.{family_by, is_family, is_other_cmis, managed_by}
 use Rattle.paged_memory.specs.Images.{Memory}
 use Rattle.paged_memory.specs.Keys.{lower_key, upper_key}
-use Rattle.field_tables.specs.declared.field.Field.TheVariants.{CFlatMemory, CIdentifier, CRevision, QFlatMemory, SAddressChange, SDiagPresent}
+use Rattle.field_tables.specs.declared.field.Field.TheVariants.{CIdentifier, CRevision}
 use Rattle.field_tables.specs.FirstFault.{first_fault}
 use Rattle.field_tables.specs.Readings.{number}
 use Rattle.field_tables.proofs.SameValues.{Agree, same_absent, same_number}
@@ -22,7 +22,7 @@ use Rattle.module_decoding.specs.ModuleFamilies as families
 use Rattle.module_decoding.specs.ModuleFamilies.{identifier, known}
 use Rattle.module_reading.specs.declared.region.Region.{Region}
 use Rattle.module_reading.specs.Regions.{decides, everything, family_regions, key_of, regions_in, regions_of}
-use Rattle.module_reading.proofs.RegionLaws.{begins_lower}
+use Rattle.module_reading.proofs.RegionLaws.{begins_lower, same_decides}
 use Rattle.observables.specs.Banks.{bank_count}
 use Rattle.reports.specs.SameReports.{IsSame}
 use Rattle.reports.proofs.SameIf.{KeysAgree, SameIf, is_among}
@@ -77,6 +77,10 @@ pub family_agrees : (a b : Memory) (family : Family) → managed_by (identifier 
 family_agrees a b family managed all which is =
     subst (λ (holds : Bool). KeysAgree a b (keys_by family holds)) is (subst (λ (found : Option Family). KeysAgree a b (map key_of (regions_in everything found a))) managed all)
 
+pub found_cmis : (family : Option Family) → is_family Cmis family ≡ true → family ≡ Some Cmis
+found_cmis (Some Cmis) e = refl
+found_cmis _ e = absurd cc
+
 -- a family that all reports may speak of is the one that manages the module
 pub is_managed : (id : ℕ) (family : Family) → family_by id ≡ Some family → managed_by id ≡ Some family
 unfolding family_by
@@ -86,16 +90,11 @@ is_managed id family e = by (is_other_cmis id) e where
   by false is = is
 
 module _ (a b : Memory) (low : Agree a b (lower_key A0)) where
-  pub same_told : (family : Family) → decides family a ≡ decides family b
-  same_told Cmis = ap (λ (n : ℕ). n == 1) (same_number a b CFlatMemory low refl refl)
-  same_told Sff8636 = ap (λ (n : ℕ). n == 1) (same_number a b QFlatMemory low refl refl)
-  same_told Sff8472 = λ i. (same_number a b SDiagPresent low refl refl i == 1) && not (same_number a b SAddressChange low refl refl i == 1)
-
   -- what is the same of modules of the family of which either is told
   pub by_told : {A : Type 0} (family : Family) (of : Bool → Memory → A) → FamilyAgrees a b family → (each : (which : Bool) → KeysAgree a b (keys_by family which) → SameIf (of which a) (of which b))
       → ((agree : KeysAgree a b (keys_by family true)) → (each true agree).test ≡ true) → ((agree : KeysAgree a b (keys_by family false)) → (each false agree).test ≡ true)
       → of (decides family a) a ≡ of (decides family b) b
-  by_told family of agree each if_true if_false = by (decides family a) (agree (decides family a) refl) ∙ ap (λ (which : Bool). of which b) (same_told family) where
+  by_told family of agree each if_true if_false = by (decides family a) (agree (decides family a) refl) ∙ ap (λ (which : Bool). of which b) (same_decides a b low family) where
     by : (which : Bool) → KeysAgree a b (keys_by family which) → of which a ≡ of which b
     by true agree = (each true agree).same (if_true agree)
     by false agree = (each false agree).same (if_false agree)

@@ -33,7 +33,7 @@ rows_of Monitors families.Cmis = monitors.cmis_rows
 rows_of Monitors families.Sff8636 = monitors.qsfp_rows
 rows_of Monitors families.Sff8472 = monitors.sfp_rows
 rows_of Flags families.Cmis = flags.state_rows
-rows_of Flags family = []
+rows_of report family = []
 
 abbrev pub flag_rows_of : Family → List FlagRow
 flag_rows_of families.Cmis = flags.cmis_rows

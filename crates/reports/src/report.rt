@@ -188,6 +188,6 @@ fn is_flat_in(family: Family, image: &Image) -> bool
     match family {
         Family::Cmis => is_flat(image),
         Family::Sff8636 => bit(image, Field::QFlatMemory),
-        Family::Sff8472 => false,
+        _ => false,
     }
 }

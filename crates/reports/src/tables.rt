@@ -27,7 +27,7 @@ pub fn rows(report: Report, family: Family) -> &'static [Line]
         (Report::Monitors, Family::Sff8636) => QSFP_MONITORS,
         (Report::Monitors, Family::Sff8472) => SFP_MONITORS,
         (Report::Flags, Family::Cmis) => CMIS_STATES,
-        (Report::Flags, _) => &[],
+        _ => &[],
     }
 }
 
