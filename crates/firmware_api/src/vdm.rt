@@ -25,16 +25,16 @@ use paged_memory::Key;
 use saved_vdm::{
     MAX_HALVES, SavedVdm, SavedVdmEnd, begin, ending_of, restore, take_saved, wait_saved,
 };
-use vdm_reading::VdmReading;
+use vdm_reading::{VdmReading, VdmRequest};
 
-/// Puts into `reading` a reading of statistics that has made nothing yet, and pauses for so many milliseconds after a fruitless
-/// transaction.
+/// Puts into `reading` a reading of the statistics of a bank that has made nothing yet, and pauses for so many milliseconds after a
+/// fruitless transaction.
 #[unsafe(no_mangle)]
-pub extern "C" fn dovecounter_vdm_begin(pause: u32, reading: &mut SavedVdm)
-    ensures begun { (halves : List Half) → vdm_in reading.new halves ≡ Some (begun pause) }
+pub extern "C" fn dovecounter_vdm_begin(pause: u32, bank: u8, reading: &mut SavedVdm)
+    ensures begun { (halves : List Half) → vdm_in reading.new halves ≡ Some (begun (record { pause = pause; bank = bank })) }
     ensures halves { reading.new.halves ≡ 0 }
 {
-    *reading = begin(pause);
+    *reading = begin(VdmRequest { pause, bank });
 }
 
 /// Puts into `operation` what is to be done now. `halves` is the array in which the reading has put what it has read.
@@ -152,16 +152,15 @@ fn put_rested(it: VdmReading, reading: &mut SavedVdm, halves: &[HalfBytes; MAX_H
 }
 
 // Puts the half that the reply gives of the page in front of the others.
-fn put_page(page: Option<u8>, reply: &Reply, halves: &mut [HalfBytes; MAX_HALVES])
+fn put_page(page: Option<u16>, reply: &Reply, halves: &mut [HalfBytes; MAX_HALVES])
     requires { GivesHalf page reply.now }
     ensures { (count : ℕ) → count + count_of page ≤ 15 →
         memory_of (take (count + count_of page) halves.new) ≡ image_with page reply.now (memory_of (take count halves.old)) }
 {
     match (page, reply) {
-        (Some(page), Reply::Bytes(bytes)) => put_in_front(
-            half_at(Key::of_page(u16::from(page)), bytes),
-            halves,
-        ),
+        (Some(page), Reply::Bytes(bytes)) => {
+            put_in_front(half_at(Key::of_page(page), bytes), halves)
+        }
         _ => {}
     }
 }

@@ -15,7 +15,8 @@ use Rattle.vdm_reading.specs.declared.reading.VdmReading.{VdmReading}
 use Rattle.vdm_reading.specs.declared.reading.VdmStage.{VdmStage}
 use Rattle.vdm_reading.specs.declared.reading.VdmStage.TheVariants as stage
 use Rattle.vdm_reading.specs.FrozenSteps.{is_freeze_done, is_unfreeze_done}
-use Rattle.vdm_reading.specs.VdmStages.{accepted_at, after, after_missing, after_read_back, after_selection, after_work, asked, confirmed, enter, failed, frozen_by, kept, key_of, over, page_at, put_in, read_at, refused_at, released_by}
+use Rattle.vdm_reading.specs.BankPages.{groups_page}
+use Rattle.vdm_reading.specs.VdmStages.{accepted_at, after, after_missing, after_read_back, after_selection, after_work, asked, confirmed, enter, failed, frozen_by, kept, key_of, over, page_now, put_in, read_at, refused_at, released_by}
 use Rattle.vdm_reading.proofs.Told.{failed_same, fruitless_same, next_same}
 use Rattle.saved_vdm.specs.VdmTurns.{image_with, page_given, page_read}
 
@@ -39,7 +40,7 @@ module _ (reading : VdmReading) (room : map.len reading.image < 16) where
   confirms false = fails
 
   backs : (reply : Reply) → (after_read_back reading reply).image ≡ reading.image
-  backs (Bytes bytes) = confirms (is_known (selection_read BankAndPage bytes.items) (page_at reading.stage))
+  backs (Bytes bytes) = confirms (is_known (selection_read BankAndPage bytes.items) (page_now reading))
   backs Done = fails
   backs Refused = fails
 
@@ -61,9 +62,9 @@ module _ (reading : VdmReading) (room : map.len reading.image < 16) where
   releases true = refl
   releases false = (fruitless_same (nat_lt 0 reading.left) reading).image
 
-  reads : (now : VdmStage) (bytes : List ℕ) → (read_at now bytes reading).image ≡ with_page (page_read now) bytes
+  reads : (now : VdmStage) (bytes : List ℕ) → (read_at now bytes reading).image ≡ with_page (page_read reading.request.bank now) bytes
   reads stage.Advertised bytes = advertises (has_observables (kept 0x01 bytes reading).image) (kept 0x01 bytes reading).image ∙ put_there reading.image 0x01 bytes room
-  reads stage.Groups bytes = put_there reading.image 0x2F bytes room
+  reads stage.Groups bytes = put_there reading.image (groups_page reading.request.bank) bytes room
   reads stage.Freeze bytes = fails
   reads stage.Freezing bytes = freezes (is_freeze_done bytes)
   reads (stage.Page page) bytes = (next_same reading.todo.items (kept page bytes reading)).image ∙ put_there reading.image page bytes room
@@ -92,7 +93,7 @@ module _ (reading : VdmReading) (room : map.len reading.image < 16) where
   refuses stage.Over = refl
 
   abbrev given : Bool → Reply → Option ℕ
-  given first (Bytes bytes) = if first then None else page_read reading.stage
+  given first (Bytes bytes) = if first then None else page_read reading.request.bank reading.stage
   given first Done = None
   given first Refused = None
 
@@ -106,7 +107,7 @@ module _ (reading : VdmReading) (room : map.len reading.image < 16) where
   with_is (Some page) bytes = refl
 
   works : (reply : Reply) → (after_work reading reply).image ≡ image_with (given false reply) reply reading.image
-  works (Bytes bytes) = reads reading.stage bytes.items ∙ with_is (page_read reading.stage) bytes.items
+  works (Bytes bytes) = reads reading.stage bytes.items ∙ with_is (page_read reading.request.bank reading.stage) bytes.items
   works Done = accepts reading.stage
   works Refused = refuses reading.stage
 
@@ -119,12 +120,12 @@ module _ (reading : VdmReading) (room : map.len reading.image < 16) where
   turns true missing reply = backs reply ∙ sym (none reply)
   turns false missing reply = misses missing reply
 
-  given_is : (reply : Reply) → given (is_awaited reading.selection || is_some (missing_page reading.selection (Some (page_at reading.stage)))) reply ≡ page_given reading reply
+  given_is : (reply : Reply) → given (is_awaited reading.selection || is_some (missing_page reading.selection (Some (page_now reading)))) reply ≡ page_given reading reply
   given_is (Bytes bytes) = refl
   given_is Done = refl
   given_is Refused = refl
 
   pub image_grows : (reply : Reply) → (after reading reply).image ≡ image_with (page_given reading reply) reply reading.image
   image_grows reply =
-      turns (is_awaited reading.selection) (missing_page reading.selection (Some (page_at reading.stage))) reply
+      turns (is_awaited reading.selection) (missing_page reading.selection (Some (page_now reading))) reply
       ∙ ap (λ (page : Option ℕ). image_with page reply reading.image) (given_is reply)

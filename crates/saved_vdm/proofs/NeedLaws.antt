@@ -13,7 +13,8 @@ use Rattle.vdm_reading.specs.declared.reading.VdmReading.{VdmReading}
 use Rattle.vdm_reading.specs.declared.reading.VdmStage.{VdmStage}
 use Rattle.vdm_reading.specs.declared.reading.VdmStage.TheVariants as stage
 use Rattle.vdm_reading.specs.FrozenSteps.{is_freeze_done, is_unfreeze_done}
-use Rattle.vdm_reading.specs.VdmStages.{accepted_at, after, after_missing, after_read_back, after_selection, after_work, asked, confirmed, enter, failed, frozen_by, fruitless, fruitless_by, kept, lost_at, may_be_frozen, next_by, over, page_at, read_at, refused_at, released_by}
+use Rattle.vdm_reading.specs.BankPages.{groups_page}
+use Rattle.vdm_reading.specs.VdmStages.{accepted_at, after, after_missing, after_read_back, after_selection, after_work, asked, confirmed, enter, failed, frozen_by, fruitless, fruitless_by, kept, lost_at, may_be_frozen, next_by, over, page_now, read_at, refused_at, released_by}
 use Rattle.vdm_reading.proofs.EndingLaws.{pages_few}
 use Rattle.saved_vdm.specs.SavedReadings.{need}
 use Rattle.saved_vdm.specs.VdmTurns.{count_of, page_given, page_read}
@@ -69,7 +70,7 @@ module _ (reading : VdmReading) where
   confirms false = fails
 
   backs : (reply : Reply) → Falls reading None (after_read_back reading reply)
-  backs (Bytes bytes) = confirms (is_known (selection_read BankAndPage bytes.items) (page_at reading.stage))
+  backs (Bytes bytes) = confirms (is_known (selection_read BankAndPage bytes.items) (page_now reading))
   backs Done = fails
   backs Refused = fails
 
@@ -98,9 +99,9 @@ module _ (reading : VdmReading) where
   releases true is = omega arith
   releases false is = at stage.Releasing is (fruitless reading) waits
 
-  reads : (now : VdmStage) → reading.stage ≡ now → (bytes : List ℕ) → At now (page_read now) (read_at now bytes reading)
+  reads : (now : VdmStage) → reading.stage ≡ now → (bytes : List ℕ) → At now (page_read reading.request.bank now) (read_at now bytes reading)
   reads stage.Advertised is bytes = advertises (has_observables (kept 0x01 bytes reading).image) (kept 0x01 bytes reading).image
-  reads stage.Groups is bytes = let some = pages_few (kept 0x2F bytes reading).image in omega (arith, some)
+  reads stage.Groups is bytes = let some = pages_few (kept (groups_page reading.request.bank) bytes reading).image reading.request.bank in omega (arith, some)
   reads stage.Freeze is bytes = at stage.Freeze is (failed reading) fails
   reads stage.Freezing is bytes = freezes (is_freeze_done bytes) is
   reads (stage.Page page) is bytes = let next = next_need reading.todo.items (kept page bytes reading) in omega (arith, next)
@@ -133,7 +134,7 @@ module _ (reading : VdmReading) where
 
   -- what a reply gives if a page is to be selected first, or not
   abbrev given : Bool → Reply → Option ℕ
-  given first (Bytes bytes) = if first then None else page_read reading.stage
+  given first (Bytes bytes) = if first then None else page_read reading.request.bank reading.stage
   given first Done = None
   given first Refused = None
 
@@ -156,7 +157,7 @@ module _ (reading : VdmReading) where
   turns true missing reply = subst (λ (page : Option ℕ). Falls reading page (after_read_back reading reply)) (sym (given_none reply)) (backs reply)
   turns false missing reply = misses missing reply
 
-  given_is : (reply : Reply) → given (is_awaited reading.selection || is_some (missing_page reading.selection (Some (page_at reading.stage)))) reply ≡ page_given reading reply
+  given_is : (reply : Reply) → given (is_awaited reading.selection || is_some (missing_page reading.selection (Some (page_now reading)))) reply ≡ page_given reading reply
   given_is (Bytes bytes) = refl
   given_is Done = refl
   given_is Refused = refl
@@ -164,7 +165,7 @@ module _ (reading : VdmReading) where
   pub need_falls : (reply : Reply) → need_of (after reading reply) + count_of (page_given reading reply) ≤ need_of reading
   need_falls reply =
       subst (λ (page : Option ℕ). Falls reading page (after reading reply)) (given_is reply)
-      (turns (is_awaited reading.selection) (missing_page reading.selection (Some (page_at reading.stage))) reply)
+      (turns (is_awaited reading.selection) (missing_page reading.selection (Some (page_now reading))) reply)
 
 -- a page that is given is needed
 pub given_needs : (reading : VdmReading) (page : ℕ) (reply : Reply) → page_given reading reply ≡ Some page → 1 ≤ need_of reading

@@ -18,7 +18,8 @@ pub record AreParts (saved : SavedVdm) (reading : VdmReading) : Type 0 where
   pub todo_few : saved.todo_count ≤ most_listed
   pub todo_count : saved.todo_count ≡ length reading.todo.items
   pub room : saved.halves + need reading.stage (length reading.todo.items) ≤ most_halves
-  pub pause : saved.pause ≡ reading.pause
+  pub pause : saved.pause ≡ reading.request.pause
+  pub bank : saved.bank ≡ reading.request.bank
   pub stage : stage_in saved.stage saved.stage_page ≡ reading.stage
   pub selection : page_in saved.selection saved.page ≡ reading.selection
   pub left : saved.left ≡ reading.left
@@ -31,7 +32,7 @@ pub record AreParts (saved : SavedVdm) (reading : VdmReading) : Type 0 where
 
 reading_back : (saved : SavedVdm) (reading : VdmReading) → AreParts saved reading → reading_at saved reading.image ≡ reading
 reading_back saved reading parts = λ i. record {
-  pause = parts.pause i;
+  request = record { pause = parts.pause i; bank = parts.bank i };
   stage = parts.stage i;
   image = reading.image;
   selection = parts.selection i;

@@ -62,7 +62,7 @@ page_in number page = if number == 2 then pages.Page page else (if number == 1 t
 
 abbrev pub reading_at : SavedVdm → Memory → VdmReading
 reading_at saved image = record {
-  pause = saved.pause;
+  request = record { pause = saved.pause; bank = saved.bank };
   stage = stage_in saved.stage saved.stage_page;
   image = image;
   selection = page_in saved.selection saved.page;

@@ -8,25 +8,26 @@ use Rattle.paged_memory.specs.KnownPages.{is_awaited, missing_page}
 use Rattle.vdm_reading.specs.declared.reading.VdmReading.{VdmReading}
 use Rattle.vdm_reading.specs.declared.reading.VdmStage.{VdmStage}
 use Rattle.vdm_reading.specs.declared.reading.VdmStage.TheVariants as stages
-use Rattle.vdm_reading.specs.VdmStages.{key_of, page_at}
+use Rattle.vdm_reading.specs.BankPages.{groups_page}
+use Rattle.vdm_reading.specs.VdmStages.{key_of, page_now}
 
--- the page that is read at a stage
-abbrev pub page_read : VdmStage → Option ℕ
-page_read stages.Advertised = Some 0x01
-page_read stages.Groups = Some 0x2F
-page_read stages.Freeze = None
-page_read stages.Freezing = None
-page_read (stages.Page page) = Some page
-page_read stages.Release = None
-page_read stages.Releasing = None
-page_read stages.Over = None
+-- the page that is read at a stage, in a reading of this bank
+abbrev pub page_read : ℕ → VdmStage → Option ℕ
+page_read bank stages.Advertised = Some 0x01
+page_read bank stages.Groups = Some (groups_page bank)
+page_read bank stages.Freeze = None
+page_read bank stages.Freezing = None
+page_read bank (stages.Page page) = Some page
+page_read bank stages.Release = None
+page_read bank stages.Releasing = None
+page_read bank stages.Over = None
 
 -- a page is to be selected first, or that is to be read back
 abbrev pub selects : VdmReading → Bool
-selects reading = is_awaited reading.selection || is_some (missing_page reading.selection (Some (page_at reading.stage)))
+selects reading = is_awaited reading.selection || is_some (missing_page reading.selection (Some (page_now reading)))
 
 abbrev pub page_given : VdmReading → Reply → Option ℕ
-page_given reading (Bytes bytes) = if selects reading then None else page_read reading.stage
+page_given reading (Bytes bytes) = if selects reading then None else page_read reading.request.bank reading.stage
 page_given reading Done = None
 page_given reading Refused = None
 

@@ -3,7 +3,7 @@ ghost use Rattle.std.specs.Prelude.{◌≡◌};
 ghost use Rattle.saved_vdm.specs.VdmEndings.{IsEnding};
 
 use crate::numbers::MAX_LISTED;
-use crate::saving::{number_of_release, number_of_statistics, numbers_of_bytes};
+use crate::saving::{number_of_release, number_of_statistics, numbers_of_pages};
 use vdm_reading::VdmEnd;
 
 /// How it ended.
@@ -17,15 +17,15 @@ pub struct SavedVdmEnd {
     pub release: u8,
     /// How many pages that are advertised couldn't be read.
     pub missing_count: u8,
-    /// These pages, and zeros after them.
-    pub missing: [u8; MAX_LISTED],
+    /// The numbers of these pages, and zeros after them.
+    pub missing: [u16; MAX_LISTED],
 }
 
 /// The numbers of how it ended.
 pub fn ending_of(end: &VdmEnd) -> SavedVdmEnd
     ensures { IsEnding result end.now }
 {
-    let missing = numbers_of_bytes(&end.missing);
+    let missing = numbers_of_pages(&end.missing);
     let each = missing.1;
     SavedVdmEnd {
         statistics: number_of_statistics(end.statistics),

@@ -6,7 +6,7 @@ pub const MAX_LISTED: usize = 16;
 /// How many halves are read at most: pages 01h and 2Fh, and those that a module of four groups advertises.
 pub const MAX_HALVES: usize = 15;
 
-/// A reading under way, but for the halves that it has read.
+/// A reading of a bank under way, but for the halves that it has read.
 #[repr(C)]
 #[derive(Clone, Copy)]
 pub struct SavedVdm {
@@ -18,11 +18,13 @@ pub struct SavedVdm {
     pub left: u16,
     /// 0 to 7, in the order of the stages.
     pub stage: u8,
+    /// The bank whose statistics are read. Pages go by their numbers, 256 * bank + page.
+    pub bank: u8,
     /// The page that is read at stage 4, or 0.
-    pub stage_page: u8,
+    pub stage_page: u16,
+    pub page: u16,
     /// 2 if this page was read back, 1 if that is awaited, else 0.
     pub selection: u8,
-    pub page: u16,
     /// 1 if it is to pause before the next operation, else 0.
     pub due: u8,
     /// Byte 144 of page 2Fh as it was read.
@@ -36,6 +38,6 @@ pub struct SavedVdm {
     /// How many pages are advertised, and how many of them are still to be read.
     pub page_count: u8,
     pub todo_count: u8,
-    pub pages: [u8; MAX_LISTED],
-    pub todo: [u8; MAX_LISTED],
+    pub pages: [u16; MAX_LISTED],
+    pub todo: [u16; MAX_LISTED],
 }

@@ -6,7 +6,7 @@ ghost use Rattle.saved_vdm.specs.SavedReadings as spec;
 use crate::numbers::{MAX_HALVES, MAX_LISTED, SavedVdm};
 use arrayvec::ArrayVec;
 use paged_memory::{KnownPage, SmallImage};
-use vdm_reading::{Release, Statistics, VdmReading, VdmStage};
+use vdm_reading::{Release, Statistics, VdmReading, VdmRequest, VdmStage};
 
 /// What stands in each reading under way, so that other memory is not taken for one: `DCV1`.
 pub const READING: u32 = 0x4443_5631;
@@ -67,10 +67,13 @@ fn reading_at(saved: &SavedVdm, image: SmallImage) -> VdmReading
     requires { spec.is_sound saved.now ≡ true }
     ensures { result ≡ spec.reading_at saved.now image }
 {
-    let pages = bytes_in(saved.page_count, &saved.pages);
-    let todo = bytes_in(saved.todo_count, &saved.todo);
+    let pages = pages_in(saved.page_count, &saved.pages);
+    let todo = pages_in(saved.todo_count, &saved.todo);
     VdmReading {
-        pause: saved.pause,
+        request: VdmRequest {
+            pause: saved.pause,
+            bank: saved.bank,
+        },
         stage: stage_in(saved.stage, saved.stage_page),
         image,
         selection: page_in(saved.selection, saved.page),
@@ -84,7 +87,7 @@ fn reading_at(saved: &SavedVdm, image: SmallImage) -> VdmReading
     }
 }
 
-fn stage_in(number: u8, page: u8) -> VdmStage
+fn stage_in(number: u8, page: u16) -> VdmStage
     ensures { result ≡ spec.stage_in number page }
 {
     match number {
@@ -133,7 +136,7 @@ fn release_in(number: u8) -> Release
 }
 
 // The first of them, so many.
-fn bytes_in(count: u8, saved: &[u8; MAX_LISTED]) -> ArrayVec<u8, MAX_LISTED>
+fn pages_in(count: u8, saved: &[u16; MAX_LISTED]) -> ArrayVec<u16, MAX_LISTED>
     requires { count ≤ 16 }
     ensures { result.items ≡ take count saved.now }
 {

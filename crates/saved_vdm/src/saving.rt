@@ -21,18 +21,19 @@ pub fn save(reading: &VdmReading, halves: u8) -> SavedVdm
     let due = number_of(reading.due);
     let statistics = number_of_statistics(reading.statistics);
     let release = number_of_release(reading.release);
-    let pages = numbers_of_bytes(&reading.pages);
-    let todo = numbers_of_bytes(&reading.todo);
+    let pages = numbers_of_pages(&reading.pages);
+    let todo = numbers_of_pages(&reading.todo);
     let each_page = pages.1;
     let each_todo = todo.1;
     SavedVdm {
         magic: READING,
-        pause: reading.pause,
+        pause: reading.request.pause,
         left: reading.left,
         stage: stage.0,
+        bank: reading.request.bank,
         stage_page: stage.1,
-        selection: page.0,
         page: page.1,
+        selection: page.0,
         due,
         control: reading.control,
         statistics,
@@ -45,7 +46,7 @@ pub fn save(reading: &VdmReading, halves: u8) -> SavedVdm
     }
 }
 
-fn numbers_of_stage(stage: VdmStage) -> (u8, u8)
+fn numbers_of_stage(stage: VdmStage) -> (u8, u16)
     ensures same { spec.stage_in result.0 result.1 ≡ stage }
     ensures known { result.0 ≤ 7 }
 {
@@ -107,22 +108,22 @@ pub(crate) fn number_of_release(release: Release) -> u8
 }
 
 /// How many there are, and themselves with zeros after them.
-pub(crate) fn numbers_of_bytes(bytes: &ArrayVec<u8, MAX_LISTED>) -> (u8, [u8; MAX_LISTED])
-    ensures listed { result.1 ≡ ends.listed bytes.now.items }
-    ensures same { take result.0 result.1 ≡ bytes.now.items }
-    ensures count { result.0 ≡ length bytes.now.items }
+pub(crate) fn numbers_of_pages(pages: &ArrayVec<u16, MAX_LISTED>) -> (u8, [u16; MAX_LISTED])
+    ensures listed { result.1 ≡ ends.listed pages.now.items }
+    ensures same { take result.0 result.1 ≡ pages.now.items }
+    ensures count { result.0 ≡ length pages.now.items }
     ensures few { result.0 ≤ 16 }
 {
-    let count = bytes.len();
-    let all = first_bytes(bytes);
+    let count = pages.len();
+    let all = first_pages(pages);
     (count as u8, all)
 }
 
-fn first_bytes(bytes: &ArrayVec<u8, MAX_LISTED>) -> [u8; MAX_LISTED]
-    ensures listed { result ≡ ends.listed bytes.now.items }
-    ensures same { take (length bytes.now.items) result ≡ bytes.now.items }
+fn first_pages(pages: &ArrayVec<u16, MAX_LISTED>) -> [u16; MAX_LISTED]
+    ensures listed { result ≡ ends.listed pages.now.items }
+    ensures same { take (length pages.now.items) result ≡ pages.now.items }
 {
     let mut all = [0; MAX_LISTED];
-    all[..bytes.len()].copy_from_slice(bytes);
+    all[..pages.len()].copy_from_slice(pages);
     all
 }

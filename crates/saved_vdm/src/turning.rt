@@ -10,38 +10,36 @@ use crate::numbers::SavedVdm;
 use crate::saving::save;
 use bus_model::Reply;
 use conversations::Conversation;
-use vdm_reading::{VdmReading, VdmStage};
+use vdm_reading::{VdmReading, VdmRequest, VdmStage};
 
-/// The numbers of a reading that has made nothing yet, and pauses for so many milliseconds after a fruitless transaction.
-pub fn begin(pause: u32) -> SavedVdm
-    ensures begun { reading_in result map.empty ≡ Some (begun pause) }
+/// The numbers of a reading that has made nothing yet.
+pub fn begin(request: VdmRequest) -> SavedVdm
+    ensures begun { reading_in result map.empty ≡ Some (begun request) }
     ensures halves { result.halves ≡ 0 }
 {
-    save(&VdmReading::begin(pause), 0)
+    save(&VdmReading::begin(request), 0)
 }
 
-/// The page whose half the reply gives, if it gives one.
-pub fn page_given(reading: &VdmReading, reply: &Reply) -> Option<u8>
+/// The number of the page whose half the reply gives, if it gives one.
+pub fn page_given(reading: &VdmReading, reply: &Reply) -> Option<u16>
     ensures { result ≡ spec.page_given reading.now reply.now }
 {
     let selects = reading.selection.is_open()
         || reading
             .selection
-            .missing(Some(u16::from(reading.stage.page())))
+            .missing(Some(reading.current_page()))
             .is_some();
     match reply {
-        Reply::Bytes(_) if !selects => page_read(reading.stage),
+        Reply::Bytes(_) if !selects => page_read(reading),
         _ => None,
     }
 }
 
-fn page_read(stage: VdmStage) -> Option<u8>
-    ensures { result ≡ spec.page_read stage }
+fn page_read(reading: &VdmReading) -> Option<u16>
+    ensures { result ≡ spec.page_read reading.now.request.bank reading.now.stage }
 {
-    match stage {
-        VdmStage::Advertised => Some(0x01),
-        VdmStage::Groups => Some(0x2F),
-        VdmStage::Page(page) => Some(page),
+    match reading.stage {
+        VdmStage::Advertised | VdmStage::Groups | VdmStage::Page(_) => Some(reading.current_page()),
         VdmStage::Freeze
         | VdmStage::Freezing
         | VdmStage::Release
@@ -50,9 +48,9 @@ fn page_read(stage: VdmStage) -> Option<u8>
     }
 }
 
-/// Takes the reply to the operation that was to be made, and keeps the numbers of the reading then. Answers the page whose half the
+/// Takes the reply to the operation that was to be made, and keeps the numbers of the reading then. Answers the number of the page whose half the
 /// reply gives, if it gives one: it comes into the image.
-pub fn take_saved(mut reading: VdmReading, reply: &Reply, saved: &mut SavedVdm) -> Option<u8>
+pub fn take_saved(mut reading: VdmReading, reply: &Reply, saved: &mut SavedVdm) -> Option<u16>
     requires reply { IsReplyTo (wants reading) reply.now }
     requires was { reading_in saved.old reading.image ≡ Some reading }
     requires few { map.len reading.image ≤ saved.old.halves }
@@ -69,7 +67,7 @@ pub fn take_saved(mut reading: VdmReading, reply: &Reply, saved: &mut SavedVdm) 
 }
 
 // How many halves more are read then.
-fn count_of(page: Option<u8>) -> u8
+fn count_of(page: Option<u16>) -> u8
     ensures { result ≡ spec.count_of page }
 {
     match page {

@@ -2,6 +2,7 @@
 use Rattle.std.proofs.Common.{◌≡◌, ◌≤◌, ◌<◌, ℕ, ◌+◌, ◌-◌, ◌*◌, ◌==◌, Bool, true, false, List, [], ◌∷◌, length, refl, sym, ap, subst, ◌∙◌, if◌then◌else◌, nat_lt, Option, Some, None, eq-eqb, arith}
 use Rattle.std.specs.Option.{option_map_or}
 use Rattle.std.proofs.lemmas.Bool.{ltb-true}
+use Rattle.std.proofs.lemmas.List.{length-map}
 use Rattle.bus_model.specs.declared.operation.Op.{Op}
 use Rattle.bus_model.specs.declared.operation.Reply.{Reply}
 use Rattle.bus_model.specs.declared.operation.Reply.TheVariants.{Bytes, Done, Refused}
@@ -18,11 +19,13 @@ use Rattle.paged_memory.specs.PageAddressing.{History}
 use Rattle.paged_memory.proofs.KnownPageLaws.{step_of}
 use Rattle.vdm_reading.specs.declared.end.Statistics.TheVariants as statistics
 use Rattle.vdm_reading.specs.declared.reading.VdmReading.{VdmReading}
+use Rattle.vdm_reading.specs.declared.reading.VdmRequest.{VdmRequest}
 use Rattle.vdm_reading.specs.declared.reading.VdmStage.{VdmStage}
 use Rattle.vdm_reading.specs.declared.reading.VdmStage.TheVariants as stage
+use Rattle.vdm_reading.specs.BankPages.{bank_pages, groups_page, numbered, numbers_of}
 use Rattle.vdm_reading.specs.FrozenSteps.{is_freeze_done, is_unfreeze_done}
 use Rattle.vdm_reading.specs.VdmAccounts.{IsTold}
-use Rattle.vdm_reading.specs.VdmStages.{accepted_at, after, after_read_back, after_selection, after_work, asked, begun, confirmed, enter, failed, frozen_by, fruitless, fruitless_by, kept, lost_at, may_be_frozen, most_transactions, next_by, page_at, read_at, refused_at, released_by, wants, work_at}
+use Rattle.vdm_reading.specs.VdmStages.{accepted_at, after, after_read_back, after_selection, after_work, asked, begun, confirmed, enter, failed, frozen_by, fruitless, fruitless_by, kept, lost_at, may_be_frozen, most_transactions, next_by, page_at, page_now, read_at, refused_at, released_by, wants, work_at}
 use Rattle.vdm_reading.proofs.WantedTurns.{by_turn, holds_told}
 
 -- ---- how many transactions may still be made
@@ -47,21 +50,21 @@ later stage.Release todo = 303
 later stage.Releasing todo = 0
 later stage.Over todo = 0
 
-abbrev local : VdmStage → ℕ → KnownPage → ℕ
-local stage.Advertised left selected = 3 * left + rank selected 0x01
-local stage.Groups left selected = 3 * left + rank selected 0x2F
-local stage.Freeze left selected = 3 * left + rank selected 0x2F
-local stage.Freezing left selected = 3 * left + rank selected 0x2F
-local (stage.Page page) left selected = 3 * left + rank selected page
-local stage.Release left selected = 3 * left + rank selected 0x2F
-local stage.Releasing left selected = 3 * left + rank selected 0x2F
-local stage.Over left selected = 0
+abbrev local : ℕ → VdmStage → ℕ → KnownPage → ℕ
+local bank stage.Advertised left selected = 3 * left + rank selected 0x01
+local bank stage.Groups left selected = 3 * left + rank selected (groups_page bank)
+local bank stage.Freeze left selected = 3 * left + rank selected (groups_page bank)
+local bank stage.Freezing left selected = 3 * left + rank selected (groups_page bank)
+local bank (stage.Page page) left selected = 3 * left + rank selected page
+local bank stage.Release left selected = 3 * left + rank selected (groups_page bank)
+local bank stage.Releasing left selected = 3 * left + rank selected (groups_page bank)
+local bank stage.Over left selected = 0
 
 abbrev todo_of : VdmReading → ℕ
 todo_of reading = length reading.todo.items
 
 abbrev potential_at : VdmStage → VdmReading → ℕ
-potential_at now reading = local now reading.left reading.selection + later now (todo_of reading)
+potential_at now reading = local reading.request.bank now reading.left reading.selection + later now (todo_of reading)
 
 abbrev potential : VdmReading → ℕ
 potential reading = potential_at reading.stage reading
@@ -105,7 +108,7 @@ rank_page page = by (page == page) (eq-eqb page page refl) where
 next_few : (todo : List ℕ) (reading : VdmReading) → todo ≡ reading.todo.items → potential (next_by todo reading) ≤ 312 + 9 * length todo
 next_few [] reading is = by (may_be_frozen reading.release) where
   by : (frozen : Bool) → potential (if frozen then enter stage.Release reading else enter stage.Over reading) ≤ 312 + 9 * 0
-  by true = omega (arith, rank_few reading.selection 0x2F)
+  by true = omega (arith, rank_few reading.selection (groups_page reading.request.bank))
   by false = omega arith
 next_few (page ∷ rest) reading is = omega (arith, rank_few reading.selection page)
 
@@ -123,12 +126,12 @@ lost_few stage.Over reading = omega arith
 again_few : (now : VdmStage) (reading : VdmReading) → 0 < reading.left →
     potential_at now (record reading { left = reading.left - 1; due = true }) ≤ 3 * reading.left + later now (todo_of reading)
 again_few stage.Advertised reading some = omega (arith, some, rank_few reading.selection 0x01)
-again_few stage.Groups reading some = omega (arith, some, rank_few reading.selection 0x2F)
-again_few stage.Freeze reading some = omega (arith, some, rank_few reading.selection 0x2F)
-again_few stage.Freezing reading some = omega (arith, some, rank_few reading.selection 0x2F)
+again_few stage.Groups reading some = omega (arith, some, rank_few reading.selection (groups_page reading.request.bank))
+again_few stage.Freeze reading some = omega (arith, some, rank_few reading.selection (groups_page reading.request.bank))
+again_few stage.Freezing reading some = omega (arith, some, rank_few reading.selection (groups_page reading.request.bank))
 again_few (stage.Page page) reading some = omega (arith, some, rank_few reading.selection page)
-again_few stage.Release reading some = omega (arith, some, rank_few reading.selection 0x2F)
-again_few stage.Releasing reading some = omega (arith, some, rank_few reading.selection 0x2F)
+again_few stage.Release reading some = omega (arith, some, rank_few reading.selection (groups_page reading.request.bank))
+again_few stage.Releasing reading some = omega (arith, some, rank_few reading.selection (groups_page reading.request.bank))
 again_few stage.Over reading some = omega (arith, some)
 
 fruitless_few : (more : Bool) (reading : VdmReading) → nat_lt 0 reading.left ≡ more → potential (fruitless_by more reading) ≤ 3 * reading.left + later reading.stage (todo_of reading)
@@ -142,7 +145,7 @@ failed_few reading = fruitless_few (nat_lt 0 reading.left) (record reading { sel
 
 module _ (reading : VdmReading) where
   -- before a transaction
-  local_is : (now : VdmStage) (work : Op) → work_at reading now ≡ Do work → local now reading.left reading.selection ≡ 3 * reading.left + rank reading.selection (page_at now)
+  local_is : (now : VdmStage) (work : Op) → work_at reading now ≡ Do work → local reading.request.bank now reading.left reading.selection ≡ 3 * reading.left + rank reading.selection (page_at reading.request.bank now)
   local_is stage.Advertised work does = refl
   local_is stage.Groups work does = refl
   local_is stage.Freeze work does = refl
@@ -153,7 +156,7 @@ module _ (reading : VdmReading) where
   local_is stage.Over work does = absurd cc
 
   abbrev page : ℕ
-  page = page_at reading.stage
+  page = page_now reading
 
   abbrev Less : VdmReading → Type 0
   Less new = potential new + 1 ≤ potential reading
@@ -165,7 +168,7 @@ module _ (reading : VdmReading) where
     waits : Less (fruitless reading)
     waits = omega (arith, fruitless_few (nat_lt 0 reading.left) reading refl, local_is reading.stage work does, rank_some reading.selection page)
 
-    selected_is : (now : VdmStage) (selected : KnownPage) → work_at reading now ≡ Do work → local now reading.left selected ≡ 3 * reading.left + rank selected (page_at now)
+    selected_is : (now : VdmStage) (selected : KnownPage) → work_at reading now ≡ Do work → local reading.request.bank now reading.left selected ≡ 3 * reading.left + rank selected (page_at reading.request.bank now)
     selected_is stage.Advertised selected does = refl
     selected_is stage.Groups selected does = refl
     selected_is stage.Freeze selected does = refl
@@ -199,26 +202,38 @@ module _ (reading : VdmReading) where
     selects closed elsewhere Refused = fails
 
 -- the pages that are advertised are few
-pub pages_few : (image : Memory) → length (pages image 0) ≤ 13
-pages_few image = by (has_observables image) (groups image 0) where
-  of_groups : (a b c : Bool) → length {A = ℕ} (if a then 0x20 ∷ 0x28 ∷ 0x24 ∷ 0x2C ∷ [] else if b then 0x20 ∷ 0x21 ∷ 0x28 ∷ 0x29 ∷ 0x24 ∷ 0x25 ∷ 0x2C ∷ []
+groups_few : (count : ℕ) → length (pages_of count) ≤ 13
+groups_few count = by (count == 0) (count == 1) (count == 2) where
+  by : (a b c : Bool) → length {A = ℕ} (if a then 0x20 ∷ 0x28 ∷ 0x24 ∷ 0x2C ∷ [] else if b then 0x20 ∷ 0x21 ∷ 0x28 ∷ 0x29 ∷ 0x24 ∷ 0x25 ∷ 0x2C ∷ []
       else if c then 0x20 ∷ 0x21 ∷ 0x22 ∷ 0x28 ∷ 0x29 ∷ 0x2A ∷ 0x24 ∷ 0x25 ∷ 0x26 ∷ 0x2C ∷ []
       else 0x20 ∷ 0x21 ∷ 0x22 ∷ 0x23 ∷ 0x28 ∷ 0x29 ∷ 0x2A ∷ 0x2B ∷ 0x24 ∷ 0x25 ∷ 0x26 ∷ 0x27 ∷ 0x2C ∷ []) ≤ 13
-  of_groups true b c = omega arith
-  of_groups false true c = omega arith
-  of_groups false false true = omega arith
-  of_groups false false false = omega arith
+  by true b c = omega arith
+  by false true c = omega arith
+  by false false true = omega arith
+  by false false false = omega arith
 
+few_pages : (image : Memory) (bank : ℕ) → length (pages image bank) ≤ 13
+few_pages image bank = by (has_observables image) (groups image bank) where
   by : (has : Bool) (groups : Option ℕ) → length {A = ℕ} (if has then option_map_or pages_of groups (0x2F ∷ []) else []) ≤ 13
   by false groups = omega arith
   by true None = omega arith
-  by true (Some groups) = of_groups (groups == 0) (groups == 1) (groups == 2)
+  by true (Some groups) = groups_few groups
 
-module _ (reading : VdmReading) (on : reading.selection ≡ selected_page.Page (page_at reading.stage)) where
+-- so are their numbers
+numbered_few : (bank : ℕ) (pages : List ℕ) → length pages ≤ 13 → length (numbers_of bank pages) ≤ 13
+numbered_few bank pages few = subst (λ (n : ℕ). n ≤ 13) (sym (length-map pages (λ (page : ℕ). numbered bank page))) few
+
+pub numbers_few : (bank count : ℕ) → length (numbers_of bank (pages_of count)) ≤ 13
+numbers_few bank count = numbered_few bank (pages_of count) (groups_few count)
+
+pub pages_few : (image : Memory) (bank : ℕ) → length (bank_pages image bank) ≤ 13
+pages_few image bank = numbered_few bank (pages image bank) (few_pages image bank)
+
+module _ (reading : VdmReading) (on : reading.selection ≡ selected_page.Page (page_now reading)) where
   -- before the work of a stage
   works_at : (now : VdmStage) (work : Op) → reading.stage ≡ now → work_at reading now ≡ Do work → potential reading ≡ 3 * reading.left + 1 + later now (todo_of reading)
   works_at now work is does =
-      let rank_is = ap (λ (selected : KnownPage). rank selected (page_at now)) (on ∙ ap (λ (now : VdmStage). selected_page.Page (page_at now)) is) ∙ rank_page (page_at now) in
+      let rank_is = ap (λ (selected : KnownPage). rank selected (page_at reading.request.bank now)) (on ∙ ap (λ (now : VdmStage). selected_page.Page (page_at reading.request.bank now)) is) ∙ rank_page (page_at reading.request.bank now) in
       let local_now = local_is reading now work does in
       let same = ap (λ (now : VdmStage). potential_at now reading) is in
       omega (arith, rank_is, local_now, same)
@@ -236,10 +251,10 @@ module _ (reading : VdmReading) (on : reading.selection ≡ selected_page.Page (
 
     by : (has : Bool) → let new = kept 0x01 bytes reading in
         Falls (if has then enter stage.Groups new else enter stage.Over (record new { statistics = statistics.Unsupported }))
-    by true = omega (arith, before, rank_few reading.selection 0x2F)
+    by true = omega (arith, before, rank_few reading.selection (groups_page reading.request.bank))
     by false = omega (arith, before)
   read_few stage.Groups bytes work is does =
-      omega (arith, works_at stage.Groups work is does, rank_few reading.selection 0x2F, pages_few (kept 0x2F bytes reading).image)
+      omega (arith, works_at stage.Groups work is does, rank_few reading.selection (groups_page reading.request.bank), pages_few (kept (groups_page reading.request.bank) bytes reading).image reading.request.bank)
   read_few stage.Freeze bytes work is does = fails reading work (at stage.Freeze work is does)
   read_few stage.Freezing bytes work is does = by (is_freeze_done bytes) where
     by : (done : Bool) → Falls (frozen_by done reading)
@@ -256,10 +271,10 @@ module _ (reading : VdmReading) (on : reading.selection ≡ selected_page.Page (
   accepted_few : (now : VdmStage) (work : Op) → reading.stage ≡ now → work_at reading now ≡ Do work → Falls (accepted_at now reading)
   accepted_few stage.Advertised work is does = fails reading work (at stage.Advertised work is does)
   accepted_few stage.Groups work is does = fails reading work (at stage.Groups work is does)
-  accepted_few stage.Freeze work is does = omega (arith, works_at stage.Freeze work is does, rank_few reading.selection 0x2F)
+  accepted_few stage.Freeze work is does = omega (arith, works_at stage.Freeze work is does, rank_few reading.selection (groups_page reading.request.bank))
   accepted_few stage.Freezing work is does = fails reading work (at stage.Freezing work is does)
   accepted_few (stage.Page page) work is does = fails reading work (at (stage.Page page) work is does)
-  accepted_few stage.Release work is does = omega (arith, works_at stage.Release work is does, rank_few reading.selection 0x2F)
+  accepted_few stage.Release work is does = omega (arith, works_at stage.Release work is does, rank_few reading.selection (groups_page reading.request.bank))
   accepted_few stage.Releasing work is does = fails reading work (at stage.Releasing work is does)
   accepted_few stage.Over work is does = absurd cc
 
@@ -293,8 +308,8 @@ keeps history reading op reply asks answers within =
     op asks in
     omega (arith, falls, within)
 
-begins : (pause : ℕ) → Within [] (begun pause)
-begins pause = omega (arith, rank_unknown 0x01)
+begins : (request : VdmRequest) → Within [] (begun request)
+begins request = omega (arith, rank_unknown 0x01)
 
 pub few : (events : Events) (reading : VdmReading) → IsTold events reading → length (steps_of events) ≤ most_transactions
 few events reading told =

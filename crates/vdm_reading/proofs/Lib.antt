@@ -10,3 +10,4 @@ pub mod LostLaws
 pub mod GroupLaws
 pub mod WindowLaws
 pub mod QuietLaws
+mod NumberedPages

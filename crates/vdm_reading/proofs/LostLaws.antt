@@ -29,11 +29,13 @@ use Rattle.vdm_reading.specs.declared.end.Release.TheVariants as release
 use Rattle.vdm_reading.specs.declared.end.Statistics.{Statistics}
 use Rattle.vdm_reading.specs.declared.end.Statistics.TheVariants as statistics
 use Rattle.vdm_reading.specs.declared.reading.VdmReading.{VdmReading}
+use Rattle.vdm_reading.specs.declared.reading.VdmRequest.{VdmRequest}
 use Rattle.vdm_reading.specs.declared.reading.VdmStage.{VdmStage}
 use Rattle.vdm_reading.specs.declared.reading.VdmStage.TheVariants as stage
+use Rattle.vdm_reading.specs.BankPages.{groups_page}
 use Rattle.vdm_reading.specs.FrozenSteps.{IsPageRefused, IsShown, IsTaken, SomeStep, freezing, hindrances, is_freeze_done, is_hindered, is_unfreeze_done, one_if, page_named, page_taken, polls, read_done, read_half, releasing, store_control}
 use Rattle.vdm_reading.specs.VdmAccounts.{IsAmong, IsLostAlone, IsTold, IsWhole}
-use Rattle.vdm_reading.specs.VdmStages.{accepted_at, after, after_read_back, after_selection, after_work, asked, begun, confirmed, enter, failed, frozen_by, fruitless, fruitless_by, kept, key_of, lost_at, may_be_frozen, next_by, over, page_at, put_in, read_at, refused_at, released_by, rested, wants, work_at}
+use Rattle.vdm_reading.specs.VdmStages.{accepted_at, after, after_read_back, after_selection, after_work, asked, begun, confirmed, enter, failed, frozen_by, fruitless, fruitless_by, kept, key_of, lost_at, may_be_frozen, next_by, over, page_at, page_now, put_in, read_at, refused_at, released_by, rested, wants, work_at}
 use Rattle.vdm_reading.proofs.EndingLaws.{pages_few}
 use Rattle.vdm_reading.proofs.ShownLaws.{Shown, is_shown, is_taken, keeps_shown}
 use Rattle.vdm_reading.proofs.WantedTurns.{by_turn, holds_told}
@@ -404,7 +406,7 @@ counts_hindered stage.Over hindered polled more again one polls = (omega (arith,
 
 module _ (history : History) (reading : VdmReading) (lost : Lost history reading) where
   abbrev page : ℕ
-  page = page_at reading.stage
+  page = page_now reading
 
   room_at : (now : VdmStage) → reading.stage ≡ now → RoomAt now (map.len reading.image) (length reading.todo.items)
   room_at now is = subst (λ (now : VdmStage). RoomAt now (map.len reading.image) (length reading.todo.items)) is lost.room
@@ -458,7 +460,7 @@ module _ (history : History) (reading : VdmReading) (lost : Lost history reading
 
   -- of the page of the stage
   of_stage : (step : Step) → IsPageRefused page step history → (number : ℕ) → reading.stage ≡ stage.Page number → IsPageRefused number step history
-  of_stage step refused number at = subst (λ (n : ℕ). IsPageRefused n step history) (ap page_at at) refused
+  of_stage step refused number at = subst (λ (n : ℕ). IsPageRefused n step history) (ap (page_at reading.request.bank) at) refused
 
   module _ (busy : IsBusy reading.stage) where
     confirms : IsTaken page history → (bytes : ArrayVec ℕ) (shows : Bool) → is_known (selection_read BankAndPage bytes.items) page ≡ shows
@@ -503,7 +505,7 @@ module _ (history : History) (reading : VdmReading) (lost : Lost history reading
 
         groups : reading.stage ≡ stage.Groups → Lost (fetched read_half ∷ history) (read_at stage.Groups bytes.items reading)
         groups is = record {
-          room = omega (arith, put_len reading.image 0x2F bytes.items, room_at stage.Groups is, pages_few (put_in reading.image 0x2F bytes.items));
+          room = omega (arith, put_len reading.image (groups_page reading.request.bank) bytes.items, room_at stage.Groups is, pages_few (put_in reading.image (groups_page reading.request.bank) bytes.items) reading.request.bank);
           count = omega arith;
           each = λ number among. inl among;
           done = tt;
@@ -645,8 +647,8 @@ keeps history reading op reply asks answers known =
     op asks answers in
     record { shown = keeps_shown history reading op reply asks known.shown; lost = lost }
 
-begins : (pause : ℕ) → Known [] (begun pause)
-begins pause = record {
+begins : (request : VdmRequest) → Known [] (begun request)
+begins request = record {
   shown = tt;
   lost = record {
     room = subst (λ (n : ℕ). n ≤ 0) (sym (map.len-empty key_cmp (List ℕ))) (omega arith);

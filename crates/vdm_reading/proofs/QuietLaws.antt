@@ -18,8 +18,9 @@ use Rattle.bus_model.specs.ScriptedBus.{script_rules, transacted}
 use Rattle.bus_model.proofs.Histories.{may_each}
 use Rattle.conversations.specs.Events.{Events, steps_of}
 use Rattle.conversations.specs.Pauses.{is_refused}
-use Rattle.observables.specs.Pages.{groups, has_observables, pages, pages_of}
+use Rattle.observables.specs.Pages.{groups, has_observables, pages_of}
 use Rattle.observables.specs.Words.{byte_in}
+use Rattle.paged_memory.specs.declared.key.Key.{Key}
 use Rattle.paged_memory.specs.declared.page_addressing.PageAddressing.TheVariants.{BankAndPage}
 use Rattle.paged_memory.specs.Images.{Memory}
 use Rattle.paged_memory.specs.ImageText.{IsImage}
@@ -30,11 +31,12 @@ use Rattle.paged_memory.specs.Windows.{Windowed, bytes_from, half_at, window_con
 use Rattle.paged_memory.proofs.WindowHistories.{IsOf, May, State, left, of_after, shows_confirmed}
 use Rattle.vdm_reading.specs.declared.reading.VdmReading.{VdmReading}
 use Rattle.vdm_reading.specs.declared.reading.VdmStage.TheVariants.{Over}
+use Rattle.vdm_reading.specs.BankPages.{bank_pages, groups_page, numbers_of}
 use Rattle.vdm_reading.specs.FrozenSteps.{IsPageRefused, IsShown, SomeStep, read_half}
 use Rattle.vdm_reading.specs.VdmAccounts.{IsAmong, IsTold}
 use Rattle.vdm_reading.specs.VdmStages.{key_of}
 use Rattle.vdm_reading.specs.WindowStatistics.{AreAllRead, AreOverWindow}
-use Rattle.vdm_reading.proofs.GroupLaws.{IsGrouped, IsListed, IsNoneListed, are_listed, offered_by, offers, pages_by}
+use Rattle.vdm_reading.proofs.GroupLaws.{IsGrouped, IsListed, IsNoneListed, are_listed, groups_key, offered_by, offers, pages_by}
 use Rattle.vdm_reading.proofs.LostLaws as lost
 use Rattle.vdm_reading.proofs.WindowLaws.{EachAnswers, confirmed_all, each_answers, page_is, reads_selected, same, shown_taken}
 
@@ -111,34 +113,41 @@ has_page : (half : Option (List ℕ)) → option_map_or (λ (bytes : List ℕ). 
 has_page None e = absurd cc
 has_page (Some bytes) e = refl
 
-alone : (page : ℕ) → IsAmong page (0x2F ∷ 0x2F ∷ []) → page ≡ 0x2F
-alone page (inl is) = is
-alone page (inr (inl is)) = is
-alone page (inr (inr none)) = absurd none
+alone : (page groups : ℕ) → IsAmong page (groups ∷ groups ∷ []) → page ≡ groups
+alone page groups (inl is) = is
+alone page groups (inr (inl is)) = is
+alone page groups (inr (inr none)) = absurd none
 
 module _ (old new : Seen (List Directive × Windowed)) (memory : Memory) (events : Events) (reading : VdmReading) (over : AreOverWindow old new memory events) (told : IsTold events reading)
     (ended : reading.stage ≡ Over) (none : old.state.0 ≡ []) (lower : map.contains_key memory (lower_key A0) ≡ true) (has : has_observables memory ≡ true) where
+  abbrev bank : ℕ
+  bank = reading.request.bank
+
+  abbrev groups_number : ℕ
+  groups_number = groups_page bank
+
   may : May old.state (steps_of events)
   may = may_each (script_rules window_conduct) old.state (steps_of events) over.ran.allowed
 
   never : (page : ℕ) → map.contains_key memory (key_of page) ≡ true → SomeStep (IsPageRefused page) (steps_of events) → ⊥
-  never page there = not_refused memory over.image over.selecting lower old.state over.behind none page (steps_of events) there may (each_answers reading.pause events told.each)
+  never page there = not_refused memory over.image over.selecting lower old.state over.behind none page (steps_of events) there may (each_answers reading.request events told.each)
 
   -- the pages of the memory are listed
-  unlisted : (page : ℕ) (bytes : List ℕ) → IsAmong page (0x2F ∷ pages memory 0) → map.get memory (key_of page) ≡ Some bytes → IsNoneListed (steps_of events) → ⊥
+  unlisted : (page : ℕ) (bytes : List ℕ) → IsAmong page (groups_number ∷ bank_pages memory bank) → map.get memory (key_of page) ≡ Some bytes → IsNoneListed bank (steps_of events) → ⊥
   unlisted page bytes among there (inl refused) = never 0x01 (has_page (map.get memory (key_of 0x01)) has) refused
   unlisted page bytes among there (inr (inl (first, read, offered))) =
       let held = page_is memory over.image over.selecting old.state over.behind 0x01 first (steps_of events) may read in
       absurd (let clash : true ≡ false = sym has ∙ offered_by memory first held ∙ offered in cc)
-  unlisted page bytes among there (inr (inr refused)) = by (map.get memory (key_of 0x2F)) refl
+  unlisted page bytes among there (inr (inr refused)) = by (map.get memory (key_of groups_number)) refl
     where
-      by : (half : Option (List ℕ)) → map.get memory (key_of 0x2F) ≡ half → ⊥
-      by (Some of) held = never 0x2F (ap is_some held) refused
+      by : (half : Option (List ℕ)) → map.get memory (key_of groups_number) ≡ half → ⊥
+      by (Some of) held = never groups_number (ap is_some held) refused
       by None held =
-          let all : pages memory 0 ≡ 0x2F ∷ [] =
-          ap (λ (b : Bool). if b then option_map_or pages_of (groups memory 0) (0x2F ∷ []) else []) has
-          ∙ ap (λ (half : Option (List ℕ)). option_map_or pages_of (option_map (λ (bytes : List ℕ). byte_in bytes 128 % 4) half) (0x2F ∷ [])) held in
-          let is = alone page (subst (λ (listed : List ℕ). IsAmong page (0x2F ∷ listed)) all among) in
+          let all : bank_pages memory bank ≡ groups_number ∷ [] =
+          ap (λ (b : Bool). numbers_of bank (if b then option_map_or pages_of (groups memory bank) (0x2F ∷ []) else [])) has
+          ∙ ap (λ (half : Option (List ℕ)). numbers_of bank (option_map_or pages_of (option_map (λ (bytes : List ℕ). byte_in bytes 128 % 4) half) (0x2F ∷ [])))
+          (ap (λ (key : Key). map.get memory key) (groups_key bank) ∙ held) in
+          let is = alone page groups_number (subst (λ (listed : List ℕ). IsAmong page (groups_number ∷ listed)) all among) in
           absurd (let clash : Some bytes ≡ None = sym there ∙ ap (λ (n : ℕ). map.get memory (key_of n)) is ∙ held in cc)
 
   held_as : (page : ℕ) (bytes : List ℕ) → map.get memory (key_of page) ≡ Some bytes → map.contains_key reading.image (key_of page) ≡ true → map.get reading.image (key_of page) ≡ Some bytes
@@ -155,18 +164,18 @@ module _ (old new : Seen (List Directive × Windowed)) (memory : Memory) (events
       by true e = refl
       by false e = absurd (never page there (lost.lost_alone events reading told ended page among (ap not e)).0)
 
-  grouped : IsGrouped reading.image reading.pages.items (steps_of events) → AreAllRead memory reading
+  grouped : IsGrouped bank reading.image reading.pages.items (steps_of events) → AreAllRead memory reading
   grouped of page bytes (inl is) there =
-      let held = not-false (map.contains_key reading.image (key_of 0x2F)) of.there in
+      let held = not-false (map.contains_key reading.image (key_of groups_number)) of.there in
       (inl is, held_as page bytes there (ap (λ (n : ℕ). map.contains_key reading.image (key_of n)) is ∙ held))
   grouped of page bytes (inr among) there =
       let first_there = page_is memory over.image over.selecting old.state over.behind 0x01 of.first (steps_of events) may of.first_read in
-      let groups_there = page_is memory over.image over.selecting old.state over.behind 0x2F of.groups (steps_of events) may of.groups_read in
-      let all : pages memory 0 ≡ reading.pages.items = pages_by memory of.first of.groups first_there of.offered groups_there ∙ sym of.listed_are in
+      let groups_there = page_is memory over.image over.selecting old.state over.behind groups_number of.groups (steps_of events) may of.groups_read in
+      let all : bank_pages memory bank ≡ reading.pages.items = pages_by memory bank of.first of.groups first_there of.offered groups_there ∙ sym of.listed_are in
       let listed = subst (IsAmong page) all among in
       (inr listed, held_as page bytes there (listed_there page (ap is_some there) listed))
 
-  by_list : IsListed reading.image reading.pages.items (steps_of events) → AreAllRead memory reading
+  by_list : IsListed bank reading.image reading.pages.items (steps_of events) → AreAllRead memory reading
   by_list (inl nothing) page bytes among there = absurd (unlisted page bytes among there nothing.1)
   by_list (inr of) page bytes among there = grouped of page bytes among there
 

@@ -24,7 +24,7 @@ use Rattle.vdm_reading.specs.declared.reading.VdmStage.TheVariants as stage
 use Rattle.vdm_reading.specs.FrozenSteps as steps
 use Rattle.vdm_reading.specs.FrozenSteps.{freezing, is_freeze_done, is_unfreeze_done, read_done, read_half, releasing, store_control}
 use Rattle.vdm_reading.specs.VdmAccounts.{IsTold}
-use Rattle.vdm_reading.specs.VdmStages.{accepted_at, after, after_read_back, after_selection, after_work, asked, confirmed, enter, failed, frozen_by, fruitless, fruitless_by, kept, lost_at, may_be_frozen, next_by, page_at, read_at, refused_at, released_by, wants, work_at}
+use Rattle.vdm_reading.specs.VdmStages.{accepted_at, after, after_read_back, after_selection, after_work, asked, confirmed, enter, failed, frozen_by, fruitless, fruitless_by, kept, lost_at, may_be_frozen, next_by, page_now, read_at, refused_at, released_by, wants, work_at}
 use Rattle.vdm_reading.proofs.Told.{failed_same, fruitless_same, next_same}
 use Rattle.vdm_reading.proofs.WantedTurns.{by_turn, holds_told}
 
@@ -101,14 +101,14 @@ module _ (history : History) (reading : VdmReading) (knows : Knows history readi
   confirms bytes false = fails (read_selection BankAndPage) (Bytes bytes) refl
 
   backs : (reply : Reply) → Knows (step_of (read_selection BankAndPage) reply ∷ history) (after_read_back reading reply)
-  backs (Bytes bytes) = confirms bytes (is_known (selection_read BankAndPage bytes.items) (page_at reading.stage))
+  backs (Bytes bytes) = confirms bytes (is_known (selection_read BankAndPage bytes.items) (page_now reading))
   backs Done = fails (read_selection BankAndPage) Done refl
   backs Refused = fails (read_selection BankAndPage) Refused refl
 
-  selects : (reply : Reply) → let op = selection BankAndPage (page_at reading.stage) in Knows (step_of op reply ∷ history) (after_selection reading reply)
-  selects (Bytes bytes) = fails (selection BankAndPage (page_at reading.stage)) (Bytes bytes) refl
+  selects : (reply : Reply) → let op = selection BankAndPage (page_now reading) in Knows (step_of op reply ∷ history) (after_selection reading reply)
+  selects (Bytes bytes) = fails (selection BankAndPage (page_now reading)) (Bytes bytes) refl
   selects Done = record { same = knows.same; releasing = knows.releasing }
-  selects Refused = fails (selection BankAndPage (page_at reading.stage)) Refused refl
+  selects Refused = fails (selection BankAndPage (page_now reading)) Refused refl
 
   module _ (bytes : ArrayVec ℕ) where
     advertises : (has : Bool) (image : Memory) → let new = record reading { image = image } in
@@ -206,4 +206,4 @@ keeps history reading op reply asks answers knows =
 
 pub names : (events : Events) (reading : VdmReading) → IsTold events reading → may_be_frozen reading.release ≡ steps.may_be_frozen (steps_of events)
 names events reading told =
-    (holds_told Knows (λ pause. record { same = refl; releasing = tt }) keeps (λ history reading knows. record { same = knows.same; releasing = knows.releasing }) events reading told).same
+    (holds_told Knows (λ request. record { same = refl; releasing = tt }) keeps (λ history reading knows. record { same = knows.same; releasing = knows.releasing }) events reading told).same

@@ -25,11 +25,13 @@ use Rattle.paged_memory.proofs.KeyLaws.{keys_apart, keys_total}
 use Rattle.paged_memory.proofs.KnownPageLaws.{step_of}
 use Rattle.vdm_reading.specs.declared.end.Statistics.TheVariants as statistics
 use Rattle.vdm_reading.specs.declared.reading.VdmReading.{VdmReading}
+use Rattle.vdm_reading.specs.declared.reading.VdmRequest.{VdmRequest}
 use Rattle.vdm_reading.specs.declared.reading.VdmStage.{VdmStage}
 use Rattle.vdm_reading.specs.declared.reading.VdmStage.TheVariants as stage
+use Rattle.vdm_reading.specs.BankPages.{groups_page}
 use Rattle.vdm_reading.specs.FrozenSteps.{AreFrozen, AreSet, IsPageRead, IsShown, WasRead, WasRequested, WereSet, freezing, is_control_store, is_freeze_done, is_unfreeze_done, read_done, read_half, releasing, store_control}
 use Rattle.vdm_reading.specs.VdmAccounts.{IsTold, is_frozen}
-use Rattle.vdm_reading.specs.VdmStages.{accepted_at, after, after_read_back, after_selection, after_work, asked, begun, confirmed, enter, failed, frozen_by, fruitless, fruitless_by, kept, key_of, lost_at, may_be_frozen, next_by, over, page_at, put_in, read_at, refused_at, released_by, wants, work_at}
+use Rattle.vdm_reading.specs.VdmStages.{accepted_at, after, after_read_back, after_selection, after_work, asked, begun, confirmed, enter, failed, frozen_by, fruitless, fruitless_by, kept, key_of, lost_at, may_be_frozen, next_by, over, page_at, page_now, put_in, read_at, refused_at, released_by, wants, work_at}
 use Rattle.vdm_reading.proofs.ReleaseLaws.{asks_by}
 use Rattle.vdm_reading.proofs.ShownLaws.{Shown, is_shown, keeps_shown}
 use Rattle.vdm_reading.proofs.Told.{failed_same, fruitless_same, next_same}
@@ -72,64 +74,64 @@ abbrev AreRead : Memory → History → Type 0
 AreRead image history = (page : ℕ) (bytes : List ℕ) → map.get image (key_of page) ≡ Some bytes → WasRead page bytes history
 
 -- no page was read but those that advertise
-abbrev NoneYet : Memory → Type 0
-NoneYet image = (page : ℕ) (bytes : List ℕ) → page ≢ 0x01 → page ≢ 0x2F → map.get image (key_of page) ≡ Some bytes → ⊥
+abbrev NoneYet : ℕ → Memory → Type 0
+NoneYet bank image = (page : ℕ) (bytes : List ℕ) → page ≢ 0x01 → page ≢ groups_page bank → map.get image (key_of page) ≡ Some bytes → ⊥
 
 abbrev frozen : VdmReading → Bool
 frozen reading = is_frozen reading.statistics
 
-abbrev SetAt : VdmStage → Bool → Memory → History → Type 0
-SetAt stage.Advertised frozen image history = NoneYet image
-SetAt stage.Groups frozen image history = NoneYet image
-SetAt stage.Freeze frozen image history = NoneYet image
-SetAt stage.Freezing frozen image history = NoneYet image × WasRequested history
-SetAt (stage.Page page) frozen image history = (frozen ≡ true → AreFrozen history) × AreSet frozen image history
-SetAt stage.Release frozen image history = WereSet frozen image history
-SetAt stage.Releasing frozen image history = WereSet frozen image history
-SetAt stage.Over frozen image history = WereSet frozen image history
+abbrev SetAt : ℕ → VdmStage → Bool → Memory → History → Type 0
+SetAt bank stage.Advertised frozen image history = NoneYet bank image
+SetAt bank stage.Groups frozen image history = NoneYet bank image
+SetAt bank stage.Freeze frozen image history = NoneYet bank image
+SetAt bank stage.Freezing frozen image history = NoneYet bank image × WasRequested bank history
+SetAt bank (stage.Page page) frozen image history = (frozen ≡ true → AreFrozen bank history) × AreSet bank frozen image history
+SetAt bank stage.Release frozen image history = WereSet bank frozen image history
+SetAt bank stage.Releasing frozen image history = WereSet bank frozen image history
+SetAt bank stage.Over frozen image history = WereSet bank frozen image history
 
 abbrev Sets : History → VdmReading → Type 0
-Sets history reading = SetAt reading.stage (frozen reading) reading.image history
+Sets history reading = SetAt reading.request.bank reading.stage (frozen reading) reading.image history
 
-set_were : (frozen : Bool) (image : Memory) (history : History) → AreSet frozen image history → WereSet frozen image history
-set_were frozen image [] set = set
-set_were frozen image (step ∷ before) set = inl set
+set_were : (bank : ℕ) (frozen : Bool) (image : Memory) (history : History) → AreSet bank frozen image history → WereSet bank frozen image history
+set_were bank frozen image [] set = set
+set_were bank frozen image (step ∷ before) set = inl set
 
-none_set : (frozen : Bool) (image : Memory) (history : History) → NoneYet image → AreSet frozen image history
-none_set frozen image history none page bytes first second there = absurd (none page bytes first second there)
+none_set : (bank : ℕ) (frozen : Bool) (image : Memory) (history : History) → NoneYet bank image → AreSet bank frozen image history
+none_set bank frozen image history none page bytes first second there = absurd (none page bytes first second there)
 
-set_more : (frozen : Bool) (image : Memory) (step : Step) (history : History) → is_control_store step.op ≡ false → AreSet frozen image history → AreSet frozen image (step ∷ history)
-set_more frozen image step history quiet set page bytes first second there = inr (quiet, set page bytes first second there)
+set_more : (bank : ℕ) (frozen : Bool) (image : Memory) (step : Step) (history : History) → is_control_store step.op ≡ false → AreSet bank frozen image history → AreSet bank frozen image (step ∷ history)
+set_more bank frozen image step history quiet set page bytes first second there = inr (quiet, set page bytes first second there)
 
 not_frozen : {A : Type 0} → false ≡ true → A
 not_frozen e = absurd cc
 
-sets_more : (now : VdmStage) (frozen : Bool) (image : Memory) (step : Step) (history : History) → is_control_store step.op ≡ false → SetAt now frozen image history → SetAt now frozen image (step ∷ history)
-sets_more stage.Advertised frozen image step history quiet sets = sets
-sets_more stage.Groups frozen image step history quiet sets = sets
-sets_more stage.Freeze frozen image step history quiet sets = sets
-sets_more stage.Freezing frozen image step history quiet sets = (sets.0, inr (quiet, sets.1))
-sets_more (stage.Page page) frozen image step history quiet sets = ((λ is. inr (quiet, sets.0 is)), set_more frozen image step history quiet sets.1)
-sets_more stage.Release frozen image step history quiet sets = inr sets
-sets_more stage.Releasing frozen image step history quiet sets = inr sets
-sets_more stage.Over frozen image step history quiet sets = inr sets
+sets_more : (bank : ℕ) (now : VdmStage) (frozen : Bool) (image : Memory) (step : Step) (history : History) → is_control_store step.op ≡ false → SetAt bank now frozen image history → SetAt bank now frozen image (step ∷ history)
+sets_more bank stage.Advertised frozen image step history quiet sets = sets
+sets_more bank stage.Groups frozen image step history quiet sets = sets
+sets_more bank stage.Freeze frozen image step history quiet sets = sets
+sets_more bank stage.Freezing frozen image step history quiet sets = (sets.0, inr (quiet, sets.1))
+sets_more bank (stage.Page page) frozen image step history quiet sets = ((λ is. inr (quiet, sets.0 is)), set_more bank frozen image step history quiet sets.1)
+sets_more bank stage.Release frozen image step history quiet sets = inr sets
+sets_more bank stage.Releasing frozen image step history quiet sets = inr sets
+sets_more bank stage.Over frozen image step history quiet sets = inr sets
 
 -- ---- what comes next
 
 module _ (history : History) where
-  finish_sets : (may : Bool) (reading : VdmReading) → AreSet (frozen reading) reading.image history → Sets history (if may then enter stage.Release reading else over reading)
-  finish_sets true reading set = set_were (frozen reading) reading.image history set
-  finish_sets false reading set = set_were (frozen reading) reading.image history set
+  finish_sets : (may : Bool) (reading : VdmReading) → AreSet reading.request.bank (frozen reading) reading.image history → Sets history (if may then enter stage.Release reading else over reading)
+  finish_sets true reading set = set_were reading.request.bank (frozen reading) reading.image history set
+  finish_sets false reading set = set_were reading.request.bank (frozen reading) reading.image history set
 
-  next_sets : (todo : List ℕ) (reading : VdmReading) → (frozen reading ≡ true → AreFrozen history) → AreSet (frozen reading) reading.image history → Sets history (next_by todo reading)
+  next_sets : (todo : List ℕ) (reading : VdmReading) → (frozen reading ≡ true → AreFrozen reading.request.bank history) → AreSet reading.request.bank (frozen reading) reading.image history → Sets history (next_by todo reading)
   next_sets [] reading are set = finish_sets (may_be_frozen reading.release) reading set
   next_sets (page ∷ rest) reading are set = (are, set)
 
-  lost_sets : (now : VdmStage) (reading : VdmReading) → SetAt now (frozen reading) reading.image history → Sets history (lost_at now reading)
-  lost_sets stage.Advertised reading sets = set_were (frozen reading) reading.image history (none_set (frozen reading) reading.image history sets)
-  lost_sets stage.Groups reading sets = set_were (frozen reading) reading.image history (none_set (frozen reading) reading.image history sets)
-  lost_sets stage.Freeze reading sets = next_sets reading.todo.items (record reading { statistics = statistics.Refused }) (λ e. not_frozen e) (none_set false reading.image history sets)
-  lost_sets stage.Freezing reading sets = next_sets reading.todo.items (record reading { statistics = statistics.Pending }) (λ e. not_frozen e) (none_set false reading.image history sets.0)
+  lost_sets : (now : VdmStage) (reading : VdmReading) → SetAt reading.request.bank now (frozen reading) reading.image history → Sets history (lost_at now reading)
+  lost_sets stage.Advertised reading sets = set_were reading.request.bank (frozen reading) reading.image history (none_set reading.request.bank (frozen reading) reading.image history sets)
+  lost_sets stage.Groups reading sets = set_were reading.request.bank (frozen reading) reading.image history (none_set reading.request.bank (frozen reading) reading.image history sets)
+  lost_sets stage.Freeze reading sets = next_sets reading.todo.items (record reading { statistics = statistics.Refused }) (λ e. not_frozen e) (none_set reading.request.bank false reading.image history sets)
+  lost_sets stage.Freezing reading sets = next_sets reading.todo.items (record reading { statistics = statistics.Pending }) (λ e. not_frozen e) (none_set reading.request.bank false reading.image history sets.0)
   lost_sets (stage.Page page) reading sets = next_sets reading.todo.items reading sets.0 sets.1
   lost_sets stage.Release reading sets = sets
   lost_sets stage.Releasing reading sets = sets
@@ -161,14 +163,14 @@ module _ (history : History) (image : Memory) (page : ℕ) (bytes : ArrayVec ℕ
     | inr before ↦ inr (read other found before)
   ]
 
-  none_next : (page ≡ 0x01) ⊎ (page ≡ 0x2F) → NoneYet image → NoneYet next
-  none_next advertises none other found first second there = elim (put_found image page bytes.items other found there) [
+  none_next : (bank : ℕ) → (page ≡ 0x01) ⊎ (page ≡ groups_page bank) → NoneYet bank image → NoneYet bank next
+  none_next bank advertises none other found first second there = elim (put_found image page bytes.items other found there) [
     | inl now ↦ elim advertises [ inl is ↦ first (now.0 ∙ is) | inr is ↦ second (now.0 ∙ is) ]
     | inr before ↦ none other found first second before
   ]
 
-  set_next : (frozen : Bool) → (frozen ≡ true → AreFrozen history) → AreSet frozen image history → AreSet frozen next (step ∷ history)
-  set_next frozen are set other found first second there = elim (put_found image page bytes.items other found there) [
+  set_next : (bank : ℕ) (frozen : Bool) → (frozen ≡ true → AreFrozen bank history) → AreSet bank frozen image history → AreSet bank frozen next (step ∷ history)
+  set_next bank frozen are set other found first second there = elim (put_found image page bytes.items other found there) [
     | inl now ↦ inl (read_now other found now.0 now.1, are)
     | inr before ↦ inr (refl, set other found first second before)
   ]
@@ -184,14 +186,14 @@ Knows history reading = AreRead reading.image history × Sets history reading
 
 module _ (history : History) (reading : VdmReading) (read : AreRead reading.image history) (sets : Sets history reading) where
   abbrev page : ℕ
-  page = page_at reading.stage
+  page = page_now reading
 
   -- the image stays as it is
   same_read : (step : Step) (new : VdmReading) → new.image ≡ reading.image → AreRead new.image (step ∷ history)
   same_read step new same = subst (λ (image : Memory). AreRead image (step ∷ history)) (sym same) (λ page bytes there. inr (read page bytes there))
 
   more : (op : Op) (reply : Reply) → is_control_store op ≡ false → Sets (step_of op reply ∷ history) reading
-  more op reply quiet = sets_more reading.stage (frozen reading) reading.image (step_of op reply) history quiet sets
+  more op reply quiet = sets_more reading.request.bank reading.stage (frozen reading) reading.image (step_of op reply) history quiet sets
 
   fails : (op : Op) (reply : Reply) → is_control_store op ≡ false → Knows (step_of op reply ∷ history) (failed reading)
   fails op reply quiet = (same_read (step_of op reply) (failed reading) (failed_same reading).image, failed_sets (step_of op reply ∷ history) reading (more op reply quiet))
@@ -215,20 +217,20 @@ module _ (history : History) (reading : VdmReading) (read : AreRead reading.imag
   selects Refused = fails (selection BankAndPage page) Refused refl
 
   module _ (shown : IsShown page history) where
-    shown_at : (now : VdmStage) → reading.stage ≡ now → IsShown (page_at now) history
-    shown_at now is = subst (λ (now : VdmStage). IsShown (page_at now) history) is shown
+    shown_at : (now : VdmStage) → reading.stage ≡ now → IsShown (page_at reading.request.bank now) history
+    shown_at now is = subst (λ (now : VdmStage). IsShown (page_at reading.request.bank now) history) is shown
 
-    sets_at : (now : VdmStage) → reading.stage ≡ now → SetAt now (frozen reading) reading.image history
-    sets_at now is = subst (λ (now : VdmStage). SetAt now (frozen reading) reading.image history) is sets
+    sets_at : (now : VdmStage) → reading.stage ≡ now → SetAt reading.request.bank now (frozen reading) reading.image history
+    sets_at now is = subst (λ (now : VdmStage). SetAt reading.request.bank now (frozen reading) reading.image history) is sets
 
     module _ (bytes : ArrayVec ℕ) where
       advertises : reading.stage ≡ stage.Advertised → (has : Bool) → let new = kept 0x01 bytes.items reading in
           Knows (step_of read_half (Bytes bytes) ∷ history) (if has then enter stage.Groups new else enter stage.Over (record new { statistics = statistics.Unsupported }))
       advertises is true =
-          (reads_next history reading.image 0x01 bytes (shown_at stage.Advertised is) read, none_next history reading.image 0x01 bytes (shown_at stage.Advertised is) (inl refl) (sets_at stage.Advertised is))
+          (reads_next history reading.image 0x01 bytes (shown_at stage.Advertised is) read, none_next history reading.image 0x01 bytes (shown_at stage.Advertised is) reading.request.bank (inl refl) (sets_at stage.Advertised is))
       advertises is false = (
         reads_next history reading.image 0x01 bytes (shown_at stage.Advertised is) read,
-        (let none = none_next history reading.image 0x01 bytes (shown_at stage.Advertised is) (inl refl) (sets_at stage.Advertised is) in inl (none_set false (put_in reading.image 0x01 bytes.items) (step_of read_half (Bytes bytes) ∷ history) none)),
+        (let none = none_next history reading.image 0x01 bytes (shown_at stage.Advertised is) reading.request.bank (inl refl) (sets_at stage.Advertised is) in inl (none_set reading.request.bank false (put_in reading.image 0x01 bytes.items) (step_of read_half (Bytes bytes) ∷ history) none)),
       )
 
       freezes : reading.stage ≡ stage.Freezing → (done : Bool) → is_freeze_done bytes.items ≡ done → Knows (step_of read_done (Bytes bytes) ∷ history) (frozen_by done reading)
@@ -237,7 +239,7 @@ module _ (history : History) (reading : VdmReading) (read : AreRead reading.imag
           let new = record reading { statistics = statistics.Frozen } in (
             same_read step (next_by reading.todo.items new) (next_same reading.todo.items new).image,
             next_sets (step ∷ history) reading.todo.items new (λ e. inl (bytes.items, refl, refl, shows, shown_at stage.Freezing is, (sets_at stage.Freezing is).1))
-                (none_set true reading.image (step ∷ history) (sets_at stage.Freezing is).0),
+                (none_set reading.request.bank true reading.image (step ∷ history) (sets_at stage.Freezing is).0),
           )
       freezes is false shows = waits read_done (Bytes bytes) refl
 
@@ -253,7 +255,7 @@ module _ (history : History) (reading : VdmReading) (read : AreRead reading.imag
           let own : read_half ≡ work = cc in
           let shown = shown_at stage.Groups is in
           subst (λ op. Knows (step_of op (Bytes bytes) ∷ history) (read_at stage.Groups bytes.items reading)) own
-          (reads_next history reading.image 0x2F bytes shown read, none_next history reading.image 0x2F bytes shown (inr refl) (sets_at stage.Groups is))
+          (reads_next history reading.image (groups_page reading.request.bank) bytes shown read, none_next history reading.image (groups_page reading.request.bank) bytes shown reading.request.bank (inr refl) (sets_at stage.Groups is))
       reads stage.Freeze work is does answers =
           let own : store_control (freezing reading.control) ≡ work = cc in
           absurd (subst (λ op. Answers op (Bytes bytes)) (sym own) answers)
@@ -268,7 +270,7 @@ module _ (history : History) (reading : VdmReading) (read : AreRead reading.imag
           let step = step_of read_half (Bytes bytes) in
           subst (λ op. Knows (step_of op (Bytes bytes) ∷ history) (read_at (stage.Page number) bytes.items reading)) own (
             subst (λ (image : Memory). AreRead image (step ∷ history)) (sym (next_same reading.todo.items new).image) (reads_next history reading.image number bytes shown read),
-            next_sets (step ∷ history) reading.todo.items new (λ e. inr (refl, now.0 e)) (set_next history reading.image number bytes shown (frozen reading) now.0 now.1),
+            next_sets (step ∷ history) reading.todo.items new (λ e. inr (refl, now.0 e)) (set_next history reading.image number bytes shown reading.request.bank (frozen reading) now.0 now.1),
           )
       reads stage.Release work is does answers =
           let own : store_control (releasing reading.control) ≡ work = cc in
@@ -304,11 +306,11 @@ module _ (history : History) (reading : VdmReading) (read : AreRead reading.imag
     refuses stage.Advertised work is does = let own : read_half ≡ work = cc in subst (λ op. Knows (step_of op Refused ∷ history) (failed reading)) own (fails read_half Refused refl)
     refuses stage.Groups work is does = let own : read_half ≡ work = cc in subst (λ op. Knows (step_of op Refused ∷ history) (failed reading)) own (fails read_half Refused refl)
     refuses stage.Freeze work is does =
-        stored work (asked reading) refl (subst (λ (now : VdmStage). SetAt now (frozen reading) reading.image (step_of work Refused ∷ history)) (sym is) (sets_at stage.Freeze is))
+        stored work (asked reading) refl (subst (λ (now : VdmStage). SetAt reading.request.bank now (frozen reading) reading.image (step_of work Refused ∷ history)) (sym is) (sets_at stage.Freeze is))
     refuses stage.Freezing work is does = let own : read_done ≡ work = cc in subst (λ op. Knows (step_of op Refused ∷ history) (failed reading)) own (fails read_done Refused refl)
     refuses (stage.Page number) work is does = let own : read_half ≡ work = cc in subst (λ op. Knows (step_of op Refused ∷ history) (failed reading)) own (fails read_half Refused refl)
     refuses stage.Release work is does =
-        stored work reading refl (subst (λ (now : VdmStage). SetAt now (frozen reading) reading.image (step_of work Refused ∷ history)) (sym is) (inr (sets_at stage.Release is)))
+        stored work reading refl (subst (λ (now : VdmStage). SetAt reading.request.bank now (frozen reading) reading.image (step_of work Refused ∷ history)) (sym is) (inr (sets_at stage.Release is)))
     refuses stage.Releasing work is does = let own : read_done ≡ work = cc in subst (λ op. Knows (step_of op Refused ∷ history) (failed reading)) own (fails read_done Refused refl)
     refuses stage.Over work is does = absurd cc
 
@@ -329,8 +331,8 @@ keeps history reading op reply asks answers known =
 nothing : (page : ℕ) (bytes : List ℕ) → map.get {R = key_cmp} map.empty (key_of page) ≡ Some bytes → ⊥
 nothing page bytes there = (let none : None ≡ Some bytes = sym (map.get-empty key_cmp (key_of page)) ∙ there in cc)
 
-begins : (pause : ℕ) → Known [] (begun pause)
-begins pause = record { shown = tt; read = λ page bytes there. absurd (nothing page bytes there); sets = λ page bytes first second there. nothing page bytes there }
+begins : (request : VdmRequest) → Known [] (begun request)
+begins request = record { shown = tt; read = λ page bytes there. absurd (nothing page bytes there); sets = λ page bytes first second there. nothing page bytes there }
 
 known_now : (events : Events) (reading : VdmReading) → IsTold events reading → Known (steps_of events) reading
 known_now events reading told =
@@ -339,15 +341,15 @@ known_now events reading told =
 pub were_read : (events : Events) (reading : VdmReading) → IsTold events reading → (page : ℕ) (bytes : List ℕ) → map.get reading.image (key_of page) ≡ Some bytes → WasRead page bytes (steps_of events)
 were_read events reading told = (known_now events reading told).read
 
-were : (now : VdmStage) (frozen : Bool) (image : Memory) (history : History) → SetAt now frozen image history → WereSet frozen image history
-were stage.Advertised frozen image history sets = set_were frozen image history (none_set frozen image history sets)
-were stage.Groups frozen image history sets = set_were frozen image history (none_set frozen image history sets)
-were stage.Freeze frozen image history sets = set_were frozen image history (none_set frozen image history sets)
-were stage.Freezing frozen image history sets = set_were frozen image history (none_set frozen image history sets.0)
-were (stage.Page number) frozen image history sets = set_were frozen image history sets.1
-were stage.Release frozen image history sets = sets
-were stage.Releasing frozen image history sets = sets
-were stage.Over frozen image history sets = sets
+were : (bank : ℕ) (now : VdmStage) (frozen : Bool) (image : Memory) (history : History) → SetAt bank now frozen image history → WereSet bank frozen image history
+were bank stage.Advertised frozen image history sets = set_were bank frozen image history (none_set bank frozen image history sets)
+were bank stage.Groups frozen image history sets = set_were bank frozen image history (none_set bank frozen image history sets)
+were bank stage.Freeze frozen image history sets = set_were bank frozen image history (none_set bank frozen image history sets)
+were bank stage.Freezing frozen image history sets = set_were bank frozen image history (none_set bank frozen image history sets.0)
+were bank (stage.Page number) frozen image history sets = set_were bank frozen image history sets.1
+were bank stage.Release frozen image history sets = sets
+were bank stage.Releasing frozen image history sets = sets
+were bank stage.Over frozen image history sets = sets
 
-pub were_set : (events : Events) (reading : VdmReading) → IsTold events reading → WereSet (is_frozen reading.statistics) reading.image (steps_of events)
-were_set events reading told = were reading.stage (is_frozen reading.statistics) reading.image (steps_of events) (known_now events reading told).sets
+pub were_set : (events : Events) (reading : VdmReading) → IsTold events reading → WereSet reading.request.bank (is_frozen reading.statistics) reading.image (steps_of events)
+were_set events reading told = were reading.request.bank reading.stage (is_frozen reading.statistics) reading.image (steps_of events) (known_now events reading told).sets

@@ -19,7 +19,7 @@ use Rattle.vdm_reading.specs.declared.reading.VdmReading.{VdmReading}
 use Rattle.vdm_reading.specs.declared.reading.VdmStage.{VdmStage}
 use Rattle.vdm_reading.specs.declared.reading.VdmStage.TheVariants as stage
 use Rattle.vdm_reading.specs.FrozenSteps.{IsShown, IsTaken, freezing, is_freeze_done, is_unfreeze_done, read_done, read_half, releasing, store_control}
-use Rattle.vdm_reading.specs.VdmStages.{accepted_at, after, after_read_back, after_selection, after_work, asked, confirmed, enter, failed, frozen_by, fruitless, kept, next_by, page_at, read_at, refused_at, released_by, wants, work_at}
+use Rattle.vdm_reading.specs.VdmStages.{accepted_at, after, after_read_back, after_selection, after_work, asked, confirmed, enter, failed, frozen_by, fruitless, kept, next_by, page_now, read_at, refused_at, released_by, wants, work_at}
 use Rattle.vdm_reading.proofs.Told.{failed_same, fruitless_same, next_same}
 use Rattle.vdm_reading.proofs.WantedTurns.{by_turn}
 
@@ -29,11 +29,11 @@ Selected Open page history = IsTaken page history
 Selected (Page known) page history = IsShown known history
 
 abbrev pub Shown : History → VdmReading → Type 0
-Shown history reading = Selected reading.selection (page_at reading.stage) history
+Shown history reading = Selected reading.selection (page_now reading) history
 
 module _ (history : History) (reading : VdmReading) (shown : Shown history reading) where
   abbrev page : ℕ
-  page = page_at reading.stage
+  page = page_now reading
 
   -- the page of the stage is shown
   pub is_shown : reading.selection ≡ Page page → IsShown page history
@@ -45,7 +45,7 @@ module _ (history : History) (reading : VdmReading) (shown : Shown history readi
 
   -- nothing is known after a failure
   unknown : (old : VdmReading) (op : Op) (reply : Reply) → Shown (step_of op reply ∷ history) (failed old)
-  unknown old op reply = subst (λ (selected : KnownPage). Selected selected (page_at (failed old).stage) (step_of op reply ∷ history)) (sym (failed_same old).selection) tt
+  unknown old op reply = subst (λ (selected : KnownPage). Selected selected (page_now (failed old)) (step_of op reply ∷ history)) (sym (failed_same old).selection) tt
 
   confirms : (bytes : ArrayVec ℕ) (shows : Bool) → is_known (selection_read BankAndPage bytes.items) page ≡ shows → Shown (step_of (read_selection BankAndPage) (Bytes bytes) ∷ history) (confirmed shows reading)
   confirms bytes true is = ap (λ (b : Bool). b || is_page_confirmed BankAndPage page (since_refusal history)) (read_tells BankAndPage bytes.items page ∙ is)
@@ -65,7 +65,7 @@ module _ (history : History) (reading : VdmReading) (shown : Shown history readi
     -- the selection is left alone
     stays : (op : Op) (reply : Reply) (new : VdmReading) → new.selection ≡ reading.selection → IsShown page (step_of op reply ∷ history) → Shown (step_of op reply ∷ history) new
     stays op reply new same still =
-        subst (λ (selected : KnownPage). Selected selected (page_at new.stage) (step_of op reply ∷ history)) (sym (same ∙ on)) still
+        subst (λ (selected : KnownPage). Selected selected (page_now new) (step_of op reply ∷ history)) (sym (same ∙ on)) still
 
     module _ (bytes : ArrayVec ℕ) where
       advertises : (has : Bool) (image : Memory) → let new = record reading { image = image } in

@@ -16,8 +16,9 @@ use Rattle.paged_memory.specs.PageAddressing.{History, read_selection, selection
 use Rattle.paged_memory.proofs.KnownPageLaws.{step_of}
 use Rattle.vdm_reading.specs.declared.end.VdmEnd.{VdmEnd}
 use Rattle.vdm_reading.specs.declared.reading.VdmReading.{VdmReading}
+use Rattle.vdm_reading.specs.declared.reading.VdmRequest.{VdmRequest}
 use Rattle.vdm_reading.specs.VdmAccounts.{EachIsWanted, IsTold, reading_after}
-use Rattle.vdm_reading.specs.VdmStages.{after, after_missing, after_pause, after_read_back, after_selection, after_work, begun, page_at, rested, turn_by, wants, work_at}
+use Rattle.vdm_reading.specs.VdmStages.{after, after_missing, after_pause, after_read_back, after_selection, after_work, begun, page_now, rested, turn_by, wants, work_at}
 
 no_wait : (due : Bool) (pause : ℕ) (op asked : Op) → after_pause due pause asked ≡ Do op → asked ≡ op
 no_wait true pause op asked asks = absurd cc
@@ -25,7 +26,7 @@ no_wait false pause op asked asks = cc
 
 module _ (reading : VdmReading) (reply : Reply) (P : Op → VdmReading → Type 0) where
   abbrev page : ℕ
-  page = page_at reading.stage
+  page = page_now reading
 
   -- a read back that is awaited
   abbrev pub Backs : Type 0
@@ -54,7 +55,7 @@ module _ (reading : VdmReading) (reply : Reply) (P : Op → VdmReading → Type 
 
     by_work : (next : Next VdmEnd) (op : Op) → work_at reading reading.stage ≡ next → turn_by reading next ≡ Do op → P op (after reading reply)
     by_work (Do work) op does asks =
-        by_selection reading.selection work op does refl (no_wait reading.due reading.pause op (wanted BankAndPage reading.selection (Some page) work) asks)
+        by_selection reading.selection work op does refl (no_wait reading.due reading.request.pause op (wanted BankAndPage reading.selection (Some page) work) asks)
     by_work (Wait time) op does asks = absurd cc
     by_work (End end) op does asks = absurd cc
 
@@ -63,15 +64,15 @@ module _ (reading : VdmReading) (reply : Reply) (P : Op → VdmReading → Type 
 
 -- what each reply keeps holds of all that was told
 module _ (I : History → VdmReading → Type 0)
-    (begins : (pause : ℕ) → I [] (begun pause))
+    (begins : (request : VdmRequest) → I [] (begun request))
     (keeps : (history : History) (reading : VdmReading) (op : Op) (reply : Reply) → wants reading ≡ Do op → Answers op reply → I history reading → I (step_of op reply ∷ history) (after reading reply))
     (rests : (history : History) (reading : VdmReading) → I history reading → I history (rested reading)) where
-  pub holds : (pause : ℕ) (events : Events) → EachIsWanted pause events → I (steps_of events) (reading_after pause events)
-  holds pause [] each = begins pause
-  holds pause (Made step ∷ before) each = keeps (steps_of before) (reading_after pause before) step.op step.reply each.0 each.1 (holds pause before each.2)
-  holds pause (Waited time ∷ before) each = rests (steps_of before) (reading_after pause before) (holds pause before each.1)
-  holds pause (Lacked number ∷ before) each = holds pause before each
-  holds pause (Asked number ∷ before) each = holds pause before each
+  pub holds : (request : VdmRequest) (events : Events) → EachIsWanted request events → I (steps_of events) (reading_after request events)
+  holds request [] each = begins request
+  holds request (Made step ∷ before) each = keeps (steps_of before) (reading_after request before) step.op step.reply each.0 each.1 (holds request before each.2)
+  holds request (Waited time ∷ before) each = rests (steps_of before) (reading_after request before) (holds request before each.1)
+  holds request (Lacked number ∷ before) each = holds request before each
+  holds request (Asked number ∷ before) each = holds request before each
 
   pub holds_told : (events : Events) (reading : VdmReading) → IsTold events reading → I (steps_of events) reading
-  holds_told events reading told = subst (λ (r : VdmReading). I (steps_of events) r) (sym told.is) (holds reading.pause events told.each)
+  holds_told events reading told = subst (λ (r : VdmReading). I (steps_of events) r) (sym told.is) (holds reading.request events told.each)

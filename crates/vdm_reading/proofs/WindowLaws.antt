@@ -26,6 +26,7 @@ use Rattle.paged_memory.proofs.WindowHistories.{IsOf, May, Shows, State, found, 
 use Rattle.paged_memory.proofs.WindowReads.{reads_page}
 use Rattle.paged_memory.proofs.WindowRuns.{always, shown_two}
 use Rattle.vdm_reading.specs.declared.reading.VdmReading.{VdmReading}
+use Rattle.vdm_reading.specs.declared.reading.VdmRequest.{VdmRequest}
 use Rattle.vdm_reading.specs.declared.reading.VdmStage.TheVariants.{Over}
 use Rattle.vdm_reading.specs.FrozenSteps.{IsPageRefused, IsTaken, SomeStep, WasRead, read_half}
 use Rattle.vdm_reading.specs.VdmAccounts.{EachIsWanted, IsAmong, IsTold}
@@ -56,12 +57,12 @@ confirmed_all page (step ∷ before) e = by (is_refused step.reply) (confirmed_a
 abbrev pub EachAnswers : History → Type 0
 EachAnswers history = EachStep (λ step before. Answers step.op step.reply) history
 
-pub each_answers : (pause : ℕ) (events : Events) → EachIsWanted pause events → EachAnswers (steps_of events)
-each_answers pause [] each = tt
-each_answers pause (Made step ∷ before) (wanted, answers, each) = (answers, each_answers pause before each)
-each_answers pause (Waited time ∷ before) (wanted, each) = each_answers pause before each
-each_answers pause (Lacked page ∷ before) each = each_answers pause before each
-each_answers pause (Asked number ∷ before) each = each_answers pause before each
+pub each_answers : (request : VdmRequest) (events : Events) → EachIsWanted request events → EachAnswers (steps_of events)
+each_answers request [] each = tt
+each_answers request (Made step ∷ before) (wanted, answers, each) = (answers, each_answers request before each)
+each_answers request (Waited time ∷ before) (wanted, each) = each_answers request before each
+each_answers request (Lacked page ∷ before) each = each_answers request before each
+each_answers request (Asked number ∷ before) each = each_answers request before each
 
 -- ---- a window of the memory
 
@@ -128,7 +129,7 @@ module _ (old new : Seen (List Directive × Windowed)) (memory : Memory) (events
       by true e = refl
       by false e =
           let lost_so = lost.lost_alone events reading told ended page among (ap not e) in
-          absurd (unrefused memory over.image over.selecting old.state over.behind page (steps_of events) has may (each_answers reading.pause events told.each) none lost_so.0)
+          absurd (unrefused memory over.image over.selecting old.state over.behind page (steps_of events) has may (each_answers reading.request events told.each) none lost_so.0)
 
   pub whole : reading.stage ≡ Over → NoneRefused (steps_of events) → (page : ℕ) → IsAmong page reading.pages.items → map.get reading.image (key_of page) ≡ map.get memory (key_of page)
   whole ended none page among = by (map.get reading.image (key_of page)) (map.get memory (key_of page)) refl refl

@@ -1,4 +1,4 @@
--- What steps on a module's bus say of its statistics (VDM), the newest first: which pages were read, whether the statistics were frozen
+-- What steps on a module's bus show of the statistics (VDM) of a bank, the newest first: which pages were read, whether the statistics were frozen
 -- then, and whether they may be frozen still. (OIF-CMIS-05.0, "VDM Advertisement and Control", page 2Fh: FreezeRequest in bit 7 of byte
 -- 144, FreezeDone and UnfreezeDone in bits 7 and 6 of byte 145)
 use Rattle.std.specs.Prelude.{◌≡◌, ◌≢◌, ◌⊎◌, ℕ, ◌+◌, ◌*◌, ◌/◌, ◌%◌, ◌==◌, ◌&&◌, ◌||◌, nat_lt, not, Bool, true, false, List, [], ◌∷◌, Some, if◌then◌else◌, slice_index}
@@ -16,6 +16,7 @@ use Rattle.paged_memory.specs.declared.page_addressing.PageAddressing.TheVariant
 use Rattle.paged_memory.specs.Images.{Memory}
 use Rattle.paged_memory.specs.Keys.{page_key}
 use Rattle.paged_memory.specs.PageAddressing.{History, is_page, is_page_confirmed, read_selection, selection}
+use Rattle.vdm_reading.specs.BankPages.{groups_page}
 
 -- ---- operations
 
@@ -72,15 +73,15 @@ asks_freeze (Store A0 offset bytes) = offset == 144 && not (nat_lt (slice_index 
 asks_freeze (Store A2 offset bytes) = false
 asks_freeze (Fetch dev offset count) = false
 
--- the byte of page 2Fh as it was read, but for bit 7, is stored on that page
-abbrev pub IsControlStep : Step → History → Type 0
-IsControlStep step before =
-    (bytes : List ℕ) × WasRead 0x2F bytes before × IsShown 0x2F before
+-- the byte of page 2Fh of the bank as it was read, but for bit 7, is stored on that page
+abbrev pub IsControlStep : ℕ → Step → History → Type 0
+IsControlStep bank step before =
+    (bytes : List ℕ) × WasRead (groups_page bank) bytes before × IsShown (groups_page bank) before
     × ((step.op ≡ store_control (freezing (slice_index bytes 16))) ⊎ (step.op ≡ store_control (releasing (slice_index bytes 16))))
 
 -- a fetch, the selection of a page, or a change of bit 7
-abbrev pub IsReadingStep : Step → History → Type 0
-IsReadingStep step before = IsFetch step.op ⊎ (((page : ℕ) × (step.op ≡ selection BankAndPage page)) ⊎ IsControlStep step before)
+abbrev pub IsReadingStep : ℕ → Step → History → Type 0
+IsReadingStep bank step before = IsFetch step.op ⊎ (((page : ℕ) × (step.op ≡ selection BankAndPage page)) ⊎ IsControlStep bank step before)
 
 -- a freeze was asked for, taken or refused, and no request since then that was taken ended it
 abbrev pub may_be_frozen_by : Op → Reply → Bool → Bool
@@ -93,38 +94,38 @@ may_be_frozen (step ∷ before) = may_be_frozen_by step.op step.reply (may_be_fr
 -- ---- while they were frozen
 
 -- a freeze was accepted, and nothing was stored in the control byte since
-abbrev pub WasRequested : History → Type 0
-WasRequested [] = ⊥
-WasRequested (step ∷ before) =
-    ((asks_freeze step.op ≡ true) × (step.reply ≡ Done) × IsShown 0x2F before)
-    ⊎ ((is_control_store step.op ≡ false) × WasRequested before)
+abbrev pub WasRequested : ℕ → History → Type 0
+WasRequested bank [] = ⊥
+WasRequested bank (step ∷ before) =
+    ((asks_freeze step.op ≡ true) × (step.reply ≡ Done) × IsShown (groups_page bank) before)
+    ⊎ ((is_control_store step.op ≡ false) × WasRequested bank before)
 
 -- the module showed after that that it has frozen them
-abbrev pub IsDoneStep : Step → History → Type 0
-IsDoneStep step before =
-    (bytes : List ℕ) × (step.op ≡ read_done) × (step.reply ≡ Bytes (record { items = bytes })) × (is_freeze_done bytes ≡ true) × IsShown 0x2F before × WasRequested before
+abbrev pub IsDoneStep : ℕ → Step → History → Type 0
+IsDoneStep bank step before =
+    (bytes : List ℕ) × (step.op ≡ read_done) × (step.reply ≡ Bytes (record { items = bytes })) × (is_freeze_done bytes ≡ true) × IsShown (groups_page bank) before × WasRequested bank before
 
 -- and nothing was stored in the control byte since
-abbrev pub AreFrozen : History → Type 0
-AreFrozen [] = ⊥
-AreFrozen (step ∷ before) = IsDoneStep step before ⊎ ((is_control_store step.op ≡ false) × AreFrozen before)
+abbrev pub AreFrozen : ℕ → History → Type 0
+AreFrozen bank [] = ⊥
+AreFrozen bank (step ∷ before) = IsDoneStep bank step before ⊎ ((is_control_store step.op ≡ false) × AreFrozen bank before)
 
 -- the page was read as these bytes, while the statistics were frozen if they are to be, and nothing was stored in the control byte since
-abbrev pub IsSetPage : Bool → ℕ → List ℕ → History → Type 0
-IsSetPage frozen page bytes [] = ⊥
-IsSetPage frozen page bytes (step ∷ before) =
-    (IsPageRead page bytes step before × (frozen ≡ true → AreFrozen before))
-    ⊎ ((is_control_store step.op ≡ false) × IsSetPage frozen page bytes before)
+abbrev pub IsSetPage : ℕ → Bool → ℕ → List ℕ → History → Type 0
+IsSetPage bank frozen page bytes [] = ⊥
+IsSetPage bank frozen page bytes (step ∷ before) =
+    (IsPageRead page bytes step before × (frozen ≡ true → AreFrozen bank before))
+    ⊎ ((is_control_store step.op ≡ false) × IsSetPage bank frozen page bytes before)
 
 -- each page of the image but those that advertise was read so
-abbrev pub AreSet : Bool → Memory → History → Type 0
-AreSet frozen image history =
-    (page : ℕ) (bytes : List ℕ) → page ≢ 0x01 → page ≢ 0x2F → map.get image (page_key page) ≡ Some bytes → IsSetPage frozen page bytes history
+abbrev pub AreSet : ℕ → Bool → Memory → History → Type 0
+AreSet bank frozen image history =
+    (page : ℕ) (bytes : List ℕ) → page ≢ 0x01 → page ≢ groups_page bank → map.get image (page_key page) ≡ Some bytes → IsSetPage bank frozen page bytes history
 
 -- all of them between the same two requests, or since the last one
-abbrev pub WereSet : Bool → Memory → History → Type 0
-WereSet frozen image [] = AreSet frozen image []
-WereSet frozen image (step ∷ before) = AreSet frozen image (step ∷ before) ⊎ WereSet frozen image before
+abbrev pub WereSet : ℕ → Bool → Memory → History → Type 0
+WereSet bank frozen image [] = AreSet bank frozen image []
+WereSet bank frozen image (step ∷ before) = AreSet bank frozen image (step ∷ before) ⊎ WereSet bank frozen image before
 
 -- ---- what failed
 

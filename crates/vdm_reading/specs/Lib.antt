@@ -1,3 +1,4 @@
+pub mod BankPages
 pub mod FrozenSteps
 pub mod VdmStages
 pub mod VdmAccounts

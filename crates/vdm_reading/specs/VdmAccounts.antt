@@ -12,24 +12,25 @@ use Rattle.vdm_reading.specs.declared.end.Statistics.{Statistics}
 use Rattle.vdm_reading.specs.declared.end.Statistics.TheVariants as statistics
 use Rattle.vdm_reading.specs.declared.end.VdmEnd.{VdmEnd}
 use Rattle.vdm_reading.specs.declared.reading.VdmReading.{VdmReading}
+use Rattle.vdm_reading.specs.declared.reading.VdmRequest.{VdmRequest}
 use Rattle.vdm_reading.specs.declared.reading.VdmStage.TheVariants as stage
 use Rattle.vdm_reading.specs.FrozenSteps.{IsPageRefused, SomeStep, hindrances}
 use Rattle.vdm_reading.specs.VdmStages.{after, begun, end_of, key_of, most_retries, rested, wants}
 
-abbrev pub reading_after : ℕ → Events → VdmReading
-reading_after pause [] = begun pause
-reading_after pause (Made step ∷ before) = after (reading_after pause before) step.reply
-reading_after pause (Waited time ∷ before) = rested (reading_after pause before)
-reading_after pause (Lacked page ∷ before) = reading_after pause before
-reading_after pause (Asked number ∷ before) = reading_after pause before
+abbrev pub reading_after : VdmRequest → Events → VdmReading
+reading_after request [] = begun request
+reading_after request (Made step ∷ before) = after (reading_after request before) step.reply
+reading_after request (Waited time ∷ before) = rested (reading_after request before)
+reading_after request (Lacked page ∷ before) = reading_after request before
+reading_after request (Asked number ∷ before) = reading_after request before
 
 -- each is what was wanted, and each reply one that it can have
-abbrev pub EachIsWanted : ℕ → Events → Type 0
-EachIsWanted pause [] = Unit {0}
-EachIsWanted pause (Made step ∷ before) = (wants (reading_after pause before) ≡ Do step.op) × Answers step.op step.reply × EachIsWanted pause before
-EachIsWanted pause (Waited time ∷ before) = (wants (reading_after pause before) ≡ Wait time) × EachIsWanted pause before
-EachIsWanted pause (Lacked page ∷ before) = EachIsWanted pause before
-EachIsWanted pause (Asked number ∷ before) = EachIsWanted pause before
+abbrev pub EachIsWanted : VdmRequest → Events → Type 0
+EachIsWanted request [] = Unit {0}
+EachIsWanted request (Made step ∷ before) = (wants (reading_after request before) ≡ Do step.op) × Answers step.op step.reply × EachIsWanted request before
+EachIsWanted request (Waited time ∷ before) = (wants (reading_after request before) ≡ Wait time) × EachIsWanted request before
+EachIsWanted request (Lacked page ∷ before) = EachIsWanted request before
+EachIsWanted request (Asked number ∷ before) = EachIsWanted request before
 
 abbrev pub is_frozen : Statistics → Bool
 is_frozen statistics.Unknown = false
@@ -40,14 +41,14 @@ is_frozen statistics.Frozen = true
 
 -- it was told these events
 pub record IsTold (events : Events) (reading : VdmReading) : Type 0 where
-  pub is : reading ≡ reading_after reading.pause events
-  pub each : EachIsWanted reading.pause events
+  pub is : reading ≡ reading_after reading.request events
+  pub each : EachIsWanted reading.request events
 
 -- it ended so
-pub record HasEnded (pause : ℕ) (events : Events) (end : VdmEnd) : Type 0 where
-  pub each : EachIsWanted pause events
-  pub over : (reading_after pause events).stage ≡ stage.Over
-  pub is : end ≡ end_of (reading_after pause events)
+pub record HasEnded (request : VdmRequest) (events : Events) (end : VdmEnd) : Type 0 where
+  pub each : EachIsWanted request events
+  pub over : (reading_after request events).stage ≡ stage.Over
+  pub is : end ≡ end_of (reading_after request events)
 
 -- ---- how much was read
 

@@ -8,7 +8,7 @@ use Rattle.bus_model.specs.declared.operation.Reply.TheVariants.{Bytes, Done, Re
 use Rattle.conversations.specs.declared.next.Next.{Next}
 use Rattle.conversations.specs.declared.next.Next.TheVariants.{Do, Wait, End}
 use Rattle.field_tables.specs.Halves.{is_absent}
-use Rattle.observables.specs.Pages.{has_observables, pages}
+use Rattle.observables.specs.Pages.{has_observables}
 use Rattle.paged_memory.specs.declared.key.Key.{Key}
 use Rattle.paged_memory.specs.declared.page_addressing.PageAddressing.TheVariants.{BankAndPage}
 use Rattle.paged_memory.specs.declared.page_addressing.KnownPage.TheVariants as selected
@@ -16,12 +16,14 @@ use Rattle.paged_memory.specs.Images.{Memory, most_pages}
 use Rattle.paged_memory.specs.Keys.{page_key}
 use Rattle.paged_memory.specs.KnownPages.{is_awaited, is_known, missing_page, selection_read, wanted}
 use Rattle.vdm_reading.specs.declared.reading.VdmReading.{VdmReading}
+use Rattle.vdm_reading.specs.declared.reading.VdmRequest.{VdmRequest}
 use Rattle.vdm_reading.specs.declared.end.Release.{Release}
 use Rattle.vdm_reading.specs.declared.end.Release.TheVariants as release
 use Rattle.vdm_reading.specs.declared.end.Statistics.TheVariants as statistics
 use Rattle.vdm_reading.specs.declared.end.VdmEnd.{VdmEnd}
 use Rattle.vdm_reading.specs.declared.reading.VdmStage.{VdmStage}
 use Rattle.vdm_reading.specs.declared.reading.VdmStage.TheVariants as stage
+use Rattle.vdm_reading.specs.BankPages.{bank_pages, groups_page}
 use Rattle.vdm_reading.specs.FrozenSteps.{freezing, is_freeze_done, is_unfreeze_done, read_done, read_half, releasing, store_control}
 
 -- ---- how often a transaction may fail
@@ -56,9 +58,9 @@ key_of page = page_key page
 abbrev pub put_in : Memory → ℕ → List ℕ → Memory
 put_in image page bytes = if finite.len image == most_pages && is_absent image (key_of page) then image else finite.insert image (key_of page) bytes
 
-abbrev pub begun : ℕ → VdmReading
-begun pause = record {
-  pause = pause;
+abbrev pub begun : VdmRequest → VdmReading
+begun request = record {
+  request = request;
   stage = stage.Advertised;
   image = finite.empty;
   selection = selected.Unknown;
@@ -97,15 +99,18 @@ end_of reading = record {
 
 -- ---- what is asked for
 
-abbrev pub page_at : VdmStage → ℕ
-page_at stage.Advertised = 0x01
-page_at stage.Groups = 0x2F
-page_at stage.Freeze = 0x2F
-page_at stage.Freezing = 0x2F
-page_at (stage.Page page) = page
-page_at stage.Release = 0x2F
-page_at stage.Releasing = 0x2F
-page_at stage.Over = 0x2F
+abbrev pub page_at : ℕ → VdmStage → ℕ
+page_at bank stage.Advertised = 0x01
+page_at bank stage.Groups = groups_page bank
+page_at bank stage.Freeze = groups_page bank
+page_at bank stage.Freezing = groups_page bank
+page_at bank (stage.Page page) = page
+page_at bank stage.Release = groups_page bank
+page_at bank stage.Releasing = groups_page bank
+page_at bank stage.Over = groups_page bank
+
+abbrev pub page_now : VdmReading → ℕ
+page_now reading = page_at reading.request.bank reading.stage
 
 abbrev pub work_at : VdmReading → VdmStage → Next VdmEnd
 work_at reading stage.Advertised = Do read_half
@@ -121,7 +126,7 @@ abbrev pub after_pause : Bool → ℕ → Op → Next VdmEnd
 after_pause due pause op = if due then Wait pause else Do op
 
 abbrev pub turn : VdmReading → Op → Next VdmEnd
-turn reading op = after_pause reading.due reading.pause (wanted BankAndPage reading.selection (Some (page_at reading.stage)) op)
+turn reading op = after_pause reading.due reading.request.pause (wanted BankAndPage reading.selection (Some (page_now reading)) op)
 
 -- on its page, after a pause if one is due
 abbrev pub turn_by : VdmReading → Next VdmEnd → Next VdmEnd
@@ -181,10 +186,10 @@ after_selection reading Done = record reading { selection = selected.Open }
 after_selection reading Refused = failed reading
 
 abbrev pub confirmed : Bool → VdmReading → VdmReading
-confirmed shows reading = if shows then record reading { selection = selected.Page (page_at reading.stage) } else failed reading
+confirmed shows reading = if shows then record reading { selection = selected.Page (page_now reading) } else failed reading
 
 abbrev pub after_read_back : VdmReading → Reply → VdmReading
-after_read_back reading (Bytes bytes) = confirmed (is_known (selection_read BankAndPage bytes.items) (page_at reading.stage)) reading
+after_read_back reading (Bytes bytes) = confirmed (is_known (selection_read BankAndPage bytes.items) (page_now reading)) reading
 after_read_back reading Done = failed reading
 after_read_back reading Refused = failed reading
 
@@ -197,8 +202,8 @@ advertised reading = if has_observables reading.image then enter stage.Groups re
 abbrev pub grouped : ℕ → VdmReading → VdmReading
 grouped control reading =
     enter stage.Freeze (record reading {
-      pages = record { items = pages reading.image 0 };
-      todo = record { items = pages reading.image 0 };
+      pages = record { items = bank_pages reading.image reading.request.bank };
+      todo = record { items = bank_pages reading.image reading.request.bank };
       control = control;
     })
 
@@ -213,7 +218,7 @@ released_by done reading = if done then over (record reading { release = release
 
 abbrev pub read_at : VdmStage → List ℕ → VdmReading → VdmReading
 read_at stage.Advertised bytes reading = advertised (kept 0x01 bytes reading)
-read_at stage.Groups bytes reading = grouped (slice_index bytes 16) (kept 0x2F bytes reading)
+read_at stage.Groups bytes reading = grouped (slice_index bytes 16) (kept (groups_page reading.request.bank) bytes reading)
 read_at stage.Freeze bytes reading = failed reading
 read_at stage.Freezing bytes reading = frozen_by (is_freeze_done bytes) reading
 read_at (stage.Page page) bytes reading = next_page (kept page bytes reading)
@@ -254,7 +259,7 @@ after_missing (Some page) reading reply = after_selection reading reply
 abbrev pub after : VdmReading → Reply → VdmReading
 after reading reply =
     if is_awaited reading.selection then after_read_back reading reply
-    else after_missing (missing_page reading.selection (Some (page_at reading.stage))) reading reply
+    else after_missing (missing_page reading.selection (Some (page_now reading))) reading reply
 
 -- it has paused
 abbrev pub rested : VdmReading → VdmReading

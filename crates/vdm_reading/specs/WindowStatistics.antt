@@ -8,7 +8,6 @@ use Rattle.bus_model.specs.Runs.{Ran, Seen}
 use Rattle.bus_model.specs.ScriptedBus.{script_rules}
 use Rattle.conversations.specs.Events.{Events, steps_of}
 use Rattle.conversations.specs.Pauses.{is_refused}
-use Rattle.observables.specs.Pages.{pages}
 use Rattle.paged_memory.specs.declared.page_addressing.PageAddressing.TheVariants.{BankAndPage}
 use Rattle.paged_memory.specs.Images.{Memory}
 use Rattle.paged_memory.specs.ImageText.{IsImage}
@@ -16,6 +15,7 @@ use Rattle.paged_memory.specs.MappedPages.{selecting_on}
 use Rattle.paged_memory.specs.PageAddressing.{EachStep, History}
 use Rattle.paged_memory.specs.Windows.{Windowed, window_conduct}
 use Rattle.vdm_reading.specs.declared.reading.VdmReading.{VdmReading}
+use Rattle.vdm_reading.specs.BankPages.{bank_pages, groups_page}
 use Rattle.vdm_reading.specs.VdmAccounts.{IsAmong}
 use Rattle.vdm_reading.specs.VdmStages.{key_of}
 
@@ -30,8 +30,9 @@ pub record AreOverWindow (old new : Seen (List Directive × Windowed)) (memory :
 abbrev pub NoneRefused : History → Type 0
 NoneRefused history = EachStep (λ step before. is_refused step.reply ≡ false) history
 
--- each page of statistics that the memory advertises and has was read, and is listed
+-- each page of statistics that the memory advertises of the bank and has was read, and is listed
 abbrev pub AreAllRead : Memory → VdmReading → Type 0
 AreAllRead memory reading =
-    (page : ℕ) (bytes : List ℕ) → IsAmong page (0x2F ∷ pages memory 0) → map.get memory (key_of page) ≡ Some bytes
-    → IsAmong page (0x2F ∷ reading.pages.items) × (map.get reading.image (key_of page) ≡ Some bytes)
+    let groups = groups_page reading.request.bank in
+    (page : ℕ) (bytes : List ℕ) → IsAmong page (groups ∷ bank_pages memory reading.request.bank) → map.get memory (key_of page) ≡ Some bytes
+    → IsAmong page (groups ∷ reading.pages.items) × (map.get reading.image (key_of page) ≡ Some bytes)

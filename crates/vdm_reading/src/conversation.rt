@@ -1,5 +1,5 @@
 use crate::end::VdmEnd;
-use crate::reading::VdmReading;
+use crate::reading::{VdmReading, VdmRequest};
 use bus_model::Reply;
 use conversations::{Conversation, Next};
 
@@ -7,11 +7,11 @@ impl Conversation for VdmReading {
     ghost use Rattle.vdm_reading.specs.VdmAccounts.{EachIsWanted, HasEnded, IsTold};
     ghost use Rattle.vdm_reading.specs.VdmStages.{after, wants};
 
-    type Topic = u32;
+    type Topic = VdmRequest;
 
     type End = VdmEnd;
 
-    ghost topic = { λ reading. reading.pause };
+    ghost topic = { λ reading. reading.request };
 
     ghost wants = { wants };
 
@@ -19,9 +19,9 @@ impl Conversation for VdmReading {
 
     ghost told = { λ events reading. IsTold events reading };
 
-    ghost ends = { λ pause events end. HasEnded pause events end };
+    ghost ends = { λ request events end. HasEnded request events end };
 
-    ghost goes_on = { λ pause events. EachIsWanted pause events };
+    ghost goes_on = { λ request events. EachIsWanted request events };
 
     fn next(&self) -> Next<VdmEnd> {
         self.wanted()

@@ -37,8 +37,8 @@ pub enum Release {
 pub struct VdmEnd {
     pub statistics: Statistics,
     pub release: Release,
-    /// Advertised pages that couldn't be read.
-    pub missing: ArrayVec<u8, MAX_PAGES>,
+    /// The numbers of advertised pages that couldn't be read.
+    pub missing: ArrayVec<u16, MAX_PAGES>,
 }
 
 impl Release {

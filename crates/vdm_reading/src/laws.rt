@@ -30,9 +30,10 @@ pub fn readings_end()
     ensures { (events : Events) (reading : VdmReading) → IsTold events reading → length (steps_of events) ≤ most_transactions }
 {}
 
-/// Each step is a fetch, the selection of a page, or a store of the control byte of page 2Fh as it was read, but for its bit 7.
+/// Each step is a fetch, the selection of a page, or a store of the control byte of page 2Fh of the bank as it was read, but for its
+/// bit 7.
 pub fn only_the_freeze_bit_is_stored()
-    ensures { (events : Events) (reading : VdmReading) → IsTold events reading → EachStep steps.IsReadingStep (steps_of events) }
+    ensures { (events : Events) (reading : VdmReading) → IsTold events reading → EachStep (steps.IsReadingStep reading.request.bank) (steps_of events) }
 {}
 
 /// What is called frozen was read after the module had shown that it has frozen it, and before anything else was stored in the control
@@ -41,7 +42,7 @@ pub fn what_is_called_frozen_belongs_together()
     ensures read { (events : Events) (reading : VdmReading) → IsTold events reading → (page : ℕ) (bytes : List ℕ) →
         map.get reading.image (key_of page) ≡ Some bytes → steps.WasRead page bytes (steps_of events) }
     ensures frozen { (events : Events) (reading : VdmReading) → IsTold events reading →
-        steps.WereSet (is_frozen reading.statistics) reading.image (steps_of events) }
+        steps.WereSet reading.request.bank (is_frozen reading.statistics) reading.image (steps_of events) }
 {}
 
 /// At the end each page that is advertised was read, or was refused on its own account, by more transactions than may be fruitless.
@@ -66,8 +67,8 @@ pub fn what_is_read_of_a_window_is_its_memory()
         → map.get reading.image (key_of page) ≡ map.get memory (key_of page) }
 {}
 
-/// Over a bus without a script, with a window of a memory that has its lower half and advertises statistics: at the end each page of these that
-/// the memory has was read, and is listed.
+/// Over a bus without a script, with a window of a memory that has its lower half and advertises statistics: at the end each page of those of the
+/// bank that the memory has was read, and is listed.
 pub fn a_window_that_nothing_hinders_is_read_whole()
     ensures { (old new : Seen (List Directive × Windowed)) (memory : Memory) (events : Events) (reading : VdmReading) → AreOverWindow old new memory events
         → old.state.0 ≡ [] → map.contains_key memory (lower_key A0) ≡ true → has_observables memory ≡ true → IsTold events reading → reading.stage ≡ Over

@@ -9,4 +9,4 @@ mod reading;
 mod turns;
 
 pub use end::{Release, Statistics, VdmEnd};
-pub use reading::{MOST_POLLS, MOST_RETRIES, VdmReading, VdmStage};
+pub use reading::{MOST_POLLS, MOST_RETRIES, VdmReading, VdmRequest, VdmStage, groups_page};

@@ -4,6 +4,7 @@ ghost use Rattle.bus_model.specs.declared.device.Dev.TheVariants.{A0};
 ghost use Rattle.bus_model.specs.declared.operation.Op.TheVariants.{Fetch};
 ghost use Rattle.bus_model.specs.Operations.{IsWellShaped};
 ghost use Rattle.conversations.specs.Wanted.{IfDo};
+ghost use Rattle.vdm_reading.specs.BankPages.{groups_page, numbered};
 ghost use Rattle.vdm_reading.specs.FrozenSteps as steps;
 ghost use Rattle.vdm_reading.specs.VdmAccounts as accounts;
 ghost use Rattle.vdm_reading.specs.VdmStages as spec;
@@ -25,14 +26,14 @@ pub const MOST_POLLS: u16 = 100;
 pub enum VdmStage {
     /// Read page 01h, whose byte 142 has whether there are statistics.
     Advertised,
-    /// Read page 2Fh, which has their groups and the control byte.
+    /// Read page 2Fh of the bank, which has their groups and the control byte.
     Groups,
     /// Ask for a freeze.
     Freeze,
     /// Wait until they are frozen.
     Freezing,
-    /// Read this page.
-    Page(u8),
+    /// Read the page with this number.
+    Page(u16),
     /// End the freeze.
     Release,
     /// Wait until it has ended.
@@ -40,12 +41,20 @@ pub enum VdmStage {
     Over,
 }
 
-/// A reading of statistics under way.
-#[derive(Drop)]
-pub struct VdmReading {
+/// Which statistics are read, and how.
+#[derive(Clone, Copy, Debug, PartialEq, Eq, Drop)]
+pub struct VdmRequest {
     /// So many milliseconds pass after a fruitless transaction: one that was refused, that showed another page, or in which a bit was
     /// not yet 1.
     pub pause: u32,
+    /// The bank whose statistics are read.
+    pub bank: u8,
+}
+
+/// A reading of the statistics of a bank under way. Pages go by their numbers, 256 * bank + page.
+#[derive(Drop)]
+pub struct VdmReading {
+    pub request: VdmRequest,
     pub stage: VdmStage,
     /// The pages that were read.
     pub image: SmallImage,
@@ -55,24 +64,38 @@ pub struct VdmReading {
     /// Whether a pause is due.
     pub due: bool,
     /// The pages that are advertised.
-    pub pages: ArrayVec<u8, MAX_PAGES>,
+    pub pages: ArrayVec<u16, MAX_PAGES>,
     /// Those of them that are still to be read, but for that of the stage.
-    pub todo: ArrayVec<u8, MAX_PAGES>,
+    pub todo: ArrayVec<u16, MAX_PAGES>,
     /// Byte 144 of page 2Fh as it was read.
     pub control: u8,
     pub statistics: Statistics,
     pub release: Release,
 }
 
+/// The number of the page that has the groups of a bank, and its control byte.
+pub fn groups_page(bank: u8) -> u16
+    ensures { result ≡ groups_page bank }
+{
+    numbered(bank, 0x2F)
+}
+
+// The number of a page of a bank.
+pub(crate) fn numbered(bank: u8, page: u8) -> u16
+    ensures { result ≡ numbered bank page }
+{
+    256 * u16::from(bank) + u16::from(page)
+}
+
 impl VdmStage {
-    /// The page on which that is done.
-    pub fn page(self) -> u8
-        ensures { result ≡ spec.page_at self }
+    /// The number of the page on which that is done, in a reading of this bank.
+    pub fn page(self, bank: u8) -> u16
+        ensures { result ≡ spec.page_at bank self }
     {
         match self {
             VdmStage::Advertised => 0x01,
             VdmStage::Page(page) => page,
-            _ => 0x2F,
+            _ => groups_page(bank),
         }
     }
 
@@ -90,12 +113,12 @@ impl VdmStage {
 
 impl VdmReading {
     /// Nothing was read or stored yet.
-    pub fn begin(pause: u32) -> VdmReading
-        ensures value { result ≡ spec.begun pause }
+    pub fn begin(request: VdmRequest) -> VdmReading
+        ensures value { result ≡ spec.begun request }
         ensures told { accounts.IsTold [] result }
     {
         VdmReading {
-            pause,
+            request,
             stage: VdmStage::Advertised,
             image: SmallImage::new(),
             selection: KnownPage::Unknown,
@@ -131,10 +154,17 @@ impl VdmReading {
         ensures shape { IfDo result IsWellShaped }
     {
         if self.due {
-            return Next::Wait(self.pause);
+            return Next::Wait(self.request.pause);
         }
-        let page = Some(u16::from(self.stage.page()));
+        let page = Some(self.current_page());
         Next::Do(self.selection.wanted(PageAddressing::BankAndPage, page, op))
+    }
+
+    /// The number of the page that is to be selected now.
+    pub fn current_page(&self) -> u16
+        ensures { result ≡ spec.page_now self.now }
+    {
+        self.stage.page(self.request.bank)
     }
 
     fn end(&self) -> VdmEnd
@@ -150,20 +180,20 @@ impl VdmReading {
 
 // Those that the image lacks.
 #[tactic(auto, unfolding(crate::specs::VdmStages::missing))]
-fn missing(pages: &[u8], image: &Image) -> ArrayVec<u8, MAX_PAGES>
+fn missing(pages: &[u16], image: &Image) -> ArrayVec<u16, MAX_PAGES>
     requires { length pages.now ≤ 16 }
     ensures { result.items ≡ spec.missing pages.now image.now }
 {
     let mut missing = ArrayVec::new();
     for page in pages {
-        let absent = !image.has(Key::of_page(u16::from(*page)));
+        let absent = !image.has(Key::of_page(*page));
         and_if(absent, *page, &mut missing);
     }
     missing
 }
 
 // One page more, if it is absent.
-fn and_if(absent: bool, page: u8, missing: &mut ArrayVec<u8, MAX_PAGES>)
+fn and_if(absent: bool, page: u16, missing: &mut ArrayVec<u16, MAX_PAGES>)
     requires { length missing.old.items < 16 }
     ensures items { missing.new.items ≡ missing.old.items ++ spec.and_if absent page [] }
     ensures few { length missing.new.items ≤ length missing.old.items + 1 }

@@ -1,14 +1,14 @@
 //! What a reply makes of a reading of statistics.
 ghost use Rattle.std.specs.Prelude.{◌≡◌, length, slice_index};
 ghost use Rattle.bus_model.specs.declared.operation.Reply.TheVariants.{Bytes};
-ghost use Rattle.observables.specs.Pages.{pages};
 ghost use Rattle.paged_memory.specs.declared.page_addressing.PageAddressing.TheVariants.{BankAndPage};
 ghost use Rattle.paged_memory.specs.KnownPages.{is_known, selection_read};
 ghost use Rattle.conversations.specs.Wanted.{IsReplyTo};
+ghost use Rattle.vdm_reading.specs.BankPages.{bank_pages};
 ghost use Rattle.vdm_reading.specs.VdmStages as spec;
 
 use crate::end::{MAX_PAGES, Release, Statistics};
-use crate::reading::{VdmReading, VdmStage};
+use crate::reading::{VdmReading, VdmStage, numbered};
 use arrayvec::ArrayVec;
 use bus_model::Reply;
 use observables::{advertised_pages, has_observables};
@@ -24,7 +24,7 @@ impl VdmReading {
             self.read_back(reply);
             return;
         }
-        match self.selection.missing(Some(u16::from(self.stage.page()))) {
+        match self.selection.missing(Some(self.current_page())) {
             Some(_page) => self.selected(reply),
             None => self.worked(reply),
         }
@@ -104,7 +104,7 @@ impl VdmReading {
         ensures { self.new ≡ spec.after_read_back self.old reply.now }
     {
         match reply {
-            Reply::Bytes(bytes) => self.confirm(shows(bytes, u16::from(self.stage.page()))),
+            Reply::Bytes(bytes) => self.confirm(shows(bytes, self.current_page())),
             _ => self.fail(),
         }
     }
@@ -113,7 +113,7 @@ impl VdmReading {
         ensures { self.new ≡ spec.confirmed shows self.old }
     {
         if shows {
-            self.selection = KnownPage::Page(u16::from(self.stage.page()));
+            self.selection = KnownPage::Page(self.current_page());
         } else {
             self.fail();
         }
@@ -179,15 +179,13 @@ impl VdmReading {
         }
     }
 
-    fn keep(&mut self, page: u8, bytes: &[u8])
+    fn keep(&mut self, page: u16, bytes: &[u8])
         requires { length bytes.now ≡ 128 }
         ensures { self.new ≡ spec.kept page bytes.now self.old }
     {
         let mut half = [0; PAGE_LEN];
         half.copy_from_slice(bytes);
-        let _full = self
-            .image
-            .put(Key::of_page(u16::from(page)), Page::from(half));
+        let _full = self.image.put(Key::of_page(page), Page::from(half));
     }
 
     fn advertised(&mut self, bytes: &[u8])
@@ -205,11 +203,11 @@ impl VdmReading {
 
     fn grouped(&mut self, bytes: &[u8])
         requires { length bytes.now ≡ 128 }
-        ensures { self.new ≡ spec.grouped (slice_index bytes.now 16) (spec.kept 0x2F bytes.now self.old) }
+        ensures { self.new ≡ spec.grouped (slice_index bytes.now 16) (spec.kept (spec.page_now self.old) bytes.now self.old) }
     {
-        self.keep(0x2F, bytes);
-        self.pages = advertised(&self.image.view());
-        self.todo = advertised(&self.image.view());
+        self.keep(self.current_page(), bytes);
+        self.pages = advertised(&self.image.view(), self.request.bank);
+        self.todo = advertised(&self.image.view(), self.request.bank);
         self.control = bytes[16];
         self.enter(VdmStage::Freeze);
     }
@@ -237,11 +235,16 @@ impl VdmReading {
     }
 }
 
-// The pages that are advertised.
-fn advertised(image: &Image) -> ArrayVec<u8, MAX_PAGES>
-    ensures { result.items ≡ pages image.now 0 }
+// The numbers of the pages of a bank that are advertised.
+#[tactic(auto, using(crate::proofs::NumberedPages::numbers_more))]
+fn advertised(image: &Image, bank: u8) -> ArrayVec<u16, MAX_PAGES>
+    ensures { result.items ≡ bank_pages image.now bank }
 {
-    ArrayVec::try_from(advertised_pages(image, 0)).unwrap()
+    let mut numbers = ArrayVec::new();
+    for page in advertised_pages(image, bank) {
+        numbers.push(numbered(bank, *page));
+    }
+    numbers
 }
 
 // Whether a read back of these bytes shows the page.

@@ -8,5 +8,5 @@ use Rattle.firmware_api.proofs.vdm.dovecounter_vdm_begin.Goals as goal
 
 pub returns-clause-begun : goal.returns-clause-begun
 returns-clause-begun c halves =
-    subst (λ (count : ℕ). reading_in c.begin.result (memory_of (take count halves)) ≡ Some (begun c.args.pause)) (sym c.begin.ensures.halves)
-    (subst (λ (image : Memory). reading_in c.begin.result image ≡ Some (begun c.args.pause)) (sym (no_halves [])) c.begin.ensures.begun)
+    subst (λ (count : ℕ). reading_in c.begin.result (memory_of (take count halves)) ≡ Some (begun (record { pause = c.args.pause; bank = c.args.bank }))) (sym c.begin.ensures.halves)
+    (subst (λ (image : Memory). reading_in c.begin.result image ≡ Some (begun (record { pause = c.args.pause; bank = c.args.bank }))) (sym (no_halves [])) c.begin.ensures.begun)
