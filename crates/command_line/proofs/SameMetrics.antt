@@ -1,4 +1,4 @@
--- Metrics of what is read over a bus are those of the image, but for statistics (VDM) that bank 0 doesn't advertise.
+-- Metrics of what is read over a bus are those of the image, but for statistics (VDM) that their bank doesn't advertise.
 use Rattle.std.proofs.Common.{◌≡◌, ◌≢◌, ◌∙◌, ℕ, Bool, true, false, List, [], ◌∷◌, ◌++◌, Option, None, Result, Ok, Err, refl, sym, ap, subst, arith}
 use Rattle.std.proofs.lemmas.Grind.{flat_map-append}
 use Rattle.std.specs.Prelude.{option_map}

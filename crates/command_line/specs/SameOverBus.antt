@@ -1,4 +1,4 @@
--- That a report with `--bus` is the one without it, and so are metrics, but for statistics (VDM) that bank 0 doesn't advertise. (docs/formats.md,
+-- That a report with `--bus` is the one without it, and so are metrics, but for statistics (VDM) that their bank doesn't advertise. (docs/formats.md,
 -- "Reports over a bus"; this project's own)
 use Rattle.std.specs.Prelude.{◌≡◌, ◌≢◌, ◌≤◌, ◌∷◌, ◌++◌, [], ℕ, Bool, true, false, List, Option, Some, option_map, Ok, Err}
 use Rattle.std.specs.FinMap as map
@@ -78,7 +78,7 @@ AreReportedBefore labels request =
     (input : List ℕ) (answer : Answer) → IsAnswerOf (request true) input answer → ¬ (IsGivenUp answer) → answer ≢ Err Memory → answer ≢ Err Io
     → IsFollowedAnswer labels request input answer
 
--- of an image that has no other statistics than those that bank 0 advertises, the answer is that without `--bus`
+-- of an image that has no other statistics than those that its banks advertise, the answer is that without `--bus`
 abbrev pub AreReportedAlike : (Bool → Request) → Type 0
 AreReportedAlike request =
     (input : List ℕ) (answer : Answer) → ((memory : images.Memory) → IsTextOf (lines_of (image_of input)) memory → HasOwnStatistics memory)

@@ -29,7 +29,7 @@ pub fn what_is_planned_is_good()
 
 /// What a report prints with `--bus`, and how it ends, is what it prints without and how it ends then, with `--json` and without
 /// it, in colors or not, unless the module was not read whole, or an allocation or a read was refused. So it is with metrics, whatever labels they
-/// have, and whether all flags are reported or those that are raised, if the image has no other statistics (VDM) than those that bank 0 advertises. If it has
+/// have, and whether all flags are reported or those that are raised, if the image has no other statistics (VDM) than those that its banks advertise. If it has
 /// others, metrics differ in them alone.
 pub fn a_bus_changes_no_report()
     ensures reports { (report : ReportName) (options : Options) → IsReportedAlike (over_bus (Report report) options) }

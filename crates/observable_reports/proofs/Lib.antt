@@ -3,5 +3,7 @@ pub mod ExactTexts
 pub mod JsonDepths
 pub mod WordNumbers
 pub mod WindowStatistics
+mod BankReadings
+mod ObservingRuns
 pub mod WholeStatistics
 pub mod ObservingFaults

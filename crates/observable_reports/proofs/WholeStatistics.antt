@@ -1,16 +1,11 @@
 -- The statistics that are read of an image over a bus without a script are all that it advertises.
-use Rattle.std.proofs.Common.{◌≡◌, ◌∙◌, ℕ, ◌+◌, ◌-◌, ◌*◌, ◌≤◌, ◌<◌, ◌/◌, ◌%◌, ◌==◌, Bool, true, false, cond, nat_lt, List, [], ◌∷◌, Option, Some, None, Ok, is_some, reverse, refl, sym, ap, subst, inl, inr, if◌then◌else◌, arith}
+use Rattle.std.proofs.Common.{◌≡◌, ◌∙◌, ℕ, ◌+◌, ◌-◌, ◌*◌, ◌≤◌, ◌<◌, ◌/◌, ◌%◌, ◌==◌, ◌&&◌, Bool, true, false, nat_lt, List, [], ◌∷◌, Option, Some, None, Ok, is_some, refl, sym, ap, inl, inr, if◌then◌else◌, arith}
 use Rattle.std.proofs.lemmas.Bool.{le-ltb}
 use Rattle.std.specs.Prelude.{option_and_then, option_map, pos, unsigned_abs, unwrap_or}
 use Rattle.std.specs.FinMap as map
-use Rattle.std.specs.Cmp.{eq_by_cmp_equiv}
-use Rattle.std.specs.Option.{option_map_or}
 use Rattle.bus_model.specs.declared.device.Dev.TheVariants.{A0}
 use Rattle.bus_model.specs.declared.script.Directive.{Directive}
-use Rattle.bus_model.specs.Runs.{Ran, Rules, Seen}
 use Rattle.bus_model.specs.ScriptedBus.{script_rules}
-use Rattle.bus_model.proofs.Histories.{after_reverse}
-use Rattle.conversations.specs.Events.{Events}
 use Rattle.field_tables.specs.declared.field.Field.TheVariants.{CFlatMemory, CIdentifier}
 use Rattle.field_tables.specs.FieldValues.{value_in}
 use Rattle.field_tables.specs.Readings.{number, reading_at}
@@ -19,14 +14,14 @@ use Rattle.module_decoding.specs.CmisPages.{is_flat}
 use Rattle.observables.specs.declared.descriptor.Descriptor.{Descriptor}
 use Rattle.observables.specs.declared.instance.Instance.{Instance}
 use Rattle.observables.specs.declared.observation.Observation.{Observation}
-use Rattle.observables.specs.Banks.{bank_count}
+use Rattle.observables.specs.Banks.{bank_count, statistics_banks}
 use Rattle.observables.specs.Descriptors.{descriptor_of}
 use Rattle.observables.specs.Instances.{descriptor_at, instance_at}
 use Rattle.observables.specs.Limits.{flags_in, limits_in}
 use Rattle.observables.specs.Observables.{observable_of}
 use Rattle.observables.specs.Observations.{all_places, decoded, monitor_places, observation_at, observed, with_instance}
-use Rattle.observables.specs.Pages.{has_observables, pages}
-use Rattle.observables.specs.Words.{byte_in, page_of, word_in}
+use Rattle.observables.specs.Pages.{has_observables, is_cmis}
+use Rattle.observables.specs.Words.{page_of, word_in}
 use Rattle.paged_memory.specs.declared.family.Family.{Family}
 use Rattle.paged_memory.specs.declared.family.Family.TheVariants.{Cmis, Sff8636, Sff8472}
 use Rattle.paged_memory.specs.declared.key.Key.{Key}
@@ -34,61 +29,22 @@ use Rattle.paged_memory.specs.Families.{is_family, managed_by}
 use Rattle.paged_memory.specs.Images.{Memory}
 use Rattle.paged_memory.specs.ImageText.{IsImage}
 use Rattle.paged_memory.specs.Keys.{lower_key, page_key, upper_key}
-use Rattle.paged_memory.specs.PageAddressing.{History}
 use Rattle.paged_memory.specs.Windows.{Windowed, started, window_conduct}
-use Rattle.paged_memory.proofs.KeyLaws.{keys_total}
-use Rattle.reports.specs.FetchedImages.{AreBanksRead, IsFetching, with_page}
+use Rattle.reports.specs.FetchedImages.{AreBanksRead, IsFetching}
 use Rattle.reports.proofs.BesideFetched.{first_agrees, lanes_beside, offered_same}
-use Rattle.reports.proofs.FetchedLanes.{IsFetchedOf, fetched_is, fetched_lanes}
+use Rattle.reports.proofs.FetchedLanes.{fetched_is}
 use Rattle.reports.proofs.FetchedReports.{lanes_reports}
-use Rattle.reports.proofs.PutPages.{put_apart, put_same}
+use Rattle.reports.proofs.SameBanks.{same_count}
 use Rattle.reports.proofs.SameFamilies.{LanesAgree, low_agrees}
-use Rattle.vdm_reading.specs.declared.reading.VdmStage.TheVariants.{Over}
-use Rattle.vdm_reading.specs.VdmAccounts.{EachIsWanted, IsAmong, reading_after}
+use Rattle.vdm_reading.specs.BankPages.{bank_pages, groups_page}
+use Rattle.vdm_reading.specs.VdmAccounts.{IsAmong}
 use Rattle.vdm_reading.specs.VdmStages.{key_of}
-use Rattle.vdm_reading.specs.WindowStatistics.{AreOverWindow}
-use Rattle.vdm_reading.proofs.GroupLaws.{listed_high}
-use Rattle.vdm_reading.proofs.QuietLaws.{all_read, unscripted}
-use Rattle.observable_reports.specs.FetchedObservables.{AreStatisticsRead, IsObserving, with_pages}
+use Rattle.observable_reports.specs.FetchedObservables.{IsObserving}
 use Rattle.observable_reports.specs.SameStatistics.{HasOwnStatistics, IsAdvertised, IsStatistics, ObservedReportsSame, StatisticsWhole}
-use Rattle.observable_reports.proofs.WindowStatistics.{has_first, statistics_same, told}
-
--- ---- pages that are put beside others
-
-put_now : (page : ℕ) (from memory : Memory) (bytes : List ℕ) → map.get from (page_key page) ≡ Some bytes → map.get (with_page from page memory) (page_key page) ≡ Some bytes
-put_now page from memory bytes there =
-    ap (λ (half : Option (List ℕ)). map.get (option_map_or (λ (found : List ℕ). map.insert memory (page_key page) found) half memory) (page_key page)) there
-    ∙ map.get-insert keys_total memory (page_key page) bytes (page_key page)
-    ∙ ap (λ (b : Bool). cond b (Some bytes) (map.get memory (page_key page))) ((eq_by_cmp_equiv keys_total).refl (page_key page))
-
-module _ (from : Memory) where
-  apart : (key : Key) (listed : List ℕ) (memory : Memory) → ((page : ℕ) → IsAmong page listed → key ≡ page_key page → ⊥) → map.get (with_pages from listed memory) key ≡ map.get memory key
-  unfolding with_pages
-  apart key [] memory other = refl
-  apart key (page ∷ listed) memory other =
-      apart key listed (with_page from page memory) (λ number among. other number (inr among)) ∙ put_apart key page from memory (other page (inl refl))
-
-  stays : (page : ℕ) (bytes : List ℕ) (listed : List ℕ) (memory : Memory) → map.get from (key_of page) ≡ Some bytes → map.get memory (key_of page) ≡ Some bytes → map.get (with_pages from listed memory) (key_of page) ≡ Some bytes
-  unfolding with_pages
-  stays page bytes [] memory there is = is
-  stays page bytes (other ∷ listed) memory there is = stays page bytes listed (with_page from other memory) there (put_same page other from memory (is ∙ sym there) ∙ there)
-
-  put : (page : ℕ) (bytes : List ℕ) (listed : List ℕ) (memory : Memory) → IsAmong page listed → map.get from (key_of page) ≡ Some bytes → map.get (with_pages from listed memory) (key_of page) ≡ Some bytes
-  unfolding with_pages
-  put page bytes [] memory among there = absurd among
-  put page bytes (other ∷ listed) memory (inl is) there =
-      stays page bytes listed (with_page from other memory) there
-      (subst (λ (n : ℕ). map.get (with_page from n memory) (key_of page) ≡ Some bytes) is (put_now page from memory bytes there))
-  put page bytes (other ∷ listed) memory (inr later) there = put page bytes listed (with_page from other memory) later there
+use Rattle.observable_reports.proofs.BankReadings.{SeenWindow, ran_unscripted}
+use Rattle.observable_reports.proofs.WindowStatistics.{statistics_of, statistics_same}
 
 -- ---- no script is left after a fetch
-
-abbrev SeenWindow : Type 0
-SeenWindow = Seen (List Directive × Windowed)
-
-ran_unscripted : (old new : SeenWindow) (history : History) → Ran (script_rules window_conduct) old new (reverse history) → old.state.0 ≡ [] → new.state.0 ≡ []
-ran_unscripted old new history ran none =
-    ap (λ (state : List Directive × Windowed). state.0) (ran.state ∙ after_reverse (script_rules window_conduct) old.state history) ∙ unscripted old.state history none
 
 banks_unscripted : (mid new : SeenWindow) (copy memory : Memory) (more : Bool) → AreBanksRead more (script_rules window_conduct) mid new copy (Ok memory) → mid.state.0 ≡ [] → new.state.0 ≡ []
 banks_unscripted mid new copy memory false (unchanged, answer) none = ap (λ (seen : SeenWindow). seen.state.0) unchanged ∙ none
@@ -98,32 +54,14 @@ fetch_unscripted : (old new : SeenWindow) (memory : Memory) → IsFetching (scri
 fetch_unscripted old new memory (inl (fault, answer, made)) none = absurd cc
 fetch_unscripted old new memory (inr (mid, copy, (history, ran, is), banks)) none = banks_unscripted mid new copy memory (nat_lt 1 (bank_count copy)) banks (ran_unscripted old mid history ran none)
 
--- ---- what a reading has, besides what was fetched before it
-
-abbrev listed_in : Events → List ℕ
-listed_in events = 0x2F ∷ (reading_after 0 events).pages.items
-
-is_high : (events : Events) → EachIsWanted 0 events → (reading_after 0 events).stage ≡ Over → (page : ℕ) → IsAmong page (listed_in events) → (0x20 ≤ page) × (page < 0x30)
-is_high events each ended page (inl is) = (omega (arith, is), omega (arith, is))
-is_high events each ended page (inr among) = listed_high events (reading_after 0 events) (told events each) ended page among
-
-other_page : (events : Events) → EachIsWanted 0 events → (reading_after 0 events).stage ≡ Over → (key : Key) → key.page < 0x20 → (page : ℕ) → IsAmong page (listed_in events) → key ≡ page_key page → ⊥
-other_page events each ended key low page among is =
-    let number : key.page ≡ page % 256 = ap (λ (k : Key). k.page) is in
-    let high = is_high events each ended page among in
-    omega (arith, low, number, high.0, high.1)
-
--- other pages than 20h to 2Fh stay
-low_kept : {S : Type 0} (rules : Rules S) (mid new : Seen S) (before all : Memory) (has : Bool) → AreStatisticsRead has rules mid new before (Ok all) → (key : Key) → key.page < 0x20 → map.get all key ≡ map.get before key
-low_kept rules mid new before all false (unchanged, answer) key low = let all_is : all ≡ before = cc in ap (λ (m : Memory). map.get m key) all_is
-low_kept rules mid new before all true (events, later, each, (ended, is)) key low =
-    ap (λ (m : Memory). map.get m key) is ∙ apart (reading_after 0 events).image key (listed_in events) before (other_page events each ended key low)
+-- ---- what the readings have, besides what was fetched before them
 
 -- what was read agrees with the memory in the halves that are read for reports
 pub observed_lanes : (old new : SeenWindow) (memory all : Memory) → IsImage memory → old.state.1 ≡ started memory → IsObserving (script_rules window_conduct) old new (Ok all) → LanesAgree all memory
 observed_lanes old new memory all image start (inl (fault, refused, fetched)) = absurd cc
 observed_lanes old new memory all image start (inr (mid, before, fetched, read_so)) =
-    lanes_beside all before (low_kept (script_rules window_conduct) mid new before all (has_observables before) read_so) memory (fetched_lanes old mid memory before image start fetched)
+    let is_fetched = fetched_is old mid memory before image start fetched in
+    lanes_beside all before (statistics_of memory before image mid is_fetched new all read_so).low memory is_fetched.lanes
 
 pub observed_reports : ObservedReportsSame
 observed_reports old new memory all image start observing = lanes_reports all memory (observed_lanes old new memory all image start observing)
@@ -131,18 +69,8 @@ observed_reports old new memory all image start observing = lanes_reports all me
 -- if statistics are offered, all that are advertised are read
 abbrev IsWhole : Memory → Memory → Memory → Type 0
 IsWhole memory before all =
-    has_observables before ≡ true → map.contains_key memory (lower_key A0) ≡ true → has_observables memory ≡ true → (page : ℕ) (bytes : List ℕ) → IsAmong page (0x2F ∷ pages memory 0)
-    → map.get memory (key_of page) ≡ Some bytes → map.get all (key_of page) ≡ Some bytes
-
-module _ (mid new : SeenWindow) (memory before : Memory) (image : IsImage memory) (fetched : IsFetchedOf memory before mid) (none : mid.state.0 ≡ []) where
-  is_whole : (all : Memory) (has : Bool) → has_observables before ≡ has → AreStatisticsRead has (script_rules window_conduct) mid new before (Ok all) → IsWhole memory before all
-  is_whole all false e read_so has lower offered page bytes among there = absurd (let clash : true ≡ false = sym has ∙ e in cc)
-  is_whole all true e (events, later, each, (ended, is)) has lower offered page bytes among there =
-      let reading = reading_after 0 events in
-      let first = has_first (map.get before (key_of 1)) (λ (found : List ℕ). byte_in found 142 / 64 % 2 == 1) has in
-      let over : AreOverWindow mid new memory events = record { image = image; behind = fetched.behind; selecting = fetched.by_bank first; ran = later } in
-      let found = all_read mid new memory events reading over (told events each) ended none lower offered page bytes among there in
-      ap (λ (m : Memory). map.get m (key_of page)) is ∙ put reading.image page bytes (listed_in events) before found.0 found.1
+    map.contains_key memory (lower_key A0) ≡ true → has_observables memory ≡ true → (bank : ℕ) → bank < statistics_banks before → (page : ℕ) (bytes : List ℕ) → 0x20 ≤ page
+    → IsAmong page (groups_page bank ∷ bank_pages memory bank) → map.get memory (key_of page) ≡ Some bytes → map.get all (key_of page) ≡ Some bytes
 
 -- ---- the memory's lower half
 
@@ -228,8 +156,12 @@ module _ (memory before all : Memory) (own : HasOwnStatistics memory) (lanes : L
       by (Some bytes) other held there = sym (within page bytes above held) ∙ there
       by None (Some bytes) held there =
           let advert = advertised page bytes is there in
-          let offered = offered_same before memory (first_agrees before memory lanes.all id_before (flat_before advert.paged)) ∙ advert.offered in
-          sym held ∙ read offered (lower_there memory managed) advert.offered page bytes advert.listed there
+          let first = first_agrees before memory lanes.all id_before (flat_before advert.paged) in
+          let offered : has_observables before ≡ true = offered_same before memory first ∙ advert.offered in
+          let cmis : is_cmis before ≡ true = ap (is_family Cmis) id_before in
+          let count : statistics_banks before ≡ bank_count memory = (λ i. if cmis i && offered i then bank_count before else 0) ∙ same_count before memory (low_agrees before memory lanes.all) first in
+          let few = advert.banked in
+          sym held ∙ read (lower_there memory managed) advert.offered (page / 256) (omega (arith, count, few)) page bytes above advert.listed there
 
   banked : (bank page : ℕ) → 0x20 ≤ page → page < 0x30 → page_of all bank page ≡ page_of memory bank page
   banked bank page above below =
@@ -294,5 +226,5 @@ whole_read old new memory all image own start (inr (mid, before, fetched, read_s
     let none = fetch_unscripted old mid before fetched (ap (λ (state : List Directive × Windowed). state.0) start) in
     let observing : IsObserving (script_rules window_conduct) old new (Ok all) = inr (mid, before, fetched, read_so) in
     listed_same memory before all own is_fetched.lanes (observed_lanes old new memory all image window observing)
-    (is_whole mid new memory before image is_fetched none all (has_observables before) refl read_so)
+    ((statistics_of memory before image mid is_fetched new all read_so).whole none)
     (λ page bytes high there. statistics_same old new memory all image window observing page bytes high there) place above

@@ -1,7 +1,7 @@
 -- That the statistics (VDM) that are read of an image over a scripted bus, and its lanes of further banks, are the image's, and that they are
 -- all that it has, if nothing is refused.
 -- (docs/observables.md, "Frozen statistics"; docs/bus.md, "Reading an image"; this project's own)
-use Rattle.std.specs.Prelude.{◌≡◌, ℕ, ◌≤◌, ◌<◌, ◌%◌, true, false, List, [], ◌∷◌, Some, Ok}
+use Rattle.std.specs.Prelude.{◌≡◌, ℕ, ◌≤◌, ◌<◌, ◌/◌, ◌%◌, true, false, List, [], ◌∷◌, Some, Ok}
 use Rattle.std.specs.FinMap as map
 use Rattle.bus_model.specs.declared.script.Directive.{Directive}
 use Rattle.bus_model.specs.Runs.{Seen}
@@ -10,14 +10,16 @@ use Rattle.field_tables.specs.declared.field.Field.TheVariants.{CIdentifier}
 use Rattle.field_tables.specs.Readings.{number}
 use Rattle.module_decoding.specs.CmisPages.{is_flat}
 use Rattle.observable_reports.specs.FetchedObservables.{IsObserving}
+use Rattle.observables.specs.Banks.{bank_count}
 use Rattle.observables.specs.Observations.{monitor_places, observation_at}
-use Rattle.observables.specs.Pages.{has_observables, pages}
+use Rattle.observables.specs.Pages.{has_observables}
 use Rattle.paged_memory.specs.declared.family.Family.TheVariants.{Cmis}
 use Rattle.paged_memory.specs.Families.{is_family, managed_by}
 use Rattle.paged_memory.specs.Images.{Memory}
 use Rattle.paged_memory.specs.ImageText.{IsImage}
 use Rattle.paged_memory.specs.Windows.{Windowed, started, window_conduct}
 use Rattle.reports.specs.SameReports.{ReportsSame}
+use Rattle.vdm_reading.specs.BankPages.{bank_pages, groups_page}
 use Rattle.vdm_reading.specs.VdmAccounts.{IsAmong}
 use Rattle.vdm_reading.specs.VdmStages.{key_of}
 
@@ -41,13 +43,14 @@ ObservedReportsSame =
 abbrev pub IsStatistics : ℕ → Type 0
 IsStatistics page = (0x20 ≤ page % 256) × (page % 256 < 0x30)
 
--- the module has pages, and pages 01h and 2Fh advertise this one, in bank 0
+-- the module has pages and the bank of this one, and pages 01h and 2Fh advertise it
 pub record IsAdvertised (memory : Memory) (page : ℕ) : Type 0 where
   pub paged : is_flat memory ≡ false
   pub offered : has_observables memory ≡ true
-  pub listed : IsAmong page (0x2F ∷ pages memory 0)
+  pub banked : page / 256 < bank_count memory
+  pub listed : IsAmong page (groups_page (page / 256) ∷ bank_pages memory (page / 256))
 
--- a CMIS module has no other statistics than those that bank 0 advertises
+-- a CMIS module has no other statistics than those that its banks advertise
 abbrev pub HasOwnStatistics : Memory → Type 0
 HasOwnStatistics memory =
     is_family Cmis (managed_by (number memory CIdentifier)) ≡ true

@@ -1,52 +1,65 @@
 //! The memory of a module as observables need it, as it is read over a bus.
 ghost use Rattle.std.specs.Prelude.{◌≡◌, ◌+◌, ◌≤◌, length};
 ghost use Rattle.std.specs.FinMap as map;
-ghost use Rattle.paged_memory.specs.Images.{most_large, most_pages};
-ghost use Rattle.observable_reports.specs.FetchedObservables.{IsObserving, with_pages, with_statistics};
+ghost use Rattle.paged_memory.specs.Images.{most_large};
+ghost use Rattle.observable_reports.specs.FetchedObservables.{IsBankRead, IsObserving, with_pages, with_statistics};
 
 use bus_model::Bus;
 use control_sets::MAX_STEPS;
 use conversations::{Within, run};
-use observables::has_observables;
+use observables::statistics_banks;
 use paged_memory::{Image, LargeImage};
 use reports::{ReportFault, fetch_image, put_page};
-use vdm_reading::VdmReading;
+use vdm_reading::{VdmReading, VdmRequest, groups_page};
 
-/// Reads over a bus what the reports of a module need (`fetch_image`), then the statistics (VDM) that page 01h advertises. It doesn't answer
-/// whether these were frozen and released, nor which of their pages were lost.
+/// Reads over a bus what the reports of a module need (`fetch_image`), then the statistics (VDM) of each bank, if page 01h advertises any. It
+/// doesn't answer whether these were frozen and released, nor which of their pages were lost.
 pub fn fetch_observables<B: Bus>(bus: &mut B) -> Result<LargeImage, ReportFault>
     ensures { IsObserving B.rules (B.seen bus.old) (B.seen bus.new) result }
 {
-    let image = fetch_image(bus)?;
-    if !has_observables(&image.view()) {
-        return Ok(image);
+    let mut image = fetch_image(bus)?;
+    for bank in 0..statistics_banks(&image.view()) {
+        read_bank(bus, bank, &mut image)?;
     }
-    let mut reading = Within::new(VdmReading::begin(0), MAX_STEPS);
+    Ok(image)
+}
+
+// Reads the statistics of a bank, and puts them into an image.
+fn read_bank<B: Bus>(bus: &mut B, bank: u8, image: &mut LargeImage) -> Result<(), ReportFault>
+    requires { map.len image.old + 14 ≤ most_large }
+    ensures read { IsBankRead B.rules bank (B.seen bus.old) (B.seen bus.new) image.old image.new result }
+    ensures few { map.len image.new ≤ map.len image.old + 14 }
+{
+    let request = VdmRequest { pause: 0, bank };
+    let mut reading = Within::new(VdmReading::begin(request), MAX_STEPS);
     match run(bus, &mut reading) {
-        Ok(_spent) => Ok(with_statistics(image, &reading.conversation)),
+        Ok(_spent) => {
+            put_statistics(image, &reading.conversation);
+            Ok(())
+        }
         Err(fault) => Err(ReportFault::Bus(fault)),
     }
 }
 
-// The image with the pages that a reading of statistics has.
+// Puts the pages that a reading of statistics has into an image.
 #[tactic(auto, unfolding(crate::specs::FetchedObservables::with_pages))]
-fn with_statistics(image: LargeImage, reading: &VdmReading) -> LargeImage
-    requires { map.len image ≤ most_pages + 3 }
-    ensures { result ≡ with_statistics image reading.now }
+fn put_statistics(image: &mut LargeImage, reading: &VdmReading)
+    requires { map.len image.old + length reading.now.pages.items + 1 ≤ most_large }
+    ensures put { image.new ≡ with_statistics image.old reading.now }
+    ensures few { map.len image.new ≤ map.len image.old + length reading.now.pages.items + 1 }
 {
-    let mut all = image;
     let from = reading.image.view();
-    put_page(&mut all, &from, 0x2F);
-    put_pages(&mut all, &from, &reading.pages);
-    all
+    put_page(image, &from, groups_page(reading.request.bank));
+    put_pages(image, &from, &reading.pages);
 }
 
 #[tactic(auto, unfolding(crate::specs::FetchedObservables::with_pages))]
-fn put_pages(image: &mut LargeImage, from: &Image, pages: &[u8])
+fn put_pages(image: &mut LargeImage, from: &Image, pages: &[u16])
     requires { map.len image.old + length pages.now ≤ most_large }
-    ensures { image.new ≡ with_pages from.now pages.now image.old }
+    ensures put { image.new ≡ with_pages from.now pages.now image.old }
+    ensures few { map.len image.new ≤ map.len image.old + length pages.now }
 {
     for page in pages {
-        put_page(image, from, u16::from(*page));
+        put_page(image, from, *page);
     }
 }

@@ -25,8 +25,8 @@ pub fn statistics_change_no_report()
     ensures { ObservedReportsSame }
 {}
 
-/// Over a bus without a script, with a new window of an image that has no other statistics than those that bank 0 advertises: each instance that
-/// `fetch_observables` answers is as the image has it.
+/// Over a bus without a script, with a new window of an image that has no other statistics than those that its banks advertise: each instance
+/// that `fetch_observables` answers is as the image has it.
 pub fn statistics_are_read_whole()
     ensures { StatisticsWhole }
 {}

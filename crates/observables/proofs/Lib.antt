@@ -12,3 +12,4 @@ pub mod Times
 pub mod PlacesOfList
 pub mod Floors
 pub mod BankLanes
+pub mod FewBanks

@@ -1,12 +1,12 @@
 -- The lanes of a module's banks: bank b has the lanes from 8 * b + 1 to 8 * b + 8. (OIF-CMIS-05.0, "Management Memory Map", page 01h
 -- byte 142, "Lane-Specific Monitors" of page 11h)
-use Rattle.std.specs.Prelude.{ℕ, ◌%◌, ◌==◌, if◌then◌else◌}
+use Rattle.std.specs.Prelude.{ℕ, ◌%◌, ◌==◌, ◌&&◌, if◌then◌else◌}
 use Rattle.std.specs.FinMap as map
 use Rattle.std.specs.Option.{option_map_or}
 use Rattle.bus_model.specs.declared.device.Dev.TheVariants.{A0}
 use Rattle.paged_memory.specs.Images.{Memory}
 use Rattle.paged_memory.specs.Keys.{upper_key}
-use Rattle.observables.specs.Pages.{is_cmis}
+use Rattle.observables.specs.Pages.{has_observables, is_cmis}
 use Rattle.observables.specs.Words.{byte_in, page_of}
 
 -- code 3 is reserved
@@ -20,6 +20,10 @@ advertised_banks memory = option_map_or (λ bytes. banks_by (byte_in bytes 142 %
 -- modules of other families have one bank, whatever they have on page 01h
 abbrev pub bank_count : Memory → ℕ
 bank_count memory = if is_cmis memory then advertised_banks memory else 1
+
+-- how many banks have statistics (VDM), from bank 0 on: all, if a CMIS module advertises any
+abbrev pub statistics_banks : Memory → ℕ
+statistics_banks memory = if is_cmis memory && has_observables memory then bank_count memory else 0
 
 -- a page of a bank, if memory has it, in the place of that of bank 0
 abbrev pub with_page : Memory → ℕ → ℕ → Memory → Memory

@@ -4,7 +4,7 @@ ghost use Rattle.std.specs.FinMap as map;
 ghost use Rattle.paged_memory.specs.Images.{most_pages};
 ghost use Rattle.observables.specs.Banks as spec;
 
-use crate::pages::is_cmis;
+use crate::pages::{has_observables, is_cmis};
 use crate::words::{byte_in, page_of};
 use bus_model::Dev;
 use paged_memory::{Image, Key, Page, SmallImage};
@@ -37,6 +37,19 @@ fn banks_by(code: u8) -> u8
         1 => 2,
         2 => 4,
         _ => 1,
+    }
+}
+
+/// How many banks have statistics (VDM), from bank 0 on: as many as there are, if page 01h of a CMIS module advertises any.
+#[tactic(auto, using(crate::proofs::FewBanks::few_banks))]
+pub fn statistics_banks(image: &Image) -> u8
+    ensures value { result ≡ spec.statistics_banks image.now }
+    ensures few { result ≤ 4 }
+{
+    if is_cmis(image) && has_observables(image) {
+        bank_count(image)
+    } else {
+        0
     }
 }
 

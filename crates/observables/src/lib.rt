@@ -24,7 +24,7 @@ mod tables;
 mod words;
 
 pub use amount::{Amount, steps};
-pub use banks::{bank_count, lanes_of_bank};
+pub use banks::{bank_count, lanes_of_bank, statistics_banks};
 pub use descriptor::Descriptor;
 pub use fixed::{Fixed, Places};
 pub use instance::{INSTANCES, Instance, instance_at, next_instance};

@@ -33,9 +33,11 @@ use Rattle.module_reading.specs.ReadImages.{IsKeyAmong, IsSettled}
 use Rattle.module_reading.specs.Regions.{addressing_in, addressing_of, everything, family_regions, is_flat, key_of, of_banks, regions_in, regions_of}
 use Rattle.module_reading.proofs.RegionLaws.{keys_are, same_half, same_regions}
 use Rattle.observables.specs.Banks.{bank_count}
+use Rattle.observables.specs.Pages.{is_cmis}
+use Rattle.observables.proofs.FewBanks.{few_banks}
 use Rattle.reports.specs.FetchedImages.{AreBanksRead, AreFetched, IsFetching, with_banks}
 use Rattle.reports.proofs.FetchedHalves.{IsPaged, agrees_settled, fetched_agree, has_settled, identifier_is, low_settled, selecting_is}
-use Rattle.reports.proofs.FetchedPages.{HasPage, IsLow, all_low, among_page, among_regions, asks_first, asks_second, asks_third, few_banks, has_first, has_pages, only_cmis}
+use Rattle.reports.proofs.FetchedPages.{HasPage, IsLow, all_low, among_page, among_regions, asks_first, asks_second, asks_third, has_first, has_pages}
 use Rattle.reports.proofs.PutPages.{banks_beside, banks_either, banks_lower, first_bank, second_bank, third_bank}
 use Rattle.reports.proofs.SameBanks.{same_count}
 use Rattle.reports.proofs.SameFamilies.{AllAgree, LanesAgree, found_cmis, low_agrees}
@@ -82,15 +84,15 @@ all_kept from copy memory all =
 
 -- ---- what a fetch comes to
 
--- what was read agrees with the memory, and has its very bytes of pages from 20h on; only a module that selects by bank and page has page 01h;
+-- what was read agrees with the memory, and has its very bytes of pages from 20h on; a CMIS module selects by bank and page;
 -- and the window behind the bus is still one of the memory
 pub record IsFetchedOf (memory all : Memory) (new : Seen (List Directive × Windowed)) : Type 0 where
   pub lanes : LanesAgree all memory
   pub pages : (page : ℕ) (bytes : List ℕ) → 0x20 ≤ page → map.get all (page_key page) ≡ Some bytes → map.get memory (page_key page) ≡ Some bytes
-  pub by_bank : map.contains_key all (page_key 1) ≡ true → selecting_on memory A0 ≡ Some BankAndPage
+  pub by_bank : is_cmis all ≡ true → selecting_on memory A0 ≡ Some BankAndPage
   pub behind : IsOf memory new.state.1
 
-still_of : (old new : Seen (List Directive × Windowed)) (memory : Memory) (history : History) → Ran (script_rules window_conduct) old new (reverse history) → IsOf memory old.state.1 → IsOf memory new.state.1
+pub still_of : (old new : Seen (List Directive × Windowed)) (memory : Memory) (history : History) → Ran (script_rules window_conduct) old new (reverse history) → IsOf memory old.state.1 → IsOf memory new.state.1
 still_of old new memory history ran of =
     subst (λ (state : State). IsOf memory state.1) (sym (ran.state ∙ after_reverse (script_rules window_conduct) old.state history)) (of_after memory old.state history of)
 
@@ -121,9 +123,6 @@ module _ (old mid : Seen (List Directive × Windowed)) (memory copy : Memory) (i
 
   of_cmis : managed_by (identifier copy) ≡ Some Cmis → selecting_on memory A0 ≡ Some BankAndPage
   of_cmis cmis = selects memory copy image low (ap selecting_in cmis) (map.get memory (lower_key A0)) refl
-
-  by_bank : map.contains_key copy (page_key 1) ≡ true → selecting_on memory A0 ≡ Some BankAndPage
-  by_bank there = of_cmis (only_cmis (managed_by (identifier copy)) copy (first_among (managed_by (identifier copy)) refl there))
 
   -- the second one, of further banks
   module _ (new : Seen (List Directive × Windowed)) (from : Memory) (count : ℕ) (later : History) (ran_on : Ran (script_rules window_conduct) mid new (reverse later))
@@ -180,7 +179,7 @@ module _ (old mid : Seen (List Directive × Windowed)) (memory copy : Memory) (i
       subst (λ (m : Memory). IsFetchedOf memory m new) result_is (record {
         lanes = record { all = all; banks = λ bank above below. absurd (let few : bank_count copy ≤ 1 = ltb-false 1 (bank_count copy) e in omega (arith, above, below, few)) };
         pages = λ page bytes above held. absurd (let never : Some bytes ≡ None = sym held ∙ none page above in cc);
-        by_bank = by_bank;
+        by_bank = λ is. of_cmis (found_cmis (managed_by (identifier copy)) is);
         behind = subst (λ (seen : Seen (List Directive × Windowed)). IsOf memory seen.state.1) (sym unchanged) of_mid;
       })
   fetched_by new result true e (Err fault, made, joins) = absurd cc
@@ -195,7 +194,7 @@ module _ (old mid : Seen (List Directive × Windowed)) (memory copy : Memory) (i
               lanes_at new from (bank_count copy) later ran_on read cmis first bank above (subst (λ (n : ℕ). bank < n) (banks_same from copy) below) (few_banks copy);
         };
         pages = put_pages new from (bank_count copy) later ran_on read cmis first;
-        by_bank = λ there. by_bank first;
+        by_bank = λ is. of_cmis cmis;
         behind = still_of mid new memory later ran_on of_mid;
       })
 

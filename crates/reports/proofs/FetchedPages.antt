@@ -8,7 +8,6 @@ use Rattle.paged_memory.specs.declared.family.Family.{Family}
 use Rattle.paged_memory.specs.declared.family.Family.TheVariants.{Cmis}
 use Rattle.paged_memory.specs.declared.key.Half.TheVariants as halves
 use Rattle.paged_memory.specs.declared.key.Key.{Key}
-use Rattle.paged_memory.specs.Families.{is_family}
 use Rattle.paged_memory.specs.Images.{Memory}
 use Rattle.paged_memory.specs.Keys.{page_key}
 use Rattle.module_reading.specs.declared.region.Region.{Region}
@@ -88,23 +87,6 @@ no_first regions lacking among = among_page (λ page. page ≡ 1 → ⊥) 1 regi
   by (FirstPage ∷ regions) e = ((λ is. cc), by regions e)
   by (Page page ∷ regions) e = ((λ is. let one : page == 1 ≡ true = eq-eqb page 1 is in let never : not (page == 1) ≡ true = (and_parts _ _ e).0 in cc), by regions (and_parts _ _ e).1)
 
-lacks_true : (family : Family) → list_all lacks_first (family_regions everything family true) ≡ true
-lacks_true Cmis = refl
-lacks_true _ = refl
-
-lacks_false : (family : Family) → is_family Cmis (Some family) ≡ false → list_all lacks_first (family_regions everything family false) ≡ true
-lacks_false Cmis other = absurd cc
-lacks_false _ other = refl
-
--- only of a CMIS module is page 01h
-pub only_cmis : (family : Option Family) (memory : Memory) → IsKeyAmong (regions_in everything family memory) (page_key 1) → family ≡ Some Cmis
-only_cmis None memory among = absurd (no_first (regions_in everything None memory) refl among)
-only_cmis (Some family) memory among = by family (decides family memory) among where
-  by : (family : Family) (holds : Bool) → IsKeyAmong (family_regions everything family holds) (page_key 1) → Some family ≡ Some Cmis
-  by family true among = absurd (no_first (family_regions everything family true) (lacks_true family) among)
-  by Cmis false among = refl
-  by other false among = absurd (no_first (family_regions everything other false) (lacks_false other refl) among)
-
 -- of a CMIS module with page 01h, memory isn't flat
 pub has_pages : (memory : Memory) → IsKeyAmong (regions_in everything (Some Cmis) memory) (page_key 1) → is_flat memory ≡ false
 has_pages memory among = by (is_flat memory) refl among where
@@ -132,24 +114,9 @@ pub asks_third : (P : Region → Type 0) (three two one : Bool) → three ≡ tr
 asks_third P true two one is all = all.1.1.1.0
 asks_third P false two one is all = absurd cc
 
-few_by : (code : ℕ) → banks_by code ≤ 4
-few_by code = by (code == 1) (code == 2) where
-  by : (one two : Bool) → (if one then 2 else if two then 4 else 1) ≤ 4
-  by true two = omega arith
-  by false true = omega arith
-  by false false = omega arith
-
 -- of a module of CMIS or of another family, with page 01h or without
 abbrev count_by : Bool → Option (List ℕ) → ℕ
 count_by cmis half = if cmis then option_map_or (λ (bytes : List ℕ). banks_by (byte_in bytes 142 % 4)) half 1 else 1
-
-few : (cmis : Bool) (half : Option (List ℕ)) → count_by cmis half ≤ 4
-few true (Some bytes) = few_by (byte_in bytes 142 % 4)
-few true None = omega arith
-few false half = omega arith
-
-pub few_banks : (memory : Memory) → bank_count memory ≤ 4
-few_banks memory = few (is_cmis memory) (map.get memory (page_key 1))
 
 first_by : (cmis : Bool) (half : Option (List ℕ)) → nat_lt 1 (count_by cmis half) ≡ true → (cmis ≡ true) × (is_some half ≡ true)
 first_by true (Some bytes) e = (refl, refl)

@@ -16,3 +16,4 @@ pub mod BesideFetched
 pub mod SameRows
 pub mod PutPages
 mod UniqueDetails
+mod FewHalves

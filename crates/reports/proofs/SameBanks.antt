@@ -1,6 +1,6 @@
 -- Which further banks a module's lanes are read of is the same of two memories that agree in the lower half, in page 01h and in page 11h of
 -- each bank that it advertises.
-use Rattle.std.proofs.Common.{◌≡◌, inl, inr, ◌⊎◌, ℕ, ◌<◌, ◌≤◌, ◌%◌, ◌&&◌, ◌||◌, Bool, true, false, nat_lt, List, [], ◌∷◌, ◌++◌, Option, Some, None, map, take, refl, sym, ap, subst, ◌∙◌, if◌then◌else◌, arith}
+use Rattle.std.proofs.Common.{◌≡◌, inl, inr, ◌⊎◌, ℕ, ◌<◌, ◌≤◌, ◌%◌, ◌&&◌, ◌||◌, Bool, true, false, nat_lt, List, [], ◌∷◌, ◌++◌, Option, Some, None, map, take, refl, sym, ap, ◌∙◌, if◌then◌else◌, arith}
 use Rattle.std.proofs.lemmas.Bool.{and_parts, ltb-true, or_cases}
 use Rattle.std.proofs.lemmas.List.{get_or-take}
 use Rattle.std.specs.Prelude.{is_some, option_map}
@@ -19,7 +19,7 @@ use Rattle.field_tables.proofs.SameValues.{Agree}
 use Rattle.module_reading.proofs.RegionLaws.{same_identifier}
 use Rattle.observables.specs.Banks.{bank_count, banks_by}
 use Rattle.observables.specs.Words.{byte_in, page_of}
-use Rattle.report_entries.specs.Banks.{from_bank, further_banks, has_lanes}
+use Rattle.report_entries.specs.Banks.{further_banks, has_lanes}
 use Rattle.reports.proofs.SameIf.{KeysAgree, each_agree, is_among}
 
 -- ---- the further banks that there may be

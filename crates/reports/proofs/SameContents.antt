@@ -1,5 +1,5 @@
 -- Memories that agree in the halves that a report needs have the same report, and those of their family the same details.
-use Rattle.std.proofs.Common.{◌≡◌, ◌≢◌, ◌∙◌, ◌&&◌, ℕ, Bool, true, false, List, [], ◌∷◌, ◌++◌, append-nil, Option, Some, None, map, refl, sym, ap, subst, if◌then◌else◌}
+use Rattle.std.proofs.Common.{◌≡◌, ◌≢◌, ◌∙◌, ◌&&◌, ℕ, Bool, true, false, List, [], ◌∷◌, ◌++◌, append-nil, Some, None, map, refl, sym, ap, subst, if◌then◌else◌}
 use Rattle.std.proofs.lemmas.Bool.{and_from, not-false}
 use Rattle.std.specs.Prelude.{not}
 use Rattle.std.specs.Option.{option_or}
@@ -103,7 +103,9 @@ module _ {a b : Memory} where
   lines_in report Cmis flat agree other = absurd (other refl)
   lines_in Inventory Sff8636 true agree other = refl
   lines_in Monitors Sff8636 true agree other = refl
-  lines_in _ _ _ agree other = refl
+  lines_in Inventory _ _ agree other = refl
+  lines_in Monitors _ _ agree other = refl
+  lines_in Flags _ _ agree other = refl
 
   cmis_flags_in : (flat : Bool) (further : Further) (agree : KeysAgree a b (keys_by Cmis flat ++ bank_keys (numbers further))) → (flag_rows_same agree (numbers further) flat (flag_rows_of Cmis)).test ≡ true
   unfolding flag_rows_same flags.cmis_rows

@@ -1,7 +1,7 @@
 -- What each row of details says of two memories is the same if it is read of halves of which both agree.
-use Rattle.std.proofs.Common.{◌+◌, ◌-◌, ◌*◌, ◌^◌, ◌==◌, ◌&&◌, ◌||◌, ℕ, Bool, true, false, List, [], ◌∷◌, Option, Some, None, if◌then◌else◌, nat_le}
+use Rattle.std.proofs.Common.{◌+◌, ◌-◌, ◌*◌, ◌^◌, ◌&&◌, ◌||◌, ℕ, Bool, true, false, List, [], ◌∷◌, Some, None, if◌then◌else◌, nat_le}
 use Rattle.std.specs.Prelude.{pos, not, nat_lt, is_none, is_some}
-use Rattle.std.specs.List.{flat_map, list_any, range_with_len}
+use Rattle.std.specs.List.{range_with_len}
 use Rattle.paged_memory.specs.declared.key.Key.{Key}
 use Rattle.paged_memory.specs.Images.{Memory}
 use Rattle.external_calibration.specs.Amounts.{amount_of}
@@ -29,7 +29,7 @@ use Rattle.report_entries.specs.PrintedUnits.{printed_in}
 use Rattle.report_entries.specs.declared.fact.Place.TheVariants.{Module, Lane}
 use Rattle.report_entries.specs.declared.printed_unit.PrintedUnit.TheVariants as units
 use Rattle.reports.proofs.BankLanes.{lanes_agree}
-use Rattle.reports.proofs.SameIf.{KeysAgree, SameIf, always, amount_read, any, bit_read, by, by_two, choice, each, either, length_read, number_read, numbers_read, over_banks_same, pair, text_read, value_read}
+use Rattle.reports.proofs.SameIf.{KeysAgree, SameIf, always, amount_read, any, bit_read, by, by_two, each, either, length_read, number_read, numbers_read, over_banks_same, pair, text_read, value_read}
 
 -- a row that is left out of flat memory, or where a test says so
 abbrev left_out : {A : Type 0} {s t : Bool} {u v : List A} (absent : Bool) → SameIf s t → SameIf u v → SameIf (if absent || s then [] else u) (if absent || t then [] else v)

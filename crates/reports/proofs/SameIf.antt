@@ -1,8 +1,8 @@
 -- What is the same of two memories, or of anything that is made of it, if a test passes: what is read of a memory is the same of another
 -- if it stands in halves of which both agree.
-use Rattle.std.proofs.Common.{◌≡◌, ◌+◌, ◌*◌, ◌^◌, ◌==◌, ℕ, ◌&&◌, ◌||◌, Bool, true, false, List, [], ◌∷◌, ◌++◌, Option, Some, None, map, refl, sym, ap, subst, inl, inr, cond, if◌then◌else◌, nat_le}
+use Rattle.std.proofs.Common.{◌≡◌, ◌*◌, ◌^◌, ◌==◌, ℕ, ◌&&◌, ◌||◌, Bool, true, false, List, [], ◌∷◌, ◌++◌, Option, Some, None, map, refl, sym, ap, subst, inl, inr, cond, if◌then◌else◌, nat_le}
 use Rattle.std.proofs.lemmas.Bool.{and_parts, false≢true, not-true, or_cases}
-use Rattle.std.specs.Prelude.{ℤ, not, pos, unsigned_abs}
+use Rattle.std.specs.Prelude.{not, pos, unsigned_abs}
 use Rattle.std.specs.List.{AllByRecursion, find, flat_map, list_any, range_with_len}
 use Rattle.std.specs.Ordering.{eq_by_cmp}
 use Rattle.paged_memory.specs.declared.key.Key.{Key}

@@ -3,7 +3,7 @@ ghost use Rattle.std.specs.Prelude.{◌≡◌, ◌+◌, ◌<◌, ◌≤◌, IfOk
 ghost use Rattle.std.specs.FinMap as map;
 ghost use Rattle.bus_model.specs.Runs.{IsFull};
 ghost use Rattle.control_sets.specs.Procedures.{MakesHistory};
-ghost use Rattle.paged_memory.specs.Images.{most_large, most_pages};
+ghost use Rattle.paged_memory.specs.Images.{most_large};
 ghost use Rattle.reports.specs.FetchedImages.{AreFetched, IsFetching, with_banks, with_page};
 
 use crate::fault::ReportFault;
@@ -17,7 +17,7 @@ use paged_memory::{Image, Key, LargeImage, Page, SmallImage};
 /// the bus refuses on the way.
 pub fn fetch_image<B: Bus>(bus: &mut B) -> Result<LargeImage, ReportFault>
     ensures fetched { IsFetching B.rules (B.seen bus.old) (B.seen bus.new) result }
-    ensures few { IfOk result (λ image. map.len image ≤ most_pages + 3) }
+    ensures few { IfOk result (λ image. map.len image ≤ 8) }
 {
     let read = fetch_halves(bus, Request::everything())?;
     let image = LargeImage::of(&read.view()).unwrap();
@@ -31,8 +31,9 @@ pub fn fetch_image<B: Bus>(bus: &mut B) -> Result<LargeImage, ReportFault>
 
 // The halves of a module that are requested, in one reading.
 fn fetch_halves<B: Bus>(bus: &mut B, request: Request) -> Result<SmallImage, ReportFault>
-    ensures { MakesHistory B.rules (B.seen bus.old) (B.seen bus.new) (λ history.
+    ensures read { MakesHistory B.rules (B.seen bus.old) (B.seen bus.new) (λ history.
         AreFetched request (IsFull (B.seen bus.new)) history result) }
+    ensures few { IfOk result (λ image. map.len image ≤ 5) }
 {
     let mut reading = Halves::reading(request);
     match run(bus, &mut reading) {
@@ -46,9 +47,9 @@ fn fetch_halves<B: Bus>(bus: &mut B, request: Request) -> Result<SmallImage, Rep
 
 // The image with page 11h of banks 1 to 3 of another.
 fn with_banks(image: LargeImage, from: &Image) -> LargeImage
-    requires { map.len image ≤ most_pages }
+    requires { map.len image ≤ 5 }
     ensures put { result ≡ with_banks from.now image }
-    ensures few { map.len result ≤ most_pages + 3 }
+    ensures few { map.len result ≤ 8 }
 {
     let mut all = image;
     put_page(&mut all, from, 0x111);

@@ -13,7 +13,7 @@ use paged_memory::{Image, LARGE, LargeImage, Window};
 use reports::fetch_image;
 use std::alloc::{AllocError, Global};
 
-/// The most steps: as many as the two readings of a module's halves and that of its statistics may make.
+/// The most steps: more than the two readings of a module's halves and those of its banks' statistics may make.
 const ROOM: usize = 3 * MAX_STEPS as usize;
 
 /// The image of this text, or, over a bus, what is read of the module that has it.

@@ -1,45 +1,47 @@
-use Rattle.std.proofs.Common.{◌≡◌, ◌∙◌, true, false, Ok, Err, ap, rules, inr}
-use Rattle.bus_model.specs.declared.bus.BusFault.{BusFault}
-use Rattle.conversations.proofs.BusRuns.{ran_to_end, ran_to_full}
-use Rattle.observables.specs.Pages.{has_observables}
-use Rattle.reports.specs.declared.fault.ReportFault.TheVariants.{Bus}
-use Rattle.vdm_reading.specs.declared.reading.VdmReading.{VdmReading}
-use Rattle.observable_reports.specs.FetchedObservables.{with_statistics}
-use Rattle.observable_reports.proofs.StatisticsRead.{are_wanted, is_after, is_over, is_unfinished, read, unread}
+use Rattle.std.proofs.Common.{◌≡◌, ◌∙◌, ℕ, Err, refl, ap, inr, subst, rules, arith}
+use Rattle.observables.specs.Banks.{statistics_banks}
+use Rattle.observable_reports.specs.FetchedObservables.{AreFirstRead}
+use Rattle.observable_reports.proofs.ObservingRuns.{cut_short, one_more}
 use Rattle.observable_reports.proofs.fetching.fetch_observables.Goals as goal
 
-pub returns-then-not-has_observables : goal.returns-then-not-has_observables
-returns-then-not-has_observables g c =
-    let memory = c.in_ok-image.image in
-    let mid = g.B.Bus.seen c.fetch_image.new.bus in
-    let none : has_observables memory ≡ false = search rules in
-    inr (mid, memory, c.in_ok-image.ensures.fetched, unread g.B.Bus.rules (g.B.Bus.seen c.args.bus.now) mid memory c.in_ok-image.ensures.fetched (has_observables memory) none)
+pub read_bank-requires : goal.read_bank-requires
+read_bank-requires g c = omega (arith, c.loop-bank.invariant.few, c.loop-bank-test.true, c.statistics_banks-bank-end.ensures.few)
 
-pub returns-in-Ok : goal.returns-in-Ok
-returns-in-Ok g c =
-    let (last, events, happens, (told, left, carried)) = c.in-Ok.ensures.made in
-    let memory = c.in_ok-image.image in
-    let mid = g.B.Bus.seen c.fetch_image.new.bus in
-    let old = c.new-reading.result in
-    let new = c.run.new.within in
-    let some : has_observables memory ≡ true = search rules in
-    let ran = ran_to_end g.B.Bus.rules (λ bus. g.B.Bus.seen bus) c.fetch_image.new.bus last c.run.new.bus events happens carried.0 in
-    let began = c.new-reading.ensures ∙ search rules in
-    let over = is_over old new events began c.in-Ok.ensures.topic told.0 c.in-Ok._spent carried.1 in
-    let is = c.with_statistics.ensures ∙ ap (λ (reading : VdmReading). with_statistics memory reading) (is_after old new events began c.in-Ok.ensures.topic told.0) in
-    let wanted = are_wanted old new events began c.in-Ok.ensures.topic told.0 in
-    inr (mid, memory, c.in_ok-image.ensures.fetched, read g.B.Bus.rules (g.B.Bus.seen c.args.bus.now) mid memory c.in_ok-image.ensures.fetched (g.B.Bus.seen c.run.new.bus) events (Ok c.with_statistics.result) (has_observables memory) some ran wanted (over, is))
+pub loop-bank-init : goal.loop-bank-init
+loop-bank-init g c = record { read = (refl, refl); few = c.in_ok-image.ensures.few }
 
-pub returns-in-Err : goal.returns-in-Err
-returns-in-Err g c =
-    let (last, events, happens, (told, left, out)) = c.in-Err.ensures.made in
+pub loop-bank-preserved : goal.loop-bank-preserved
+loop-bank-preserved g c =
+    let mid = g.B.Bus.seen c.fetch_image.new.bus in
+    let last = g.B.Bus.seen c.loop-bank.bus in
+    let new = g.B.Bus.seen c.read_bank.new.bus in
+    record {
+      read = one_more g.B.Bus.rules mid c.in_ok-image.image c.loop-bank.bank last c.loop-bank.image c.loop-bank.invariant.read new c.read_bank.new.image c.in_ok-read_bank.ensures.read;
+      few = omega (arith, c.loop-bank.invariant.few, c.in_ok-read_bank.ensures.few);
+    }
+
+pub returns-in_err-read_bank : goal.returns-in_err-read_bank
+returns-in_err-read_bank g c =
     let memory = c.in_ok-image.image in
     let mid = g.B.Bus.seen c.fetch_image.new.bus in
-    let old = c.new-reading.result in
-    let new = c.run.new.within in
-    let some : has_observables memory ≡ true = search rules in
-    let ran = ran_to_full g.B.Bus.rules (λ bus. g.B.Bus.seen bus) c.fetch_image.new.bus last c.run.new.bus events c.in-Err.fault happens out.failed in
-    let began = c.new-reading.ensures ∙ search rules in
-    let wanted = are_wanted old new events began c.in-Err.ensures.topic told.0 in
-    let more = is_unfinished old new events began c.in-Err.ensures.topic told.0 left.0 left.1 in
-    inr (mid, memory, c.in_ok-image.ensures.fetched, read g.B.Bus.rules (g.B.Bus.seen c.args.bus.now) mid memory c.in_ok-image.ensures.fetched (g.B.Bus.seen c.run.new.bus) events (Err (Bus c.in-Err.fault)) (has_observables memory) some ran wanted (ap (λ (fault : BusFault). Bus fault) out.failed.0, out.failed.1, more))
+    let last = g.B.Bus.seen c.loop-bank.bus in
+    let new = g.B.Bus.seen c.read_bank.new.bus in
+    let fault = c.in_err-read_bank.field-0.0 in
+    let answer : c.from_residual-in_err-read_bank.result ≡ Err fault = search rules in
+    let count : c.statistics_banks-bank-end.result ≡ statistics_banks memory = c.statistics_banks-bank-end.ensures.value ∙ ap statistics_banks c.view.ensures.same in
+    inr (
+      mid,
+      memory,
+      c.in_ok-image.ensures.fetched,
+      cut_short g.B.Bus.rules mid memory c.loop-bank.bank last c.loop-bank.image c.loop-bank.invariant.read new c.read_bank.new.image (statistics_banks memory) fault
+          c.from_residual-in_err-read_bank.result answer (omega (arith, count, c.loop-bank-test.true)) c.in_err-read_bank.ensures.read,
+    )
+
+pub returns : goal.returns
+returns g c =
+    let memory = c.in_ok-image.image in
+    let mid = g.B.Bus.seen c.fetch_image.new.bus in
+    let new = g.B.Bus.seen c.loop-bank.bus in
+    let count : c.statistics_banks-bank-end.result ≡ statistics_banks memory = c.statistics_banks-bank-end.ensures.value ∙ ap statistics_banks c.view.ensures.same in
+    let all : c.loop-bank.bank ≡ statistics_banks memory = omega (arith, count, c.loop-bank.auto.bank-end, c.loop-bank-test.false) in
+    inr (mid, memory, c.in_ok-image.ensures.fetched, subst (λ (n : ℕ). AreFirstRead g.B.Bus.rules mid memory n new c.loop-bank.image) all c.loop-bank.invariant.read)

@@ -9,4 +9,5 @@ abbrev pub invariant-loop-page : goal.invariant-loop-page
 invariant-loop-page l = record {
   pages : with_pages l.from (drop l.page-index l.pages) l.image ≡ with_pages l.from l.pages l.fn.image;
   room : map.len l.image + length (drop l.page-index l.pages) ≤ most_large;
+  few : map.len l.image + length (drop l.page-index l.pages) ≤ map.len l.fn.image + length l.pages;
 }

@@ -6,6 +6,7 @@ use Rattle.module_reading.specs.ImageReading.{Reading, begun_reading}
 use Rattle.module_reading.specs.declared.request.Request.{Request}
 use Rattle.module_reading.specs.ReadImages.{IsGivenUp, IsImageOf, IsReading, IsUnfinished}
 use Rattle.module_reading.proofs.FetchTold.{left_going, left_undone, left_whole, reads}
+use Rattle.reports.proofs.FewHalves.{image_few}
 use Rattle.reports.proofs.fetching.fetch_halves.Goals as goal
 
 abbrev topic_of : Reading → ℕ × (Bool × Request)
@@ -19,8 +20,8 @@ module _ (asked : Request) (old new : Reading) (begun : old ≡ begun_reading as
   by_all : (P : Bool → Request → Type 0) → P new.conversation.doubts new.conversation.conversation.request → P false asked
   by_all P has = subst (λ (topic : ℕ × (Bool × Request)). P topic.1.0 topic.1.1) (same ∙ ap topic_of begun) has
 
-pub returns-in-Some : goal.returns-in-Some
-returns-in-Some g c =
+pub returns-in-Some-clause-read : goal.returns-in-Some-clause-read
+returns-in-Some-clause-read g c =
     let (last, events, happens, (told, left, carried)) = c.in-Ok.ensures.made in
     let reading = c.run.new.within in
     let begun = c.reading-reading.ensures in
@@ -34,8 +35,8 @@ returns-in-Some g c =
       },
     )
 
-pub returns-in-None : goal.returns-in-None
-returns-in-None g c =
+pub returns-in-None-clause-read : goal.returns-in-None-clause-read
+returns-in-None-clause-read g c =
     let (last, events, happens, (told, left, carried)) = c.in-Ok.ensures.made in
     let reading = c.run.new.within in
     let begun = c.reading-reading.ensures in
@@ -49,8 +50,8 @@ returns-in-None g c =
       },
     )
 
-pub returns-in-Err : goal.returns-in-Err
-returns-in-Err g c =
+pub returns-in-Err-clause-read : goal.returns-in-Err-clause-read
+returns-in-Err-clause-read g c =
     let (last, events, happens, (told, left, out)) = c.in-Err.ensures.made in
     let reading = c.run.new.within in
     let begun = c.reading-reading.ensures in
@@ -64,3 +65,13 @@ returns-in-Err g c =
         answered = (out.failed.0, out.failed.1, fewer, trusting (λ (doubts : Bool) (request : Request). IsUnfinished doubts request (steps_of events)) (left_going events reading told.0.1 told.1 told.2 limit left.0 left.1));
       },
     )
+
+pub returns-in-Some-clause-few : goal.returns-in-Some-clause-few
+returns-in-Some-clause-few g c =
+    let (last, events, happens, (told, left, carried)) = c.in-Ok.ensures.made in
+    let reading = c.run.new.within in
+    let limit = limit_is c.args.request c.reading-reading.result reading c.reading-reading.ensures c.in-Ok.ensures.topic in
+    let image = reading.conversation.conversation.image in
+    let trusting = by_all c.args.request c.reading-reading.result reading c.reading-reading.ensures c.in-Ok.ensures.topic in
+    image_few c.args.request (steps_of events) image
+    (trusting (λ (doubts : Bool) (request : Request). IsImageOf doubts request (steps_of events) image) (left_whole events reading told.0.1 told.1 told.2 limit c.in-Ok.spent tt left c.in-Some.is))
