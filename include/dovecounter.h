@@ -410,7 +410,8 @@ uint32_t dovecounter_monitors(const struct dovecounter_half *halves, size_t half
 
 /* ---- What a module measures ----
 
-   dovecounter_observables also decodes pages 20h to 2Ch, which dovecounter_vdm_begin reads ("Statistics", below). */
+   dovecounter_observables also decodes pages 20h to 2Ch of banks 0 to 3, which dovecounter_vdm_begin reads, a bank at a time
+   ("Statistics", below). */
 
 /* What is measured. `cmisctl observables` has the same names (docs/observables.md). */
 enum dovecounter_quantity {
@@ -1668,23 +1669,28 @@ static inline uint32_t dovecounter_explicit_run(struct dovecounter_explicit *pro
    how it ended; dovecounter_vdm_run is that loop. Nobody else may use the module meanwhile. A fetch of 128 bytes may be split, as
    for a port (below).
 
-   It freezes the statistics, reads pages 20h to 2Ch of bank 0 as far as the module advertises them, and releases the statistics, by 759
-   operations at most. It stores bit 7 of byte 144 of page 2Fh, and no other but page selections. Whatever the bus refuses,
-   and wherever it stops, the statistics aren't left frozen, or the member `release` names it. Reading clears the flags of page 2Ch.
+   It freezes the statistics of a bank, reads pages 20h to 2Ch of it as far as the module advertises them, and releases the
+   statistics, by 759 operations at most. It stores bit 7 of byte 144 of the bank's page 2Fh, and no other but page selections.
+   Whatever the bus refuses, and wherever it stops, the statistics aren't left frozen, or the member `release` names it. Reading
+   clears the flags of page 2Ch.
 
-   Begin only with a CMIS module that has pages. For all that it measures, read it by dovecounter_read_begin too, and ask twice, each time
-   until *place is 0: dovecounter_observables of those halves, from place 0 on while *place is at most
-   DOVECOUNTER_FIRST_INSTANCE; then of the halves of this reading and the lower half of 0xA0, 16 at most, from
-   DOVECOUNTER_FIRST_INSTANCE on. */
+   Begin only with a CMIS module that has pages. Read bank 0, and then, unless it has no statistics (DOVECOUNTER_VDM_UNSUPPORTED), each
+   further bank that the module advertises, one after the other, since each is frozen by itself: bank 1, 2 or 3 if bit 0, 1 or 2
+   is 1 in what dovecounter_further_banks writes.
 
-/* The most halves of a reading: pages 01h and 2Fh, and 13 of 20h to 2Ch. */
+   For all that the module measures, read it by dovecounter_read_begin too (with lanes above 8 also as dovecounter_further_banks
+   says), and ask once and for each bank, each time until *place is 0: dovecounter_observables of those halves, from place 0 on
+   while *place is at most DOVECOUNTER_FIRST_INSTANCE; then of the halves of each of these readings and the lower half of 0xA0,
+   16 at most, from DOVECOUNTER_FIRST_INSTANCE on. */
+
+/* The most halves of a reading: page 01h, and of the bank pages 2Fh and 20h to 2Ch. */
 #define DOVECOUNTER_MOST_VDM 15
 
 /* The first place of dovecounter_observables at which isn't a monitor, but what a module lists itself. */
 #define DOVECOUNTER_FIRST_INSTANCE 512
 
 enum dovecounter_vdm_statistics {
-    DOVECOUNTER_VDM_UNKNOWN = 0,     /* page 01h or 2Fh couldn't be read: whether there are any isn't known */
+    DOVECOUNTER_VDM_UNKNOWN = 0,     /* page 01h, or 2Fh of the bank, couldn't be read: whether there are any isn't known */
     DOVECOUNTER_VDM_UNSUPPORTED = 1, /* the module advertises none */
     DOVECOUNTER_VDM_NOT_TAKEN = 2,   /* it took no request to freeze: what was read may not belong together */
     DOVECOUNTER_VDM_PENDING = 3,     /* it took one, and didn't freeze in time: what was read may not belong together */
@@ -1705,9 +1711,10 @@ struct dovecounter_vdm {
     uint32_t pause;
     uint16_t left;
     uint8_t stage;
-    uint8_t stage_page;
-    uint8_t selection;
+    uint8_t bank;
+    uint16_t stage_page;
     uint16_t page;
+    uint8_t selection;
     uint8_t due;
     uint8_t control;
     uint8_t statistics;
@@ -1715,13 +1722,13 @@ struct dovecounter_vdm {
     uint8_t halves;  /* how many halves it has read */
     uint8_t page_count;
     uint8_t todo_count;
-    uint8_t pages[16];
-    uint8_t todo[16];
+    uint16_t pages[16];
+    uint16_t todo[16];
 };
 
-/* Begins to read, with a pause of so many milliseconds after each fruitless operation: 100 suits a module that you know nothing
+/* Begins to read a bank, with a pause of so many milliseconds after each fruitless operation: 100 suits a module that you know nothing
    about, which then has ten seconds to freeze its statistics. */
-void dovecounter_vdm_begin(uint32_t pause, struct dovecounter_vdm *reading);
+void dovecounter_vdm_begin(uint32_t pause, uint8_t bank, struct dovecounter_vdm *reading);
 
 /* Writes what to do now. The reading keeps what it has read in halves. */
 uint32_t dovecounter_vdm_next(const struct dovecounter_vdm *reading,
@@ -1736,7 +1743,7 @@ struct dovecounter_vdm_end {
     uint8_t statistics;    /* enum dovecounter_vdm_statistics */
     uint8_t release;       /* enum dovecounter_vdm_release */
     uint8_t missing_count; /* how many advertised pages couldn't be read */
-    uint8_t missing[16];   /* these pages; zeros after them */
+    uint16_t missing[16];  /* these pages, 256 * bank + page; zeros after them */
 };
 
 /* Writes how it ended. With any end the halves are what was read. */

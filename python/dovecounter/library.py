@@ -441,18 +441,18 @@ class Vdm(Structure):
     _fields_ = [
         *_members(c_uint32, "magic pause"),
         ("left", c_uint16),
-        *_members(c_uint8, "stage stage_page selection"),
-        ("page", c_uint16),
-        *_members(c_uint8, "due control statistics release halves"),
+        *_members(c_uint8, "stage bank"),
+        *_members(c_uint16, "stage_page page"),
+        *_members(c_uint8, "selection due control statistics release halves"),
         *_members(c_uint8, "page_count todo_count"),
-        *_members(c_uint8 * 16, "pages todo"),
+        *_members(c_uint16 * 16, "pages todo"),
     ]
 
 
 class VdmEnd(Structure):
     _fields_ = [
         *_members(c_uint8, "statistics release missing_count"),
-        ("missing", c_uint8 * 16),
+        ("missing", c_uint16 * 16),
     ]
 
 
@@ -649,7 +649,7 @@ FUNCTIONS: Dict[str, Tuple[Any, Tuple[Any, ...]]] = {
     "explicit_next": (c_uint32, (POINTER(Explicit), POINTER(Operation))),
     "explicit_reply": (c_uint32, (POINTER(Explicit), c_uint8, *_BYTES)),
     "explicit_end": (c_uint32, (POINTER(Explicit), POINTER(ExplicitEnd))),
-    "vdm_begin": (None, (c_uint32, POINTER(Vdm))),
+    "vdm_begin": (None, (c_uint32, c_uint8, POINTER(Vdm))),
     "vdm_next": (c_uint32, (POINTER(Vdm), POINTER(Half), POINTER(Operation))),
     "vdm_reply": (c_uint32, (POINTER(Vdm), POINTER(Half), c_uint8, *_BYTES)),
     "vdm_end": (c_uint32, (POINTER(Vdm), POINTER(Half), POINTER(VdmEnd))),

@@ -82,7 +82,7 @@ class VdmReading(Procedure):
         self._operations = 0
         self.end: Optional[VdmEnd] = None
         """how it ended; None before"""
-        _begin(self._patience.pause, byref(self._saved))
+        _begin(self._patience.pause, 0, byref(self._saved))
 
     @property
     def release(self) -> VdmRelease:

@@ -721,7 +721,7 @@ static void try_other_runs(const struct dovecounter_plan *plan) {
     dovecounter_link_test_begin(&link, &patience, &it.test);
     dovecounter_settings_begin(&settings, &limits, &patience, &it.settings);
     dovecounter_explicit_begin(plan->control, 0xFF, &settings, &limits, &patience, &it.provisioning);
-    dovecounter_vdm_begin(40, &it.reading);
+    dovecounter_vdm_begin(40, 0, &it.reading);
     memcpy(&before, &it, sizeof it);
     run_others("no outcome of another loop", DOVECOUNTER_NO_REPLY, &it);
     expect_same("each goes on where it was", &before, &it, sizeof it);

@@ -334,17 +334,17 @@ static struct dovecounter_vdm_end statistics_end;
 
 /* A module of four groups, of which each bit that is waited for is 1. */
 static uint8_t answer_statistics(const struct dovecounter_operation *it, uint8_t bytes[128]) {
-    static uint8_t selected;
+    static uint8_t selected[2];
     if (it->kind == DOVECOUNTER_WAIT) return DOVECOUNTER_WAITED;
-    if (it->kind == DOVECOUNTER_STORE && it->offset == 126) selected = it->bytes[1];
+    if (it->kind == DOVECOUNTER_STORE && it->offset == 126) memcpy(selected, it->bytes, 2);
     for (size_t i = 0; i < 128; i++) bytes[i] = 0xFF;
-    if (it->kind == DOVECOUNTER_FETCH && it->offset == 126) bytes[0] = 0, bytes[1] = selected;
+    if (it->kind == DOVECOUNTER_FETCH && it->offset == 126) memcpy(bytes, selected, 2);
     return it->kind == DOVECOUNTER_STORE ? DOVECOUNTER_STORED : DOVECOUNTER_FETCHED;
 }
 
 /* All operations of a reading of statistics, each answered. */
 static void *reads_statistics(void *x) {
-    dovecounter_vdm_begin(20, &statistics);
+    dovecounter_vdm_begin(20, 1, &statistics);
     while (dovecounter_vdm_next(&statistics, read_statistics, &operation) == DOVECOUNTER_DONE) {
         uint8_t reply = answer_statistics(&operation, fetched);
         dovecounter_vdm_reply(&statistics, read_statistics, reply, fetched, operation.count);

@@ -351,8 +351,9 @@ static struct dovecounter_half read_statistics[DOVECOUNTER_MOST_VDM];
 static void begin_vdm(void) {
     struct dovecounter_vdm *found = painted(OUT, sizeof *found);
     uint32_t pause = byte();
-    dovecounter_vdm_begin(pause, found);
-    stop_if(found->halves != 0 || found->release != DOVECOUNTER_VDM_NEVER_FROZEN, "a beginning");
+    uint8_t bank = byte();
+    dovecounter_vdm_begin(pause, bank, found);
+    stop_if(found->bank != bank || found->halves != 0 || found->release != DOVECOUNTER_VDM_NEVER_FROZEN, "a beginning");
     statistics = *found;
 }
 

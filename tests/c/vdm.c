@@ -1,5 +1,5 @@
 /* Readings of statistics (VDM) through the library for firmware. `vdm [COUNT] [SEED]` first tries what each call answers and each kind of
-   end; then COUNT readings by chance, 5,000 where nothing is said, of a module of one to four groups, made from
+   end; then COUNT readings by chance, 5,000 where nothing is said, of one bank of a module, which has one to four groups in it, made from
    examples/osfp_800g_vdm.txt, whose statistics change at each transaction while they aren't frozen. It takes some transactions to freeze
    them, refuses at random, forgets its page, lacks pages, clears its flags when they are read, or falls silent. Whatever happens, what is
    called frozen decodes to what was frozen, no other bit was stored, and no freeze is left on that isn't named. */
@@ -32,6 +32,7 @@ enum { CONTROL = 144, DONE = 145, MOST_OPERATIONS = 759, NEVER = 1000 };
 static uint8_t lower[128], pages[PAGES][128];
 static bool has_page[PAGES];
 static unsigned groups;
+static uint8_t bank; /* which has pages 20h to 2Fh; the others are in bank 0 */
 static uint8_t frozen[PAGES][128],
     given[PAGES][128]; /* as they were when they were frozen; as they were fetched last */
 static uint8_t selected[2];
@@ -75,6 +76,8 @@ static void store_control(uint8_t byte) {
     *place = byte;
 }
 
+static uint8_t bank_of(uint8_t page) { return page >= DESCRIPTORS ? bank : 0; }
+
 static void store(const struct dovecounter_operation *operation) {
     if (operation->offset != 126) {
         expect("an address", CONTROL, operation->offset);
@@ -83,8 +86,9 @@ static void store(const struct dovecounter_operation *operation) {
         return;
     }
     expect("bytes of a selection", 2, operation->count);
-    expect("the bank", 0, operation->bytes[0]);
+    expect("the bank", bank_of(operation->bytes[1]), operation->bytes[0]);
     selected[1] = operation->bytes[1] < PAGES && has_page[operation->bytes[1]] ? operation->bytes[1] : 0;
+    selected[0] = bank_of(selected[1]);
 }
 
 static void fetch(const struct dovecounter_operation *operation, uint8_t bytes[128]) {
@@ -110,7 +114,7 @@ static uint8_t transact(void *context, const struct dovecounter_operation *opera
     expect("the device", 0xA0, operation->device);
     if (is_store && !is_deaf && (!refused || chance(2))) store(operation);
     if (!is_store && !refused) fetch(operation, bytes);
-    if (refused && chance(100) < forgets) selected[1] = 0;
+    if (refused && chance(100) < forgets) selected[0] = selected[1] = 0;
     return refused ? DOVECOUNTER_REFUSED : is_store ? DOVECOUNTER_STORED : DOVECOUNTER_FETCHED;
 }
 
@@ -138,6 +142,7 @@ static void make_pages(void) {
 
 static void make_module(unsigned of_groups) {
     groups = of_groups;
+    bank = 0;
     memcpy(lower, example(0, 0)->bytes, sizeof lower);
     make_pages();
     control = (uint8_t)chance(128);
@@ -190,7 +195,8 @@ static struct dovecounter_vdm_end read_all(void) {
     memset(&reading, 0xA5, sizeof reading);
     memset(found, 0xA5, sizeof found);
     was_asked = may_be_frozen();
-    dovecounter_vdm_begin(10, &reading);
+    dovecounter_vdm_begin(10, bank, &reading);
+    expect("its bank", bank, reading.bank);
     return run();
 }
 
@@ -202,14 +208,17 @@ static void expect_end(const char *what, unsigned statistics, unsigned release, 
     for (unsigned i = end.missing_count; i < 16; i++) expect("zeros after them", 0, end.missing[i]);
 }
 
-static bool is_statistic(uint8_t page) { return page >= DESCRIPTORS && page <= FLAGS; }
+/* A page by its number. */
+static unsigned numbered(unsigned page) { return 256U * bank + page; }
+
+static bool is_statistic(unsigned number) { return number >= numbered(DESCRIPTORS) && number <= numbered(FLAGS); }
 
 /* Each half is as it was fetched. */
 static void expect_halves(void) {
     for (unsigned i = 0; i < reading.halves; i++) {
         expect("a half of device A0", 0xA0, found[i].device);
         expect("an upper half", 1, found[i].upper);
-        expect("a half of bank 0", 0, found[i].bank);
+        expect("a half of its bank", bank_of(found[i].page), found[i].bank);
         expect("a half that the module has", 1, found[i].page < PAGES && has_page[found[i].page]);
         expect_same("a half", given[found[i].page], found[i].bytes, 128);
     }
@@ -217,12 +226,12 @@ static void expect_halves(void) {
 
 static bool is_missing(const struct dovecounter_vdm_end *end, uint8_t page) {
     for (unsigned i = 0; i < end->missing_count; i++)
-        if (end->missing[i] == page) return true;
+        if (end->missing[i] == numbered(page)) return true;
     return false;
 }
 
 static struct dovecounter_half of_page(uint8_t page, const uint8_t bytes[128]) {
-    struct dovecounter_half half = {.device = 0xA0, .upper = 1, .page = page};
+    struct dovecounter_half half = {.device = 0xA0, .upper = 1, .bank = bank_of(page), .page = page};
     memcpy(half.bytes, bytes, 128);
     return half;
 }
@@ -239,9 +248,15 @@ static size_t put_frozen(const struct dovecounter_vdm_end *end, struct dovecount
     return count;
 }
 
-/* What is decoded is what was frozen. */
-static void expect_decoded(const struct dovecounter_vdm_end *end) {
+/* A bank has the lanes from 8 * bank + 1 on; a descriptor may name sixteen. */
+static bool is_in_bank(const struct dovecounter_observable *one) {
+    return one->lane == 0 || (one->lane > 8 * bank && one->lane <= 8 * bank + 16);
+}
+
+/* What is decoded is what was frozen. Answers how many of it are of lanes, or of data paths. */
+static unsigned expect_decoded(const struct dovecounter_vdm_end *end) {
     struct dovecounter_half all[16];
+    unsigned of_lanes = 0;
     struct dovecounter_observable one, other;
     uint16_t place = DOVECOUNTER_FIRST_INSTANCE, other_place = place;
     size_t count = put_frozen(end, all);
@@ -253,7 +268,10 @@ static void expect_decoded(const struct dovecounter_vdm_end *end) {
         expect("another decoding", 0, dovecounter_observables(all, count, &other_place, &other));
         expect("its place", other_place, place);
         expect_same("an observation", &other, &one, sizeof one);
+        expect("a lane of the bank", 1, place == 0 || is_in_bank(&one));
+        of_lanes += place != 0 && one.lane != 0;
     } while (place != 0 && failures == 0);
+    return of_lanes;
 }
 
 /* ---- each kind of end ---- */
@@ -266,7 +284,7 @@ static void try_ends(void) {
     expect("halves of one group", 6, reading.halves);
     expect_halves();
     expect_decoded(&end);
-    make_module(4);
+    make_module(4), bank = 3;
     expect_end("all of four groups", DOVECOUNTER_VDM_FROZEN, DOVECOUNTER_VDM_RELEASED, 0, read_all());
     expect("halves of four groups", DOVECOUNTER_MOST_VDM, reading.halves);
     make_module(2), pages[ADVERTISED][142 - 128] &= 0xBF;
@@ -295,6 +313,27 @@ static void try_slow_ones(void) {
     expect_end("pages that it hasn't got", DOVECOUNTER_VDM_FROZEN, DOVECOUNTER_VDM_RELEASED, 2, end);
     expect("the first", LIMITS, end.missing[0]);
     expect("the second", FLAGS, end.missing[1]);
+}
+
+/* Each bank is read by itself: with its number go its pages, and its lanes. */
+static void try_banks(void) {
+    for (unsigned each = 0; each < 4; each++) {
+        make_module(1), bank = (uint8_t)each;
+        struct dovecounter_vdm_end end = read_all();
+        expect_end("a bank", DOVECOUNTER_VDM_FROZEN, DOVECOUNTER_VDM_RELEASED, 0, end);
+        expect_halves();
+        expect("instances of its lanes", 1, expect_decoded(&end) > 40);
+        make_module(4), bank = (uint8_t)each, has_page[SAMPLES + 2] = false;
+        end = read_all();
+        expect_end("one without a page", DOVECOUNTER_VDM_FROZEN, DOVECOUNTER_VDM_RELEASED, 1, end);
+        expect("that page of it", 256 * each + SAMPLES + 2, end.missing[0]);
+    }
+    make_module(4), bank = 255;
+    expect_end("the last number", DOVECOUNTER_VDM_FROZEN, DOVECOUNTER_VDM_RELEASED, 0, read_all());
+    expect_halves();
+    make_module(1), bank = 1, has_page[GROUPS] = false;
+    expect_end("one that isn't there", DOVECOUNTER_VDM_UNKNOWN, DOVECOUNTER_VDM_NEVER_FROZEN, 0, read_all());
+    expect("page 01h alone", ADVERTISED, reading.halves == 1 ? found[0].page : 0);
 }
 
 /* A module that falls silent while it is frozen: the next reading, by the same bytes, releases it. */
@@ -328,7 +367,7 @@ static void try_statuses(void) {
     expect("no reading", DOVECOUNTER_NO_CONVERSATION, dovecounter_vdm_next(&reading, found, &operation));
     expect("no end of none", DOVECOUNTER_NO_CONVERSATION, dovecounter_vdm_end(&reading, found, &end));
     expect_refused("no reply to none", DOVECOUNTER_NO_CONVERSATION, DOVECOUNTER_REFUSED, 0);
-    dovecounter_vdm_begin(10, &reading);
+    dovecounter_vdm_begin(10, 0, &reading);
     expect("no half yet", 0, reading.halves);
     expect("no end yet", DOVECOUNTER_NOT_ENDED, dovecounter_vdm_end(&reading, found, &end));
     expect_same("no operation", &same, &operation, sizeof operation);
@@ -349,7 +388,7 @@ static void try_statuses(void) {
 static void try_numbers(void) {
     struct dovecounter_operation operation;
     struct dovecounter_vdm good;
-    dovecounter_vdm_begin(10, &good);
+    dovecounter_vdm_begin(10, 0, &good);
     reading = good, reading.magic++;
     expect("another magic", DOVECOUNTER_NO_CONVERSATION, dovecounter_vdm_next(&reading, found, &operation));
     reading = good, reading.stage = 8;
@@ -369,8 +408,8 @@ static void try_numbers(void) {
 }
 
 static void try_run(void) {
-    make_module(3);
-    dovecounter_vdm_begin(10, &reading);
+    make_module(3), bank = 2;
+    dovecounter_vdm_begin(10, bank, &reading);
     expect("a whole run", DOVECOUNTER_DONE, dovecounter_vdm_run(&reading, found, transact, pause_for, NULL));
     expect("its release", DOVECOUNTER_VDM_RELEASED, reading.release);
     expect("its halves", 12, reading.halves);
@@ -382,6 +421,7 @@ static unsigned ends[5], releases[4];
 
 static void try_any(void) {
     make_module(1 + chance(4));
+    bank = (uint8_t)(chance(2) ? 0 : chance(4));
     refuses = chance(3) == 0 ? 0 : chance(chance(2) ? 10 : 60);
     forgets = chance(100);
     slow = chance(20) == 0 ? NEVER : chance(chance(3) == 0 ? 90 : 10);
@@ -407,6 +447,7 @@ int main(int count, char **words) {
     read_halves();
     try_ends();
     try_slow_ones();
+    try_banks();
     try_silence();
     try_statuses();
     try_numbers();

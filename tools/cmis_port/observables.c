@@ -47,7 +47,7 @@ static void carry_out_reading(struct port *port, struct listed *listed) {
     struct dovecounter_vdm reading;
     struct dovecounter_operation operation;
     uint8_t bytes[128];
-    dovecounter_vdm_begin(PAUSE, &reading);
+    dovecounter_vdm_begin(PAUSE, 0, &reading);
     while (dovecounter_vdm_next(&reading, listed->halves, &operation) == DOVECOUNTER_DONE && port->ending != SILENT) {
         uint8_t outcome = DOVECOUNTER_WAITED;
         if (listed->interrupted && reading.release == DOVECOUNTER_VDM_NEVER_FROZEN) break;
@@ -202,7 +202,7 @@ static bool take_next(const struct port *port, const struct listed *listed, uint
 
 /* The first page that the module advertises, and that wasn't read; 0 if there is none. */
 static uint8_t absent_page(const struct listed *listed) {
-    if (listed->end.missing_count > 0) return listed->end.missing[0];
+    if (listed->end.missing_count > 0) return (uint8_t)listed->end.missing[0];
     bool is_known = half_of(listed->halves, listed->count, 1, GROUPS) != NULL;
     return listed->end.statistics == DOVECOUNTER_VDM_UNKNOWN && listed->count > 0 && !is_known ? GROUPS : 0;
 }

@@ -82,7 +82,7 @@ void begin_listing(struct port *port) {
         if (it->due < port->due) port->due = it->due;
         return;
     }
-    dovecounter_vdm_begin(PAUSE, &it->reading);
+    dovecounter_vdm_begin(PAUSE, 0, &it->reading);
     it->is_under_way = true;
     port->goes_on_at = 0;
     port->due = now();
