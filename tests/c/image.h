@@ -1,14 +1,18 @@
-/* The halves of the image whose text is on standard input; for texts that cmisctl takes. */
+/* The halves of the image whose text is on standard input, the first MOST_HALVES of them; for texts that cmisctl takes. */
 #include "dovecounter.h"
 
 #include <stdio.h>
 
-static struct dovecounter_half halves[16];
+#ifndef MOST_HALVES
+#define MOST_HALVES 16
+#endif
+
+static struct dovecounter_half halves[MOST_HALVES];
 static size_t half_count;
 
 static void read_halves(void) {
     char line[512], digits[257];
-    while (half_count < 16 && fgets(line, sizeof line, stdin)) {
+    while (half_count < MOST_HALVES && fgets(line, sizeof line, stdin)) {
         struct dovecounter_half *half = &halves[half_count];
         unsigned device, bank = 0, page = 0, byte;
         if (sscanf(line, "lower %x %256s", &device, digits) == 2)

@@ -1,7 +1,10 @@
 /* Prints what the library says that a module measures as the command `observables` prints it, but for the page that is absent, of the
-   image whose text is on standard input, so that both can be compared. Of a fault it prints the code alone. First it looks at what the
-   text does not tell: that nothing is written on a refusal and at the end, and that numbers and names agree. */
+   image whose text is on standard input, so that both can be compared. Of a fault it prints the code alone. The library is asked as
+   dovecounter.h says, for monitors and then for what each bank lists, since a call takes no more halves than those of one bank. First it
+   looks at what the text does not tell: that nothing is written on a refusal and at the end, that numbers and names agree, and that a call
+   with all halves answers the same, if there are no more of them than it takes. */
 #include "dovecounter.h"
+#define MOST_HALVES 64
 #include "image.h"
 
 #include <inttypes.h>
@@ -101,25 +104,76 @@ static const char *code_of(uint32_t status) {
     }
 }
 
+/* ---- what is asked for */
+
+enum { BANKS = 4, MOST_ASKED = 16, MOST_FOUND = 1200, ADVERTISED = 0x01 };
+
+static int is_listed(const struct dovecounter_half *half) {
+    return half->device == 0xA0 && half->upper && half->page >> 4 == 2;
+}
+
+/* The halves that monitors are in, or if `bank` is one, what this lists. */
+static size_t choose(unsigned bank, struct dovecounter_half asked[MOST_ASKED]) {
+    size_t count = 0;
+    for (size_t i = 0; i < half_count; i++) {
+        const struct dovecounter_half *half = &halves[i];
+        int is_shared = half->bank == 0 && (!half->upper || half->page == ADVERTISED);
+        int is_wanted = bank == BANKS ? !is_listed(half) : is_shared || (is_listed(half) && half->bank == bank);
+        expect("there are too many halves", !is_wanted || count < MOST_ASKED);
+        if (is_wanted) asked[count++] = *half;
+    }
+    return count;
+}
+
+static struct dovecounter_observable found[MOST_FOUND];
+static size_t found_count;
+
+/* Finds those from a place on, and before another one. */
+static void find(const struct dovecounter_half *asked, size_t count, uint16_t place, unsigned end) {
+    for (;;) {
+        before = one;
+        expect("a later one is refused", dovecounter_observables(asked, count, &place, &one) == DOVECOUNTER_DONE);
+        if (place == 0 || place > end) break;
+        expect("there are too many", found_count < MOST_FOUND);
+        found[found_count++] = one;
+    }
+    expect("something is written at the end", place != 0 || memcmp(&one, &before, sizeof one) == 0);
+}
+
+static void find_all(void) {
+    struct dovecounter_half asked[MOST_ASKED];
+    find(asked, choose(BANKS, asked), 0, DOVECOUNTER_FIRST_INSTANCE);
+    for (unsigned bank = 0; bank < BANKS; bank++)
+        find(asked, choose(bank, asked), DOVECOUNTER_FIRST_INSTANCE, UINT16_MAX);
+}
+
+/* All of them at once. */
+static void look_at_one_call(void) {
+    uint16_t place = 0;
+    size_t count = 0;
+    if (half_count > MOST_ASKED) return;
+    for (; dovecounter_observables(halves, half_count, &place, &one) == DOVECOUNTER_DONE && place != 0; count++)
+        expect("another one in one call", count < found_count && memcmp(&one, &found[count], sizeof one) == 0);
+    expect("fewer in one call", count == found_count);
+}
+
 int main(void) {
     uint16_t place = 0;
-    int count = 0;
+    struct dovecounter_half asked[MOST_ASKED];
     read_halves();
     memset(&one, 0x5A, sizeof one);
     before = one;
-    uint32_t status = dovecounter_observables(halves, half_count, &place, &one);
+    uint32_t status = dovecounter_observables(asked, choose(BANKS, asked), &place, &one);
     if (status != DOVECOUNTER_DONE) {
         expect("something is written on a refusal", place == 0 && memcmp(&one, &before, sizeof one) == 0);
         printf("fault %s\n", code_of(status));
         return 0;
     }
-    for (; place != 0; count++) {
-        before = one;
-        expect("a later one is refused", dovecounter_observables(halves, half_count, &place, &one) == DOVECOUNTER_DONE);
-    }
-    expect("something is written at the end", memcmp(&one, &before, sizeof one) == 0);
-    printf("observables %d\n", count);
-    while (dovecounter_observables(halves, half_count, &place, &one) == DOVECOUNTER_DONE && place != 0) {
+    find_all();
+    look_at_one_call();
+    printf("observables %zu\n", found_count);
+    for (size_t i = 0; i < found_count; i++) {
+        one = found[i];
         look_at_numbers();
         print_one();
     }
