@@ -47,7 +47,8 @@ void load_line(struct emulator *module, const char *line) {
     if (sscanf(line, "lower A0 %256s", digits) == 1) read_digits(digits, module->lower);
     if (sscanf(line, "upper A0 %x %x %256s", &bank, &page, digits) != 3 || bank > 3 || page > 255) return;
     if (bank == 0) module->present[page] = read_digits(digits, module->pages[page]);
-    if (bank != 0 && page == 0x11) module->has_lanes[bank - 1] = read_digits(digits, module->lanes[bank - 1]);
+    if (bank != 0 && (page == 0x11 || page >> 4 == 2))
+        module->has_further[bank - 1][page] = read_digits(digits, module->further[bank - 1][page]);
 }
 
 /* Polarity, disable and squelch of single lanes. */
@@ -232,7 +233,7 @@ static void apply_settings(struct emulator *module, uint8_t mask) {
 
 uint8_t fetch_byte(struct emulator *module, uint8_t address) {
     uint8_t at = address & 127, byte;
-    uint8_t *bytes = module->bank == 0 ? module->pages[module->page] : module->lanes[module->bank - 1];
+    uint8_t *bytes = module->bank == 0 ? module->pages[module->page] : module->further[module->bank - 1][module->page];
     bool has_paths = module->bank == 0 && module->page == 0x11;
     if (address < 126) {
         byte = module->lower[address];
@@ -249,7 +250,7 @@ uint8_t fetch_byte(struct emulator *module, uint8_t address) {
 }
 
 static bool is_there(const struct emulator *module, uint8_t bank, uint8_t page) {
-    return bank == 0 ? module->present[page] : bank <= 3 && page == 0x11 && module->has_lanes[bank - 1];
+    return bank == 0 ? module->present[page] : bank <= 3 && page < 0x30 && module->has_further[bank - 1][page];
 }
 
 static void select_page(struct emulator *module, uint8_t page) {

@@ -21,8 +21,8 @@ enum config_status {
 struct emulator {
     uint8_t lower[128], pages[256][128]; /* as they were loaded, with what is stored and latched */
     bool present[256];                   /* pages of bank 0 */
-    uint8_t lanes[3][128];               /* page 11h of banks 1 to 3 */
-    bool has_lanes[3];
+    uint8_t further[3][0x30][128];       /* of banks 1 to 3 pages 11h and 20h to 2Fh */
+    bool has_further[3][0x30];
     uint8_t bank, page, next_bank; /* the selection; what was stored at 126 */
     uint8_t path[8], status[8];
     unsigned path_left[8]; /* milliseconds until a transient state ends */

@@ -89,13 +89,17 @@ static void read_link_word(const char *word, unsigned value) {
     if (strncmp(word, "unlocked=", 9) == 0) diagnostics->unlocked = (uint8_t)value;
 }
 
-/* Words of pages 20h to 2Fh. */
+/* Words of pages 20h to 2Fh: of all banks, or of the bank that follows, else of bank 0. */
 static void read_statistics_word(const char *word, unsigned value) {
+    struct statistics *bank = &shim.statistics[value % 4];
     if (strcmp(word, "statistics") == 0) shim.lists = true;
-    if (strncmp(word, "freeze=", 7) == 0) shim.statistics.lasts = value;
-    if (strcmp(word, "moves") == 0) shim.statistics.moves = true;
-    if (strcmp(word, "stuck-statistics") == 0) shim.statistics.stuck = true;
-    if (strcmp(word, "stay-frozen") == 0) shim.statistics.stays = true;
+    for (struct statistics *each = shim.statistics; each < shim.statistics + 4; each++) {
+        if (strncmp(word, "freeze=", 7) == 0) each->lasts = value;
+        if (strcmp(word, "moves") == 0) each->moves = true;
+    }
+    if (strncmp(word, "stuck-statistics", 16) == 0) bank->stuck = true;
+    if (strncmp(word, "stay-frozen", 11) == 0) bank->stays = true;
+    if (strncmp(word, "denies-freeze", 13) == 0) bank->denies = true;
 }
 
 /* Words of the firmware. */
@@ -206,7 +210,8 @@ static void begin(void) {
     begin_emulator(&shim.module, 1);
     begin_diagnostics(&shim.diagnostics);
     begin_two_banks(&shim.firmware, 1);
-    shim.statistics.pages = shim.module.pages;
+    shim.statistics[0].pages = shim.module.pages;
+    for (unsigned bank = 1; bank < 4; bank++) shim.statistics[bank].pages = shim.module.further[bank - 1];
     load_bank(&shim.firmware, 0, (const uint8_t *)"\1\2\0\3", 4);
     for (char *word = strtok_r(copy, " ", &rest); word != NULL; word = strtok_r(NULL, " ", &rest)) read_word(word);
     free(copy);
@@ -234,6 +239,16 @@ static void tell_firmware(FILE *out) {
     fclose(kept);
 }
 
+/* Of a further bank only if it has any. */
+static void tell_statistics(FILE *out) {
+    char text[512];
+    for (unsigned bank = 0; bank < 4; bank++) {
+        if (bank != 0 && !shim.module.has_further[bank - 1][0x2F]) continue;
+        if (bank != 0) fprintf(out, "bank %u ", bank);
+        fwrite(text, 1, describe_statistics(&shim.statistics[bank], text, sizeof text), out);
+    }
+}
+
 __attribute__((destructor)) static void tell(void) {
     char text[512];
     FILE *out = shim.out[0] != 0 ? fopen(shim.out, "w") : NULL;
@@ -242,7 +257,7 @@ __attribute__((destructor)) static void tell(void) {
     fprintf(out, "seconds %lld\n", (long long)shim.microseconds / 1000000 - START);
     if (shim.banks) tell_firmware(out);
     if (shim.links) fwrite(text, 1, describe_diagnostics(&shim.diagnostics, text, sizeof text), out);
-    if (shim.lists) fwrite(text, 1, describe_statistics(&shim.statistics, text, sizeof text), out);
+    if (shim.lists) tell_statistics(out);
     fclose(out);
 }
 
@@ -280,7 +295,7 @@ static bool reaches(void) {
         pass_millisecond(&shim.module);
         if (shim.banks) pass_time(&shim.firmware, 1);
         if (shim.links) pass_diagnostics(&shim.diagnostics);
-        if (shim.lists) pass_statistics(&shim.statistics);
+        for (unsigned bank = 0; shim.lists && bank < 4; bank++) pass_statistics(&shim.statistics[bank]);
         if (shim.firmware.off_left > 0) store_byte(&shim.module, 127, 0); /* a reset selects page 00h */
     }
     errno = shim.error;
@@ -301,12 +316,14 @@ static bool is_of_statistics(uint8_t address) {
     return shim.lists && address >= 128 && shim.module.page >= 0x20 && shim.module.page <= 0x2F;
 }
 
+static struct statistics *statistics_of_bank(void) { return &shim.statistics[shim.module.bank]; }
+
 static bool is_of_block(uint8_t address) { return shim.banks && address >= 128 && shim.module.page == 0x9F; }
 
 static uint8_t fetch_one(uint8_t address) {
     if (shim.banks && address == 37) return fetch_status(&shim.firmware);
     if (is_of_links(address)) return fetch_diagnostics(&shim.diagnostics, shim.module.page, address);
-    if (is_of_statistics(address)) return fetch_statistics(&shim.statistics, shim.module.page, address);
+    if (is_of_statistics(address)) return fetch_statistics(statistics_of_bank(), shim.module.page, address);
     return is_of_block(address) ? fetch_of_block(&shim.firmware, address) : fetch_byte(&shim.module, address);
 }
 
@@ -316,7 +333,7 @@ static void store_one(uint8_t address, uint8_t byte) {
     else if (is_of_links(address))
         store_diagnostics(&shim.diagnostics, shim.module.page, address, byte);
     else if (is_of_statistics(address))
-        store_statistics(&shim.statistics, shim.module.page, address, byte);
+        store_statistics(statistics_of_bank(), shim.module.page, address, byte);
     else
         store_byte(&shim.module, address, byte);
 }
@@ -336,6 +353,12 @@ static bool is_locked(const struct i2c_msg *message) {
     return shim.locked && stores && shim.module.page == 0x10;
 }
 
+static bool is_denied(const struct i2c_msg *message) {
+    bool stores = !(message->flags & I2C_M_RD) && message->len == 2;
+    return stores && is_of_statistics(message->buf[0]) &&
+           denies_freeze(statistics_of_bank(), shim.module.page, message->buf[0], message->buf[1]);
+}
+
 /* Of page 9Fh the module gives no more bytes at once than byte 164 of page 01h advertises. */
 static bool is_too_long(const struct i2c_msg *message) {
     return is_of_block(shim.pointer) && message->len > 8 * (1 + shim.module.pages[1][164 - 128]);
@@ -346,7 +369,7 @@ static int transfer(const struct i2c_rdwr_ioctl_data *data) {
     for (unsigned i = 0; i < data->nmsgs; i++)
         if (shim.longest != 0 && data->msgs[i].len > shim.longest)
             return errno = shim.too_long != 0 ? shim.too_long : EOPNOTSUPP, -1;
-    bool reached = reaches() && !is_locked(&data->msgs[0]);
+    bool denied = is_denied(&data->msgs[0]), reached = reaches() && !is_locked(&data->msgs[0]) && !denied;
     if (reached && shim.partial && data->nmsgs == 2) return 1;
     for (unsigned i = 0; i < data->nmsgs; i++) {
         struct i2c_msg *message = &data->msgs[i];
@@ -355,8 +378,8 @@ static int transfer(const struct i2c_rdwr_ioctl_data *data) {
             if (!reached || is_too_long(message)) return -1;
             fetch_bytes(shim.pointer, message->len, message->buf);
         } else {
-            /* a refused store may have given some of its bytes */
-            size_t taken = reached ? message->len - 1U : next_random(&shim.random) % message->len;
+            /* a refused store may have given some of its bytes, unless the module itself denies it */
+            size_t taken = reached ? message->len - 1U : denied ? 0 : next_random(&shim.random) % message->len;
             shim.pointer = message->buf[0];
             if (!(shim.unplug != 0 && shim.made > shim.unplug)) store_bytes(shim.pointer, taken, message->buf + 1);
             if (!reached) return -1;

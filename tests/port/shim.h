@@ -49,9 +49,9 @@ struct shim {
 
     /* its firmware, if it has a command data block */
     struct diagnostics diagnostics;
-    bool links; /* the module has them */
-    struct statistics statistics;
-    bool lists; /* so it has pages 20h to 2Fh */
+    bool links;                      /* the module has them */
+    struct statistics statistics[4]; /* of each bank */
+    bool lists;                      /* so it has pages 20h to 2Fh */
     struct two_banks firmware;
     bool banks;
     char keep[256]; /* a file for the image that runs at the end */

@@ -26,6 +26,10 @@ void store_statistics(struct statistics *it, uint8_t page, uint8_t address, uint
     it->left = it->lasts;
 }
 
+bool denies_freeze(const struct statistics *it, uint8_t page, uint8_t address, uint8_t byte) {
+    return it->denies && page == GROUPS && address - 128 == CONTROL && byte >= 0x80;
+}
+
 void pass_statistics(struct statistics *it) {
     for (unsigned page = SAMPLES; page < SAMPLES + 4 && it->moves && !it->is_frozen; page++)
         for (unsigned at = 0; at < 128; at++) it->pages[page][at]++;

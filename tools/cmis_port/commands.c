@@ -16,10 +16,11 @@ enum status refuse_by(const struct port *port, uint32_t status) {
 
 enum status image(struct port *port) {
     struct listed listed = {.count = 0};
+    struct dovecounter_half of_banks[MOST_LISTED];
     bool whole = read_module(port, true) && read_further_banks(port) && (!port->vdm || read_listed(port, &listed));
     const char *end = port->json ? "\\n" : "\n";
     if (port->json) fputs("{\"image\": \"", stdout);
-    print_image(stdout, port->halves, port->half_count, listed.halves, listed.count, end);
+    print_image(stdout, port->halves, port->half_count, of_banks, join_listed(&listed, of_banks), end);
     if (port->json) puts("\"}");
     return whole ? DONE : port->stored ? NOT_PROVISIONED : REFUSED;
 }

@@ -1,86 +1,8 @@
-/* What a module measures: its monitors, and what it lists itself (VDM), whose statistics are frozen while they are read. */
+/* What a module measures: its monitors, and what it lists itself (VDM). */
 #include "port.h"
 
 #include <err.h>
 #include <inttypes.h>
-#include <string.h>
-
-enum {
-    PAUSE = 20
-}; /* milliseconds after a fruitless operation, of which 101 may be so until the statistics are frozen */
-enum { ADVERTISED = 0x01, GROUPS = 0x2F };
-
-/* ---- on the bus ---- */
-
-static const char *const statistics_sentences[5] = {
-    [DOVECOUNTER_VDM_UNKNOWN] = "page 01h or 2Fh can't be read",
-    [DOVECOUNTER_VDM_NOT_TAKEN] =
-        "the module doesn't take the request to freeze its statistics: they may not belong together",
-    [DOVECOUNTER_VDM_PENDING] = "the module doesn't freeze its statistics in time: they may not belong together"};
-
-static const char *const release_sentences[4] = {
-    [DOVECOUNTER_VDM_MAY_BE_FROZEN] = "its statistics may still be frozen, until this command runs again",
-    [DOVECOUNTER_VDM_ACCEPTED] = "the module doesn't show that its statistics go on, though it took the request"};
-
-static void say(const struct port *port, const char *sentence) {
-    clear_progress();
-    if (sentence != NULL) warnx("%s: %s", port->bus.name, sentence);
-}
-
-static void say_end(const struct port *port, const struct listed *listed) {
-    if (listed->ended) say(port, statistics_sentences[listed->end.statistics]);
-    for (unsigned i = 0; listed->ended && i < listed->end.missing_count; i++)
-        warnx("%s: page %02Xh can't be read", port->bus.name, listed->end.missing[i]);
-    say(port, release_sentences[listed->release]);
-}
-
-static bool is_whole(const struct listed *listed) {
-    const struct dovecounter_vdm_end *end = &listed->end;
-    if (!listed->ended || listed->interrupted) return false;
-    if (end->statistics == DOVECOUNTER_VDM_UNSUPPORTED) return true;
-    return end->statistics == DOVECOUNTER_VDM_FROZEN && end->release == DOVECOUNTER_VDM_RELEASED &&
-           end->missing_count == 0;
-}
-
-/* A signal ends it as soon as the statistics are released. */
-static void carry_out_reading(struct port *port, struct listed *listed) {
-    struct dovecounter_vdm reading;
-    struct dovecounter_operation operation;
-    uint8_t bytes[128];
-    dovecounter_vdm_begin(PAUSE, 0, &reading);
-    while (dovecounter_vdm_next(&reading, listed->halves, &operation) == DOVECOUNTER_DONE && port->ending != SILENT) {
-        uint8_t outcome = DOVECOUNTER_WAITED;
-        if (listed->interrupted && reading.release == DOVECOUNTER_VDM_NEVER_FROZEN) break;
-        if (operation.kind == DOVECOUNTER_WAIT)
-            pause_ms(port, operation.milliseconds);
-        else
-            outcome = transact_in_pieces(port, &operation, bytes);
-        dovecounter_vdm_reply(&reading, listed->halves, outcome, bytes, operation.count);
-        if (port->ending == STOPPED) listed->interrupted = true, port->ending = GOES_ON;
-    }
-    listed->count = reading.halves;
-    listed->release = reading.release;
-    listed->ended = dovecounter_vdm_end(&reading, listed->halves, &listed->end) == DOVECOUNTER_DONE;
-}
-
-static const struct dovecounter_half *half_of(const struct dovecounter_half *halves, size_t count, uint8_t upper,
-                                              uint8_t page) {
-    for (size_t i = 0; i < count; i++)
-        if (halves[i].device == 0xA0 && halves[i].bank == 0 && halves[i].upper == upper && halves[i].page == page)
-            return &halves[i];
-    return NULL;
-}
-
-/* Reads what the module lists itself, if it is CMIS and has pages, once it was read. Says what isn't whole. */
-bool read_listed(struct port *port, struct listed *listed) {
-    const struct dovecounter_half *lower = half_of(port->halves, port->half_count, 0, 0);
-    memset(listed, 0, sizeof *listed);
-    if (lower == NULL || half_of(port->halves, port->half_count, 1, ADVERTISED) == NULL) return true;
-    carry_out_reading(port, listed);
-    listed->halves[listed->count] = *lower;
-    say_end(port, listed);
-    return is_whole(listed);
-}
 
 /* ---- amounts, as cmisctl prints them ---- */
 
@@ -184,36 +106,42 @@ static void print_observable_in_json(const struct dovecounter_observable *one) {
 
 /* ---- the command ---- */
 
-/* The next of all: monitors by the halves of the module, and then what it lists itself. Answers whether there is one. */
-static bool take_next(const struct port *port, const struct listed *listed, uint16_t *place,
-                      struct dovecounter_observable *one) {
+/* Where the next of all may be: in the list of the library, and of banks that were read. */
+struct cursor {
+    uint16_t place;
+    uint8_t bank;
+};
+
+/* The next of the monitors, by the halves of the module. Answers whether there is one. */
+static bool take_monitor(const struct port *port, uint16_t *place, struct dovecounter_observable *one) {
     uint16_t at = *place;
-    bool is_monitor = at < DOVECOUNTER_FIRST_INSTANCE &&
-                      dovecounter_observables(port->halves, port->half_count, &at, one) == DOVECOUNTER_DONE &&
-                      at != 0 && at <= DOVECOUNTER_FIRST_INSTANCE;
-    if (!is_monitor) {
-        at = *place < DOVECOUNTER_FIRST_INSTANCE ? DOVECOUNTER_FIRST_INSTANCE : *place;
-        if (listed->count == 0) return false;
-        dovecounter_observables(listed->halves, listed->count + 1U, &at, one);
-    }
-    *place = at;
-    return at != 0;
+    bool is_there = at < DOVECOUNTER_FIRST_INSTANCE &&
+                    dovecounter_observables(port->halves, port->half_count, &at, one) == DOVECOUNTER_DONE && at != 0 &&
+                    at <= DOVECOUNTER_FIRST_INSTANCE;
+    if (is_there) *place = at;
+    return is_there;
 }
 
-/* The first page that the module advertises, and that wasn't read; 0 if there is none. */
-static uint8_t absent_page(const struct listed *listed) {
-    if (listed->end.missing_count > 0) return (uint8_t)listed->end.missing[0];
-    bool is_known = half_of(listed->halves, listed->count, 1, GROUPS) != NULL;
-    return listed->end.statistics == DOVECOUNTER_VDM_UNKNOWN && listed->count > 0 && !is_known ? GROUPS : 0;
+/* The next of all: monitors, and then what the module lists itself in each bank. Answers whether there is one. */
+static bool take_next(const struct port *port, const struct listed *listed, struct cursor *at,
+                      struct dovecounter_observable *one) {
+    if (take_monitor(port, &at->place, one)) return true;
+    if (at->place < DOVECOUNTER_FIRST_INSTANCE) at->place = DOVECOUNTER_FIRST_INSTANCE;
+    for (; at->bank < listed->count; at->bank++, at->place = DOVECOUNTER_FIRST_INSTANCE) {
+        const struct listed_bank *bank = &listed->banks[at->bank];
+        uint32_t status = dovecounter_observables(bank->halves, bank->count + 1U, &at->place, one);
+        if (status == DOVECOUNTER_DONE && at->place != 0) return true;
+    }
+    return false;
 }
 
 static void print_lines(const struct port *port, const struct listed *listed) {
     struct dovecounter_observable one;
     uint8_t absent = absent_page(listed);
     unsigned count = 0;
-    for (uint16_t place = 0; take_next(port, listed, &place, &one);) count++;
+    for (struct cursor at = {0}; take_next(port, listed, &at, &one);) count++;
     printf("observables %u\n", count);
-    for (uint16_t place = 0; take_next(port, listed, &place, &one);) print_observable(&one);
+    for (struct cursor at = {0}; take_next(port, listed, &at, &one);) print_observable(&one);
     if (absent != 0) printf("absent-page %02Xh\n", absent);
 }
 
@@ -222,7 +150,7 @@ static void print_in_json(const struct port *port, const struct listed *listed) 
     uint8_t absent = absent_page(listed);
     const char *before = "\n";
     fputs("{\n  \"dovecounter\": 1,\n  \"observables\": [", stdout);
-    for (uint16_t place = 0; take_next(port, listed, &place, &one); before = ",\n") {
+    for (struct cursor at = {0}; take_next(port, listed, &at, &one); before = ",\n") {
         fputs(before, stdout);
         print_observable_in_json(&one);
     }

@@ -151,16 +151,27 @@ void say_lanes(FILE *out, const char *before, unsigned lanes, const char *after)
 void say_state(FILE *out, const char *before, unsigned state, const char *after);
 void say_hindrance(FILE *out, const char *before, const struct dovecounter_effect *effect);
 
-/* observables.c */
-/* What a module lists itself (VDM), as it was read. */
-struct listed {
+/* listed.c */
+enum { BANKS = 4, MOST_LISTED = BANKS * DOVECOUNTER_MOST_VDM };
+/* What a module lists itself (VDM) in a bank, as it was read. */
+struct listed_bank {
     struct dovecounter_half halves[DOVECOUNTER_MOST_VDM + 1]; /* the lower one after those that were read */
-    uint8_t count;                                            /* of those */
+    uint8_t bank, count;                                      /* its number; how many of those */
     uint8_t release;                                          /* what became of a freeze */
-    bool ended, interrupted;
+    bool ended;
     struct dovecounter_vdm_end end; /* if it has ended */
 };
+/* The same of its banks, so many of them, from bank 0 on. */
+struct listed {
+    struct listed_bank banks[BANKS];
+    uint8_t count;
+    bool interrupted;
+};
 bool read_listed(struct port *port, struct listed *listed);
+size_t join_listed(const struct listed *listed, struct dovecounter_half halves[MOST_LISTED]);
+uint8_t absent_page(const struct listed *listed);
+
+/* observables.c */
 enum status observables(struct port *port);
 
 /* provision.c */
