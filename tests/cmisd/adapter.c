@@ -18,6 +18,7 @@
 #include <time.h>
 #include <unistd.h>
 
+enum { BANKS = 4, GROUPS_PAGE = 0x2F };
 enum { SIZE = 1 << 18, LOW_POWER = 1, READY = 3, ACTIVATED = 4, INITIALIZED = 7, MOST_TICKS = 2000 };
 
 /* The numbers come first, in the order that `run` knows. */
@@ -34,14 +35,14 @@ struct adapter {
     uint32_t hides;          /* a fetch of this byte of page 10h alone is refused, if it isn't 0 */
     uint32_t probes;         /* what became of it: fetches of byte 0 alone */
     uint32_t refuses_banks;  /* asked for: selections of further banks are refused */
-    uint32_t unused;
-    uint32_t shows;         /* asked for: the state that byte 3 shows, if it isn't 0 */
-    uint32_t refuses_power; /* so is this: transactions with byte 26 are refused */
+    uint32_t denies;         /* a bit for each bank whose statistics it refuses to freeze */
+    uint32_t shows;          /* asked for: the state that byte 3 shows, if it isn't 0 */
+    uint32_t refuses_power;  /* so is this: transactions with byte 26 are refused */
     /* these became of it */
     uint32_t transactions, refused, stores, needless, dropped, unread, state, deinit;
     uint32_t paths[8], active[8];
     uint32_t seen_serial, seen_resets, read_lower, read_lanes, stores_of_power, commits;
-    uint32_t frozen, freezes; /* whether the statistics are, or are to be; how often that was stored */
+    uint32_t frozen, freezes; /* a bit for each bank whose statistics are, or are to be; how often that was stored */
     uint32_t module_flags[32], lane_flags[152]; /* how often each was answered as raised */
     char image[256];
     uint32_t state_changes[8], status_changes[8]; /* how often a lane's code was answered to be another one */
@@ -55,8 +56,8 @@ struct adapter {
     uint8_t states[8], statuses[8];
     struct simulated simulated;
     struct two_banks banks;
-    struct statistics statistics;
-    uint8_t listed[0x30][128];
+    struct statistics statistics[BANKS];
+    uint8_t listed[BANKS][0x30][128];
 };
 _Static_assert(sizeof(struct adapter) <= SIZE, "the file is too small");
 
@@ -74,13 +75,13 @@ static bool is_up(const struct adapter *it, unsigned lane) {
 
 /* The pages of what a module lists, as its image has them. */
 static void begin_statistics(struct adapter *it) {
-    memset(&it->statistics, 0, sizeof it->statistics);
+    memset(it->statistics, 0, sizeof it->statistics);
     for (size_t i = 0; i < it->simulated.count; i++) {
         const struct dovecounter_half *half = &it->simulated.halves[i];
-        if (half->upper && half->page >= 0x20 && half->page <= 0x2F)
-            memcpy(it->listed[half->page], half->bytes, sizeof half->bytes);
+        if (half->upper && half->bank < BANKS && half->page >= 0x20 && half->page <= 0x2F)
+            memcpy(it->listed[half->bank][half->page], half->bytes, sizeof half->bytes);
     }
-    it->statistics.moves = true;
+    for (unsigned bank = 0; bank < BANKS; bank++) it->statistics[bank].moves = true;
 }
 
 /* Another module, or the one that has reset itself. */
@@ -105,6 +106,14 @@ static void pass_firmware_time(struct adapter *it, unsigned ticks) {
     if (it->banks.restarts != before) begin(it);
 }
 
+static void pass_in_bank(struct adapter *it, unsigned bank, int64_t ticks) {
+    struct statistics *statistics = &it->statistics[bank];
+    statistics->pages = it->listed[bank]; /* which each process has elsewhere */
+    statistics->lasts = it->lists;
+    statistics->denies = it->denies >> bank & 1;
+    for (int64_t tick = 0; tick < ticks; tick++) pass_statistics(statistics);
+}
+
 /* A tick is a millisecond. */
 static void let_time_pass(struct adapter *it) {
     int64_t time = now(), ticks = time - it->ticked;
@@ -112,9 +121,7 @@ static void let_time_pass(struct adapter *it) {
     dovecounter_module_pin(&it->simulated.module, it->pin != 0);
     ticks = ticks < MOST_TICKS ? ticks : MOST_TICKS;
     if (it->has_firmware) pass_firmware_time(it, (unsigned)ticks);
-    it->statistics.pages = it->listed; /* which each process has elsewhere */
-    it->statistics.lasts = it->lists;
-    for (int64_t tick = 0; it->lists != 0 && tick < ticks; tick++) pass_statistics(&it->statistics);
+    for (unsigned bank = 0; it->lists != 0 && bank < BANKS; bank++) pass_in_bank(it, bank, ticks);
     for (; ticks > 0; ticks--) dovecounter_module_tick(&it->simulated.module);
     if (it->raises > 1000) it->simulated.module.module_flags = 0xFF;
     if (below(it, 1000) < it->raises)
@@ -178,16 +185,33 @@ static bool is_of_statistics(const struct adapter *it, uint8_t offset) {
     return it->lists != 0 && offset >= 128 && page >= 0x20 && page <= 0x2F;
 }
 
-static void use_statistics(struct adapter *it, const struct i2c_rdwr_ioctl_data *data) {
+/* The banks whose statistics are frozen, or are to be. */
+static uint32_t frozen_banks(const struct adapter *it) {
+    uint32_t banks = 0;
+    for (unsigned bank = 0; bank < BANKS; bank++) {
+        bool is_asked = it->listed[bank][GROUPS_PAGE][144 - 128] >= 0x80;
+        if (it->statistics[bank].is_frozen || is_asked) banks |= 1U << bank;
+    }
+    return banks;
+}
+
+/* A store is astray too if others than this bank's are frozen. Answers whether it is taken. */
+static bool use_statistics(struct adapter *it, const struct i2c_rdwr_ioctl_data *data) {
     const struct i2c_msg *sent = &data->msgs[0], *taken = &data->msgs[1];
-    uint8_t page = it->simulated.module.page;
+    uint8_t page = it->simulated.module.page, bank = it->simulated.module.bank;
+    struct statistics *statistics = &it->statistics[bank];
+    if (data->nmsgs == 1 && denies_freeze(statistics, page, sent->buf[0], sent->buf[1])) return false;
     for (unsigned i = 0; data->nmsgs == 2 && i < taken->len; i++)
-        taken->buf[i] = fetch_statistics(&it->statistics, page, (uint8_t)(sent->buf[0] + i));
-    for (unsigned i = 1; data->nmsgs == 1 && i < sent->len; i++)
-        store_statistics(&it->statistics, page, (uint8_t)(sent->buf[0] + i - 1), sent->buf[i]);
-    it->freezes = it->statistics.stores;
-    it->frozen = it->statistics.is_frozen || it->listed[0x2F][144 - 128] >= 0x80;
-    it->unread += it->statistics.astray;
+        taken->buf[i] = fetch_statistics(statistics, page, (uint8_t)(sent->buf[0] + i));
+    for (unsigned i = 1; data->nmsgs == 1 && i < sent->len; i++) {
+        uint32_t before = statistics->stores;
+        store_statistics(statistics, page, (uint8_t)(sent->buf[0] + i - 1), sent->buf[i]);
+        it->freezes += statistics->stores - before;
+        it->unread += (frozen_banks(it) & ~(1U << bank)) != 0;
+    }
+    it->frozen = frozen_banks(it);
+    it->unread += statistics->astray;
+    return true;
 }
 
 static void use_firmware(struct adapter *it, const struct i2c_rdwr_ioctl_data *data) {
@@ -206,7 +230,7 @@ static bool is_done(struct adapter *it, const struct i2c_rdwr_ioctl_data *data) 
     uint8_t device = (uint8_t)(sent->addr << 1), offset = sent->buf[0];
     if (it->has_firmware && is_deaf(&it->banks)) return false;
     if (is_of_firmware(it, offset)) return use_firmware(it, data), true;
-    if (is_of_statistics(it, offset)) return use_statistics(it, data), true;
+    if (is_of_statistics(it, offset)) return use_statistics(it, data);
     if (data->nmsgs == 1)
         return dovecounter_module_store(module->halves, module->count, &module->module, device, offset, sent->buf + 1,
                                         sent->len - 1U) == DOVECOUNTER_DONE;

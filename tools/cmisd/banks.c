@@ -23,6 +23,16 @@ void expect_banks(struct port *port, const struct dovecounter_port_outcome *led_
     if (is_done) port->banks.is_due = requested_of(port) != 0;
 }
 
+/* The first bank that is there from this one on: bank 0, and those whose lanes were read; BANKS if there is none. */
+uint8_t bank_from(const struct port *port, uint8_t first) {
+    const struct banks *it = &port->banks;
+    uint8_t found = BANKS;
+    if (first == 0) return 0;
+    for (uint8_t i = 0; i < it->read_count; i++)
+        if (it->read[i].bank >= first && it->read[i].bank < found) found = it->read[i].bank;
+    return found;
+}
+
 /* So many were read. The image has waited for them. */
 static void end(struct port *port, uint8_t count) {
     port->banks.is_due = port->banks.is_under_way = false;

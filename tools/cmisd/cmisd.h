@@ -12,7 +12,7 @@ enum { LANES_PAGE = 0x11, MODULE_FLAGS = 32, LANE_FLAGS = 152, OUTPUTS = 2 };
 /* Of a module that is read again, and of another one that may have replaced it. */
 enum { MOST_HALVES = 2 * DOVECOUNTER_MOST_READ };
 
-enum { FURTHER_BANKS = 3 };
+enum { FURTHER_BANKS = 3, BANKS = 1 + FURTHER_BANKS, MOST_LISTED = BANKS * DOVECOUNTER_MOST_VDM };
 
 /* A section of the configuration. */
 struct entry {
@@ -25,21 +25,24 @@ struct entry {
     uint8_t manage;
 };
 
-/* What a module lists itself (VDM). */
+/* What a module lists itself (VDM). A round reads one bank after the other. */
 struct listing {
     struct dovecounter_vdm reading;
     struct dovecounter_half halves[DOVECOUNTER_MOST_VDM]; /* of the reading under way */
-    struct dovecounter_half read[DOVECOUNTER_MOST_VDM];   /* of the last one, so many: */
-    uint8_t read_count;
+    uint8_t bank, next; /* of that reading; the first that may be read after it, 0 to begin a round */
     bool is_under_way;
-    int64_t due;      /* when to read it again */
-    const char *told; /* how the last one ended */
+    int64_t due; /* when to read the next one */
+    struct listed_bank {
+        struct dovecounter_half read[DOVECOUNTER_MOST_VDM]; /* of its last reading, so many: */
+        uint8_t read_count;
+        const char *told; /* how that ended */
+    } banks[BANKS];
 };
 
 /* What PORT.image has: the memory as it was read, and what the module lists. Zeros follow both. */
 struct image {
     uint8_t half_count, listed_count;
-    struct dovecounter_half halves[MOST_HALVES + FURTHER_BANKS], listed[DOVECOUNTER_MOST_VDM];
+    struct dovecounter_half halves[MOST_HALVES + FURTHER_BANKS], listed[MOST_LISTED];
 };
 
 /* The lanes above 8. */
@@ -154,6 +157,7 @@ void print_outputs(FILE *out, const struct port *port);
 void expect_banks(struct port *port, const struct dovecounter_port_outcome *led_to);
 void forget_banks(struct port *port);
 bool begin_banks(struct port *port);
+uint8_t bank_from(const struct port *port, uint8_t first);
 void go_on_with_banks(struct port *port);
 
 /* told.c */

@@ -75,11 +75,14 @@ static void print_metrics(FILE *out, const struct port *port) {
 
 static struct image image_of(const struct port *port) {
     struct image image = {.half_count = (uint8_t)port->half_count};
-    if (port->entry.vdm > 0) image.listed_count = port->listing.read_count;
     memcpy(image.halves, port->halves, image.half_count * sizeof *image.halves);
     for (uint8_t i = 0; image.half_count > 0 && i < port->banks.read_count; i++)
         image.halves[image.half_count++] = port->banks.read[i];
-    memcpy(image.listed, port->listing.read, image.listed_count * sizeof *image.listed);
+    for (unsigned bank = 0; port->entry.vdm > 0 && bank < BANKS; bank++) {
+        const struct listed_bank *each = &port->listing.banks[bank];
+        memcpy(image.listed + image.listed_count, each->read, each->read_count * sizeof *image.listed);
+        image.listed_count = (uint8_t)(image.listed_count + each->read_count);
+    }
     return image;
 }
 
@@ -129,7 +132,7 @@ static bool put_file(const struct port *port, const char *ending, void (*print)(
 }
 
 _Static_assert(sizeof(struct image) ==
-                   2 + (MOST_HALVES + FURTHER_BANKS + DOVECOUNTER_MOST_VDM) * sizeof(struct dovecounter_half),
+                   2 + (MOST_HALVES + FURTHER_BANKS + MOST_LISTED) * sizeof(struct dovecounter_half),
                "images are compared byte by byte, so each byte has to be a member's");
 
 /* Written only if it differs from what the file has. */

@@ -1,5 +1,6 @@
-/* What a module lists itself (VDM): read now and then, after a look at a module that is as wanted or left alone, while its statistics are
-   frozen. Of each reading one operation is made at a time, as of all else that is done at a port. */
+/* What a module lists itself (VDM): read now and then, after a look at a module that is as wanted or left alone, bank by bank, while the
+   statistics of the bank are frozen. Of each reading one operation is made at a time, as of all else that is done at a port, and between two
+   banks other things come first. */
 #include "cmisd.h"
 
 #include <string.h>
@@ -30,26 +31,46 @@ static const char *words_of(const struct dovecounter_vdm_end *end) {
     return "the module doesn't show that its statistics go on, though it took the request";
 }
 
-/* Only what differs from the reading before is told. */
+/* Only what differs from the reading of this bank before is told. */
 static void tell_end(struct port *port, const struct dovecounter_vdm_end *end) {
-    struct listing *it = &port->listing;
-    const char *words = words_of(end);
-    bool is_new = it->told != words;
-    it->told = words;
-    if (is_new) tell(port, "listed", words);
+    uint8_t number = port->listing.bank;
+    struct listed_bank *bank = &port->listing.banks[number];
+    const char *found = words_of(end);
+    char words[WORDS_SIZE];
+    if (bank->told == found) return;
+    bank->told = found;
+    if (number != 0) snprintf(words, sizeof words, "bank %u: %s", number, found);
+    tell(port, "listed", number == 0 ? found : words);
 }
 
+/* Of banks that are no longer there nothing is known. */
+static void end_round(struct port *port) {
+    struct listing *it = &port->listing;
+    it->next = 0;
+    it->due = now() + (int64_t)port->entry.vdm * 1000;
+    for (uint8_t bank = 1; bank < BANKS; bank++)
+        if (bank_from(port, bank) != bank) it->banks[bank].read_count = 0;
+    if (port->half_count > 0 && !port->is_retired) put_image(port);
+}
+
+/* Keeps what was read of the bank. A module that lists nothing does so in no bank. */
+static void keep(struct listing *it, bool is_none) {
+    struct listed_bank *bank = &it->banks[it->bank];
+    memcpy(bank->read, it->halves, sizeof bank->read);
+    bank->read_count = it->reading.halves;
+    for (uint8_t each = 0; is_none && each < BANKS; each++) it->banks[each].read_count = 0;
+}
+
+/* The round goes on with the next bank, unless it was to begin anew meanwhile. */
 static void finish(struct port *port) {
     struct listing *it = &port->listing;
     struct dovecounter_vdm_end end;
     it->is_under_way = false;
-    it->due = now() + (int64_t)port->entry.vdm * 1000;
-    if (dovecounter_vdm_end(&it->reading, it->halves, &end) != DOVECOUNTER_DONE) return;
-    it->read_count = is_unsupported(&end) ? 0 : it->reading.halves;
-    memcpy(it->read, it->halves, sizeof it->read);
-    if (port->is_retired) return;
-    if (port->half_count > 0) put_image(port);
-    tell_end(port, &end);
+    it->due = 0;
+    if (dovecounter_vdm_end(&it->reading, it->halves, &end) != DOVECOUNTER_DONE) return end_round(port);
+    keep(it, is_unsupported(&end));
+    if (it->next != 0 && (is_unsupported(&end) || bank_from(port, it->next) == BANKS)) end_round(port);
+    if (!port->is_retired) tell_end(port, &end);
 }
 
 /* Of a module that is gone nothing is known. */
@@ -61,7 +82,8 @@ void forget_module(struct port *port) {
 /* What it lists isn't known until it is read again. */
 void list_anew(struct port *port) {
     struct listing *it = &port->listing;
-    it->read_count = 0;
+    for (uint8_t bank = 0; bank < BANKS; bank++) it->banks[bank].read_count = 0;
+    it->next = 0;
     it->due = 0;
 }
 
@@ -74,15 +96,18 @@ static bool may_begin(const struct port *port) {
     return port->entry.vdm > 0 && ((is_watched && port->is_rested) || (is_left && is_awake));
 }
 
-/* Begins a reading if one is due; else sees that the port is due by then. */
+/* Begins a reading if one is due; else sees that the port is due by then. A bank may have gone since the one before it was read. */
 void begin_listing(struct port *port) {
     struct listing *it = &port->listing;
     if (!may_begin(port)) return;
+    if (it->due <= now() && bank_from(port, it->next) == BANKS) end_round(port);
     if (it->due > now()) {
         if (it->due < port->due) port->due = it->due;
         return;
     }
-    dovecounter_vdm_begin(PAUSE, 0, &it->reading);
+    it->bank = bank_from(port, it->next);
+    it->next = (uint8_t)(it->bank + 1);
+    dovecounter_vdm_begin(PAUSE, it->bank, &it->reading);
     it->is_under_way = true;
     port->goes_on_at = 0;
     port->due = now();
