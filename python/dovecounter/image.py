@@ -4,7 +4,7 @@ from __future__ import annotations
 import os
 import re
 import warnings
-from ctypes import Array, byref, c_uint16
+from ctypes import Array, byref, c_uint8, c_uint16
 from dataclasses import dataclass
 from typing import Callable, Dict, Iterable, List, Mapping, Tuple, Union
 
@@ -54,6 +54,7 @@ _identity = library.function("identity")
 _flags = library.function("flags")
 _monitors = library.function("monitors")
 _observables = library.function("observables")
+_further_banks = library.function("further_banks")
 _settings = library.function("settings")
 _settings_limits = library.function("settings_limits")
 
@@ -328,6 +329,13 @@ class Image:
             if place.value == 0 or place.value > end:
                 return tuple(observed)
             observed.append(observable_of(found))
+
+    def banks(self) -> Tuple[int, ...]:
+        """The banks of eight lanes that the module advertises, from bank 0 on, for which there are
+        readings of statistics (`VdmReading`). Needs the lower half of 0xA0 and page 01h."""
+        requested = c_uint8()
+        self.take(_further_banks(*self.arguments(), byref(requested)))
+        return (0, *(bank for bank in (1, 2, 3) if requested.value >> (bank - 1) & 1))
 
     def link_capabilities(self) -> LinkCapabilities:
         """What the module can do in tests of a link. Needs page 01h, and page 13h of a module that has

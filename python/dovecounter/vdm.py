@@ -7,13 +7,14 @@ from enum import Enum
 from typing import Dict, Optional, Tuple
 
 from . import library
-from .faults import look_at_type
+from .faults import look_at, look_at_type
 from .image import LOWER, Image, Key, page
 from .observables import Observable
 from .procedures import Procedure
 from .reports import Patience
 
 _WAITED = 3
+_LISTED = range(0x20, 0x30)  # pages of what a module lists itself, and of their control
 
 _begin = library.function("vdm_begin")
 
@@ -51,7 +52,8 @@ class VdmEnd:
     statistics: VdmStatistics
     release: VdmRelease
     missing: Tuple[int, ...]
-    """the advertised pages that couldn't be read"""
+    """the advertised pages of the bank that couldn't be read"""
+    bank: int = 0
 
 
 class VdmFault(Exception):
@@ -64,25 +66,38 @@ class VdmFault(Exception):
     def __str__(self) -> str:
         parts = [f"statistics {self.end.statistics.name}", f"release {self.end.release.name}"]
         lost = ", ".join(f"{number:02X}h" for number in self.end.missing)
-        return ", ".join(parts).lower().replace("_", " ") + (lost and f", without {lost}")
+        of_bank = f"bank {self.end.bank}: " if self.end.bank else ""
+        return of_bank + ", ".join(parts).lower().replace("_", " ") + (lost and f", without {lost}")
 
 
 class VdmReading(Procedure):
-    """Freezes the statistics of a CMIS module that has pages, reads what it lists on pages 20h to 2Ch
-    of bank 0, and releases them, by 759 operations at most. Of a Patience only the pause counts.
-    Raises a VdmFault while it is iterated if that isn't whole; `image` has what was read even so.
-    If you give up before its end, `release` says whether the statistics may stay frozen."""
+    """Freezes the statistics of a bank of a CMIS module that has pages, reads what it lists on pages
+    20h to 2Ch of this bank, and releases them, by 759 operations at most. Of a Patience only the pause
+    counts. Raises a VdmFault while it is iterated if that isn't whole; `image` has what was read even
+    so. If you give up before its end, `release` says whether the statistics may stay frozen. For all
+    that a module lists make a reading of each of its banks, which `Image.banks` answers:
+
+        for bank in image.banks():
+            reading = VdmReading(bank=bank)
+            reading.run(transact)
+            image = reading.added_to(image)"""
 
     _calls = library.Calls("vdm_")
 
-    def __init__(self, patience: Patience = Patience()) -> None:
+    def __init__(self, patience: Patience = Patience(), bank: int = 0) -> None:
         super().__init__(patience)
+        self._bank = look_at("the bank", bank, 255)
         self._saved = library.Vdm()
         self._halves = (library.Half * library.MOST_VDM)()
         self._operations = 0
         self.end: Optional[VdmEnd] = None
         """how it ended; None before"""
-        _begin(self._patience.pause, 0, byref(self._saved))
+        _begin(self._patience.pause, self._bank, byref(self._saved))
+
+    @property
+    def bank(self) -> int:
+        """The bank that is read."""
+        return self._bank
 
     @property
     def release(self) -> VdmRelease:
@@ -94,13 +109,24 @@ class VdmReading(Procedure):
         """The pages that were read so far."""
         halves: Dict[Key, bytes] = {}
         for half in self._halves[: self._saved.halves]:
-            halves[page(half.page)] = bytes(half.bytes)
+            halves[page(half.page, half.bank)] = bytes(half.bytes)
         return Image(halves)
 
+    def added_to(self, image: Image) -> Image:
+        """Another image of the module with the pages that were read so far, in place of all that it
+        has of pages 20h to 2Fh of this bank. Raises ValueError if these are more than 64 halves."""
+        look_at_type("the image", image, Image)
+        halves = {
+            key: half
+            for key, half in image.halves.items()
+            if (key.device, key.bank) != (LOWER.device, self._bank) or key.page not in _LISTED
+        }
+        return Image({**halves, **self.image.halves})
+
     def observables(self, image: Image) -> Tuple[Observable, ...]:
-        """All that the module measures: monitors as another image has them, which has the lower half
-        of 0xA0, and after them what this reading has read. Raises a Fault as `Image.observables`.
-        """
+        """What the module measures: monitors as another image has them, which has the lower half of
+        0xA0, and after them what this reading has read of its bank. Raises a Fault as
+        `Image.observables`."""
         look_at_type("the image", image, Image)
         monitored = image.monitored()
         listed = Image({LOWER: image.halves[LOWER], **self.image.halves})
@@ -118,7 +144,8 @@ class VdmReading(Procedure):
         found = library.VdmEnd()
         self._put_end(found)
         statistics, release = VdmStatistics(found.statistics), VdmRelease(found.release)
-        self.end = VdmEnd(statistics, release, tuple(found.missing[: found.missing_count]))
+        missing = tuple(number % 256 for number in found.missing[: found.missing_count])
+        self.end = VdmEnd(statistics, release, missing, self._bank)
         whole = (VdmStatistics.FROZEN, VdmRelease.RELEASED)
         if statistics is VdmStatistics.UNSUPPORTED:
             return
