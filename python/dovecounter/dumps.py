@@ -160,19 +160,20 @@ def _commands_for(lower: bytes) -> Sequence[str]:
     return REPORTS if is_flat(lower) or lower[0] not in EIGHT_LANES else REPORTS + PLANNING
 
 
-def with_observables(halves: Mapping[str, bytes]) -> List[str]:
-    """The halves of the observables that a CMIS module lists itself (VDM), as far as those tell that are known already: page 01h
-    whether there are any, page 2Fh how many groups there are."""
-    lower, advert, control = halves["lower A0"], halves.get(upper(0x01)), halves.get(upper(0x2F))
+def with_observables(halves: Mapping[str, bytes], bank: int = 0) -> List[str]:
+    """The halves of the observables that a CMIS module lists itself (VDM) in a bank, as far as those tell that are known already: page
+    01h whether there are any, page 2Fh of the bank how many groups there are."""
+    lower, advert = halves["lower A0"], halves.get(upper(0x01))
+    control = halves.get(upper(0x2F, bank))
     if not family_of(lower[0]).has_banks or is_flat(lower) or advert is None:
         return []
     if not advert[142 - HALF] & 0x40:
         return []
     if control is None:
-        return [upper(0x2F)]
+        return [upper(0x2F, bank)]
     groups = range(control[0] % 4 + 1)
-    described = [upper(first + group) for first in (0x20, 0x28, 0x24) for group in groups]
-    return [upper(0x2F), *described, upper(0x2C)]
+    described = [upper(first + group, bank) for first in (0x20, 0x28, 0x24) for group in groups]
+    return [upper(0x2F, bank), *described, upper(0x2C, bank)]
 
 
 def of_further_banks(halves: Mapping[str, bytes]) -> List[str]:
@@ -181,6 +182,12 @@ def of_further_banks(halves: Mapping[str, bytes]) -> List[str]:
     if not family_of(lower[0]).has_banks or is_flat(lower) or advert is None:
         return []
     return [upper(0x11, bank) for bank in range(1, BANKS[advert[142 - HALF] & 3])]
+
+
+def banks_of(halves: Mapping[str, bytes]) -> List[int]:
+    """The banks that are there: bank 0, and each further one of which these have the lanes."""
+    of_banks = of_further_banks(halves)
+    return [0, *(bank for bank, key in enumerate(of_banks, 1) if key in halves)]
 
 
 def image_text(halves: Mapping[str, bytes]) -> str:
@@ -636,9 +643,8 @@ def image_halves(form: str, halves: Mapping[str, bytes], remark: Remark) -> Halv
     """Those of a dump's halves that an image has, of which A0's lower one is there; with a remark for each that is absent."""
     lower = halves["lower A0"]
     needed = wanted(lower)
-    needed.update(
-        {key: ["observables"] for key in [*of_further_banks(halves), *with_observables(halves)]}
-    )
+    listed = [key for bank in banks_of(halves) for key in with_observables(halves, bank)]
+    needed.update({key: ["observables"] for key in [*of_further_banks(halves), *listed]})
     copy = halves.get(upper(0x00), lower)[0]
     if upper(0x00) in needed and copy != lower[0]:
         remark(
