@@ -141,7 +141,7 @@ content_depth name (apps listed) = omega (arith, all_deep app_json 1 app_depth l
 content_depth name (lane_set set) = omega arith
 content_depth name (fact place f) = fact_depth name place f
 
-entries_depth : (entries : List Entry) → members_depth (members_of (entries_members entries)) ≤ 2
+pub entries_depth : (entries : List Entry) → members_depth (members_of (entries_members entries)) ≤ 2
 entries_depth [] = omega arith
 entries_depth (e ∷ more) = deep (content_members e.name e.content) (entries_members more) 2 (content_depth e.name e.content) (entries_depth more)
 

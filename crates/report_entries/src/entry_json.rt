@@ -49,7 +49,8 @@ pub fn put_form(out: &mut JsonWriter) -> Result<(), AllocError>
     put_count(out, "dovecounter", 1)
 }
 
-fn put_entries(out: &mut JsonWriter, entries: &[Entry]) -> Result<(), AllocError>
+/// Adds the members of a report.
+pub fn put_entries(out: &mut JsonWriter, entries: &[Entry]) -> Result<(), AllocError>
     ensures { OnOk result (out.new
         ≡ out.old ++ all_member_tokens (entries_members (map entry_of entries.now))) }
 {

@@ -29,7 +29,8 @@ pub fn text(alloc: Global, entries: &[Entry]) -> Result<Vec<u8>, AllocError>
     Ok(report.into_bytes())
 }
 
-fn push_entries(report: &mut ReportText, entries: &[Entry]) -> Result<(), AllocError>
+/// Adds the lines of a report.
+pub fn push_entries(report: &mut ReportText, entries: &[Entry]) -> Result<(), AllocError>
     ensures { OnOk result (report.new ≡ report.old ++ report_text (map entry_of entries.now)) }
 {
     for entry in entries {

@@ -90,7 +90,7 @@ impl JsonWriter {
 
     /// The key of a name with something after it.
     #[tactic(auto, unfolding(crate::specs::EntryJson::key_in))]
-    pub(crate) fn key_in(&mut self, name: &str, behind: &str) -> Result<(), AllocError>
+    pub fn key_in(&mut self, name: &str, behind: &str) -> Result<(), AllocError>
         ensures { OnOk result (self.new ≡ self.old ++ key (key_in name.now behind.now) ∷ []) }
     {
         self.piece.clear();

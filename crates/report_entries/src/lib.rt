@@ -25,8 +25,8 @@ mod shown_state;
 
 pub use banks::further_banks;
 pub use entry::{Content, Entry, LaneState, add_entry};
-pub use entry_json::{json, put_count, put_shown};
-pub use entry_text::text;
+pub use entry_json::{json, put_count, put_entries, put_shown};
+pub use entry_text::{push_entries, text};
 pub use fact::{Fact, Place};
 pub use flag::{Condition, Flag, FlagName, LimitKind};
 pub use flag_rows::{FlagPlace, FlagRow, all_flags, raised_flags};
