@@ -14,7 +14,7 @@ use Rattle.module_metrics.specs.Exposition.{Label, Metric, exposition, metric_li
 use Rattle.module_metrics.specs.ModuleMetrics.{module_metrics}
 use Rattle.module_metrics.specs.Unless.{unless}
 use Rattle.module_metrics.specs.VdmMetrics.{vdm_metrics, vdm_seen}
-use Rattle.module_metrics.specs.declared.vdm_metrics.Seen.{Seen}
+use Rattle.observable_reports.specs.declared.listed_instances.Seen.{Seen}
 use Rattle.module_metrics.proofs.SameListed.{listed_same}
 use Rattle.observable_reports.specs.SameStatistics.{HasOwnStatistics}
 use Rattle.observable_reports.proofs.ObservingFaults.{observing_gives_up}

@@ -1,52 +1,18 @@
--- The instances that are seen: one more, and that their numbers rise.
-use Rattle.std.proofs.Common.{◌≡◌, ◌≢◌, ◌∙◌, ℕ, zero, suc, ◌+◌, ◌-◌, ◌<◌, ◌≤◌, Bool, true, false, Option, None, Some, List, [], ◌∷◌, ◌++◌, map, sym, ap, subst, append-nil, if◌then◌else◌, arith}
+-- The numbers of the instances that are seen rise.
+use Rattle.std.proofs.Common.{◌≡◌, ◌≢◌, ℕ, zero, suc, ◌+◌, ◌<◌, ◌≤◌, Bool, true, false, Option, None, Some, List, [], ◌∷◌, ◌++◌, map, sym, subst, append-nil, if◌then◌else◌, arith}
 use Rattle.std.proofs.lemmas.List.{map-append}
 use Rattle.std.specs.List.{AllByRecursion}
 use Rattle.paged_memory.specs.Images.{Memory}
 use Rattle.observables.specs.declared.observation.Observation.{Observation}
-use Rattle.observables.specs.Observations.{IsNextObservation, all_places, instance_places, monitor_places, observation_at}
+use Rattle.observables.specs.Observations.{instance_places, monitor_places, observation_at}
 use Rattle.reports.specs.declared.fault.ReportFault.{ReportFault}
 use Rattle.reports.specs.Families.{detail_fault}
 use Rattle.module_metrics.specs.Unless.{unless}
-use Rattle.module_metrics.specs.VdmMetrics.{listed, seen_before, vdm_seen}
-use Rattle.module_metrics.specs.declared.vdm_metrics.Seen.{Seen}
+use Rattle.observable_reports.specs.ListedInstances.{listed, listed_before}
+use Rattle.module_metrics.specs.VdmMetrics.{vdm_seen}
+use Rattle.observable_reports.specs.declared.listed_instances.Seen.{Seen}
 use Rattle.module_metrics.specs.WellFormed.{AreApart}
 use Rattle.module_metrics.proofs.RightMetrics.{all_append}
-
-abbrev NoneUpTo : Memory → ℕ → ℕ → Type 0
-NoneUpTo memory from to = (k : ℕ) → from ≤ k → k < to → observation_at memory k ≡ None
-
-same_after : (memory : Memory) (from n to : ℕ) → to ≡ n + from → NoneUpTo memory (monitor_places + from) (monitor_places + to) → seen_before memory to ≡ seen_before memory from
-unfolding seen_before
-same_after memory from zero to is none = let same : to ≡ from = omega (arith, is) in ap (λ (k : ℕ). seen_before memory k) same
-same_after memory from (suc n) to is none =
-    let last : to ≡ suc (n + from) = omega (arith, is) in
-    ap (λ (k : ℕ). seen_before memory k) last
-    ∙ ap (λ (o : Option Observation). seen_before memory (n + from) ++ listed (suc (n + from)) o) (none (monitor_places + (n + from)) (omega arith) (omega (arith, last)))
-    ∙ append-nil (seen_before memory (n + from))
-    ∙ same_after memory from n (n + from) (omega arith) (λ k reached below. none k reached (omega (arith, last, below)))
-
-same_up_to : (memory : Memory) (from to : ℕ) → from ≤ to → NoneUpTo memory (monitor_places + from) (monitor_places + to) → seen_before memory to ≡ seen_before memory from
-same_up_to memory from to within none = same_after memory from (to - from) to (omega (arith, within)) none
-
--- the first observation from a place on is one more instance
-pub one_more : (memory : Memory) (from place : ℕ) (found : Observation) → monitor_places ≤ from → IsNextObservation memory from (place, found)
-    → seen_before memory (place + 1 - monitor_places) ≡ seen_before memory (from - monitor_places) ++ listed (place + 1 - monitor_places) (Some found)
-unfolding seen_before
-one_more memory from place found after next =
-    let reached = next.not_before in
-    let last : place + 1 - monitor_places ≡ suc (place - monitor_places) = omega (arith, reached, after) in
-    ap (λ (k : ℕ). seen_before memory k) last
-    ∙ ap (λ (k : ℕ). seen_before memory (place - monitor_places) ++ listed (suc (place - monitor_places)) (observation_at memory k)) (omega (arith, reached, after))
-    ∙ ap (λ (o : Option Observation). seen_before memory (place - monitor_places) ++ listed (suc (place - monitor_places)) o) next.is_there
-    ∙ ap (λ (n : ℕ). seen_before memory (place - monitor_places) ++ listed n (Some found)) (sym last)
-    ∙ ap (λ before. before ++ listed (place + 1 - monitor_places) (Some found))
-    (same_up_to memory (from - monitor_places) (place - monitor_places) (omega (arith, reached)) (λ k above below. next.first k (omega (arith, above, after)) (omega (arith, below, reached, after))))
-
--- where no more follows, all are seen
-pub no_more : (memory : Memory) (from : ℕ) → monitor_places ≤ from → from ≤ all_places → NoneUpTo memory from all_places → seen_before memory instance_places ≡ seen_before memory (from - monitor_places)
-no_more memory from after within none =
-    same_up_to memory (from - monitor_places) instance_places (omega (arith, within)) (λ k above below. none k (omega (arith, above, after)) (omega (arith, below)))
 
 -- ---- numbers
 
@@ -95,10 +61,10 @@ with_one : (n : ℕ) (seen : List Seen) (found : Option Observation) → AreNumb
 with_one n seen None are = none_more n seen are
 with_one n seen (Some found) are = one_with n seen found found.advertised are
 
-before : (memory : Memory) (n : ℕ) → AreNumbered (suc n) (seen_before memory n)
-unfolding seen_before
+before : (memory : Memory) (n : ℕ) → AreNumbered (suc n) (listed_before memory n)
+unfolding listed_before
 before memory zero = record { below = tt; apart = tt }
-before memory (suc n) = with_one n (seen_before memory n) (observation_at memory (monitor_places + n)) (before memory n)
+before memory (suc n) = with_one n (listed_before memory n) (observation_at memory (monitor_places + n)) (before memory n)
 
 unless_numbered : (n : ℕ) (fault : Option ReportFault) (seen : List Seen) → AreNumbered n seen → AreNumbered n (unless fault seen)
 unless_numbered n None seen are = are
@@ -106,4 +72,4 @@ unless_numbered n (Some fault) seen are = record { below = tt; apart = tt }
 
 pub seen_numbered : (memory : Memory) → AreNumbered 1025 (vdm_seen memory)
 unfolding vdm_seen
-seen_numbered memory = unless_numbered 1025 (detail_fault memory) (seen_before memory instance_places) (before memory instance_places)
+seen_numbered memory = unless_numbered 1025 (detail_fault memory) (listed_before memory instance_places) (before memory instance_places)

@@ -15,7 +15,7 @@ use Rattle.module_metrics.specs.Numbers.{Number}
 use Rattle.module_metrics.specs.VdmMetrics.{is_of, limit_sample, limit_samples, limits_metrics, measure_metrics, number_labels, number_samples, number_seen, place_labels, some_metrics, value_sample, values_metrics, vdm_metrics}
 use Rattle.module_metrics.specs.VdmNames.{measures, vdm_name}
 use Rattle.module_metrics.specs.WellFormed.{AreApart, AreLabels, IsMetric}
-use Rattle.module_metrics.specs.declared.vdm_metrics.Seen.{Seen}
+use Rattle.observable_reports.specs.declared.listed_instances.Seen.{Seen}
 use Rattle.module_metrics.specs.declared.vdm_name.Measure.{Measure}
 use Rattle.module_metrics.proofs.RightMetrics.{all_append, all_then, is_own, labels_right}
 use Rattle.module_metrics.proofs.RowMetrics.{made_flat, names_of}

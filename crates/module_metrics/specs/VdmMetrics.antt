@@ -1,17 +1,18 @@
 -- The metrics of what a CMIS module lists itself: the values of each quantity and figure, and their limits. (OIF-CMIS-05.0, "Versatile
 -- Diagnostics Monitoring"; docs/formats.md, "Metrics"; this project's own)
-use Rattle.std.specs.Prelude.{ℕ, zero, suc, ◌+◌, ◌==◌, ◌&&◌, Bool, true, false, if◌then◌else◌, List, [], ◌∷◌, ◌++◌, Option, Some, None, option_and_then, codes}
+use Rattle.std.specs.Prelude.{ℕ, ◌==◌, ◌&&◌, Bool, true, false, if◌then◌else◌, List, [], ◌∷◌, ◌++◌, Option, Some, None, option_and_then, codes}
 use Rattle.std.specs.Fmt.{decimal}
 use Rattle.std.specs.List.{flat_map}
 use Rattle.paged_memory.specs.Images.{Memory}
 use Rattle.observables.specs.Names.{lane_of, scope_name}
 use Rattle.observables.specs.Numbers.{figure_number, quantity_number}
-use Rattle.observables.specs.Observations.{instance_places, monitor_places, observation_at}
 use Rattle.observables.specs.Quantities.{quantity_row}
 use Rattle.observables.specs.declared.amount.Amount.{Amount}
 use Rattle.observables.specs.declared.observable.Observable.{Observable}
 use Rattle.observables.specs.declared.observation.Observation.{Observation}
 use Rattle.observable_reports.specs.AmountTexts.{shown_as}
+use Rattle.observable_reports.specs.ListedInstances.{all_listed}
+use Rattle.observable_reports.specs.declared.listed_instances.Seen.{Seen}
 use Rattle.report_entries.specs.declared.flag.LimitKind.{LimitKind}
 use Rattle.report_entries.specs.declared.flag.LimitKind.TheVariants.{HighAlarm, LowAlarm, HighWarning, LowWarning}
 use Rattle.report_entries.specs.FlagNames.{limit_name}
@@ -23,23 +24,12 @@ use Rattle.module_metrics.specs.Unless.{unless}
 use Rattle.module_metrics.specs.VdmNames.{measures, vdm_help, vdm_name}
 use Rattle.module_metrics.specs.VdmUnits.{power_of}
 use Rattle.module_metrics.specs.declared.vdm_name.Measure.{Measure}
-use Rattle.module_metrics.specs.declared.vdm_metrics.Seen.{Seen}
 
 -- ---- what is seen
 
--- if the module advertises it
-abbrev pub listed : ℕ → Option Observation → List Seen
-listed number None = []
-listed number (Some observation) = if observation.advertised then record { number = number; observation = observation } ∷ [] else []
-
--- of the instances of four banks, of which the first is 1; in the list of what is measured they come after the monitors
-unfoldable pub seen_before : Memory → ℕ → List Seen
-seen_before memory zero = []
-seen_before memory (suc n) = seen_before memory n ++ listed (suc n) (observation_at memory (monitor_places + n))
-
 -- of a module that is read
 unfoldable pub vdm_seen : Memory → List Seen
-vdm_seen memory = unless (detail_fault memory) (seen_before memory instance_places)
+vdm_seen memory = unless (detail_fault memory) (all_listed memory)
 
 -- ---- samples
 

@@ -1,12 +1,10 @@
 // The metrics of what a CMIS module lists itself (VDM).
-ghost use Rattle.std.specs.Prelude.{◌≡◌, ◌++◌, ◌∷◌, [], IfOk, OnOk, Some, option_map};
+ghost use Rattle.std.specs.Prelude.{◌≡◌, ◌++◌, IfOk, OnOk, option_map};
 ghost use Rattle.std.specs.List.{flat_map};
-ghost use Rattle.observables.specs.Observations.{instance_places};
-ghost use Rattle.module_metrics.specs.Unless.{unless};
 ghost use Rattle.module_metrics.specs.Exposition.{label};
 ghost use Rattle.module_metrics.specs.MetricData.{labels_in, metrics_in, number_in, samples_in};
 ghost use Rattle.module_metrics.specs.VdmMetrics as spec;
-ghost use Rattle.module_metrics.specs.VdmMetrics.{is_of, limit_sample, limit_samples, limits_metrics, listed, measure_metrics, number_labels, number_samples, place_labels, seen_before, some_metrics, value_sample, values_metrics, vdm_metrics, vdm_seen};
+ghost use Rattle.module_metrics.specs.VdmMetrics.{is_of, limit_sample, limit_samples, limits_metrics, measure_metrics, number_labels, number_samples, place_labels, some_metrics, value_sample, values_metrics, vdm_metrics, vdm_seen};
 ghost use Rattle.reports.specs.Families.{detail_fault};
 
 use crate::flag_metrics::add_lane;
@@ -16,21 +14,14 @@ use crate::metric::{
 use crate::number::{Number, number_of};
 use crate::vdm_name::{Measure, VdmHelp, VdmName, measures, power_of};
 use module_decoding::detail_family_of;
-use observable_reports::shown_as;
+use observable_reports::{Seen, all_listed, shown_as};
 use observables::{
-    Amount, MONITOR_PLACES, Observable, Observation, figure_number, lane_of, next_observation,
-    quantity_number, quantity_row, scope_name,
+    Amount, Observable, Observation, figure_number, lane_of, quantity_number, quantity_row,
+    scope_name,
 };
 use paged_memory::Image;
 use report_entries::LimitKind;
 use std::alloc::{AllocError, Global};
-
-/// An instance that a module advertises, by its number: 256 for each bank, the first is 1.
-#[derive(Clone, Copy, Drop)]
-pub struct Seen {
-    pub number: u16,
-    pub observation: Observation,
-}
 
 // The instances that a module advertises, by rising number.
 #[tactic(auto, unfolding(crate::specs::VdmMetrics::vdm_seen, reports::specs::Families::detail_fault))]
@@ -38,34 +29,9 @@ fn vdm_seen(alloc: Global, image: &Image) -> Result<Vec<Seen>, AllocError>
     ensures { IfOk result (λ seen. seen.items ≡ vdm_seen image.now) }
 {
     match detail_family_of(image) {
-        Ok(_family) => all_seen(alloc, image),
+        Ok(_family) => all_listed(alloc, image),
         Err(_fault) => Ok(Vec::new(alloc)),
     }
-}
-
-#[tactic(auto, using(crate::proofs::SeenInstances::one_more, crate::proofs::SeenInstances::no_more))]
-fn all_seen(alloc: Global, image: &Image) -> Result<Vec<Seen>, AllocError>
-    ensures { IfOk result (λ seen. seen.items ≡ seen_before image.now instance_places) }
-{
-    let mut seen = Vec::new(alloc);
-    let mut from = MONITOR_PLACES;
-    while let Some((place, observation)) = next_observation(image, from) {
-        from = place + 1;
-        add_seen(&mut seen, from - MONITOR_PLACES, observation)?;
-    }
-    Ok(seen)
-}
-
-fn add_seen(seen: &mut Vec<Seen>, number: u16, observation: Observation) -> Result<(), AllocError>
-    ensures { OnOk result (seen.new.items ≡ seen.old.items ++ listed number (Some observation)) }
-{
-    if observation.advertised {
-        seen.push(Seen {
-            number,
-            observation,
-        })?;
-    }
-    Ok(())
 }
 
 // ---- metrics

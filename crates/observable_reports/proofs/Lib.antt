@@ -1,6 +1,7 @@
 mod StatisticsRead
 pub mod ExactTexts
 pub mod JsonDepths
+pub mod ListedInstances
 pub mod WordNumbers
 pub mod WindowStatistics
 mod BankReadings
