@@ -62,6 +62,13 @@ def test_the_lanes_of_a_further_bank_are_there_too() -> None:
     assert 'dovecounter_lane_tx_power_watts{lane="16"}' in banks.metrics()
 
 
+def test_what_a_module_lists_itself_is_there_too() -> None:
+    found = example("osfp_800g_vdm.txt").details()
+    assert found["vdm_tec_current_share_now_module_instance_1_percent"] == -19.999
+    assert found["vdm_pre_fec_ber_average_media_path_5_instance_48_ratio"] == 1.27e-4
+    assert not [name for name in DR4.details() if name.startswith("vdm_")]
+
+
 def test_members_are_numbers_words_and_names() -> None:
     found = DR4.details()
     assert (found["family"], found["memory"], found["connector"]) == ("CMIS", "paged", 0x0C)

@@ -14,6 +14,8 @@ mod PlainChoices
 mod PlanningRefusals
 mod ProcedureAnswers
 mod SameOverBus
+mod FollowedAnswers
+mod SameDetails
 mod SameMetrics
 mod ReportAnswers
 mod TextBehind

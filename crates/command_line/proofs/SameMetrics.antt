@@ -1,35 +1,31 @@
 -- Metrics of what is read over a bus are those of the image, but for statistics (VDM) that their bank doesn't advertise.
-use Rattle.std.proofs.Common.{◌≡◌, ◌≢◌, ◌∙◌, ℕ, Bool, true, false, List, [], ◌∷◌, ◌++◌, Option, None, Result, Ok, Err, refl, sym, ap, subst, arith}
+use Rattle.std.proofs.Common.{◌≡◌, ◌≢◌, ◌∙◌, ℕ, Bool, true, false, List, [], ◌∷◌, ◌++◌, Option, Result, Ok, Err, refl, sym, ap}
 use Rattle.std.proofs.lemmas.Grind.{flat_map-append}
 use Rattle.std.specs.Prelude.{option_map}
 use Rattle.std.specs.Option.{option_or}
 use Rattle.text_lines.specs.Lines.{text_of}
-use Rattle.bus_model.specs.ScriptedBus.{script_rules}
 use Rattle.paged_memory.specs.Images.{Memory}
 use Rattle.paged_memory.specs.ImageText.{IsImage}
-use Rattle.paged_memory.specs.Windows.{window_conduct}
 use Rattle.module_decoding.specs.declared.report.Report.TheVariants.{Flags, Monitors}
 use Rattle.module_metrics.specs.Answers.{code_of, first_fault, metrics_of, requested_flags}
 use Rattle.module_metrics.specs.Exposition.{Label, Metric, exposition, metric_lines, metrics_lines}
 use Rattle.module_metrics.specs.ModuleMetrics.{module_metrics}
 use Rattle.module_metrics.specs.Unless.{unless}
 use Rattle.module_metrics.specs.VdmMetrics.{vdm_metrics, vdm_seen}
-use Rattle.observable_reports.specs.declared.listed_instances.Seen.{Seen}
 use Rattle.module_metrics.proofs.SameListed.{listed_same}
 use Rattle.observable_reports.specs.SameStatistics.{HasOwnStatistics}
-use Rattle.observable_reports.proofs.ObservingFaults.{observing_gives_up}
 use Rattle.observable_reports.proofs.WholeStatistics.{observed_lanes, observed_reports, whole_read}
 use Rattle.observable_reports.proofs.WindowStatistics.{statistics_same}
 use Rattle.reports.specs.Reports.{all_lanes_entries, all_lanes_flag_states, flags_fault, inventory_entries, inventory_fault, monitors_fault}
 use Rattle.reports.specs.SameReports.{IsSame, ReportsSame}
 use Rattle.reports.specs.declared.fault.ReportFault.{ReportFault}
-use Rattle.reports.specs.declared.fault.ReportFault.TheVariants as report
 use Rattle.reports.proofs.BesideFetched.{detail_fault_same}
 use Rattle.command_line.specs.MetricsCommand.{metrics_reported}
 use Rattle.command_line.specs.OverBus.{IsObservedFrom, window_at_start}
 use Rattle.command_line.specs.ReportCommands.{IsReported, Reported}
 use Rattle.command_line.specs.Runs.{Answer}
-use Rattle.command_line.specs.SameOverBus.{AreReportedAlike, AreReportedBefore, IsFollowed, IsGivenUp, IsPlainAnswer, image_of, listed_text, over_bus}
+use Rattle.command_line.specs.SameOverBus.{AreReportedAlike, AreReportedBefore, IsFollowed, IsGivenUp, IsPlainAnswer, image_of, metrics_with, over_bus}
+use Rattle.command_line.proofs.FollowedAnswers.{alike, fault_in, observing_fault, text_in}
 use Rattle.command_line.specs.declared.choice.commands.CommandName.TheVariants as name
 use Rattle.command_line.specs.declared.choice.commands.Request.{Request}
 use Rattle.command_line.specs.declared.choice.options.Options.{Options}
@@ -72,9 +68,6 @@ module _ (a b : Memory) (same : ReportsSame a b) where
 
 -- ---- what a module lists itself
 
-observing_fault : (memory : Memory) (f : ReportFault) → IsObservedFrom memory (Err f) → f ≡ report.GaveUp
-observing_fault memory f (after, is) = observing_gives_up (script_rules window_conduct) (window_at_start memory) (omega arith) after f is
-
 own_same : (memory all : Memory) → IsImage memory → IsObservedFrom memory (Ok all) → HasOwnStatistics memory → vdm_seen all ≡ vdm_seen memory
 own_same memory all image (after, is) own =
     let lanes = observed_lanes (window_at_start memory) after memory all image refl is in
@@ -87,17 +80,9 @@ followed_in labels xs ys =
     ap text_of (flat_map-append (metric_lines labels) xs ys)
     ∙ flat_map-append (λ (line : List ℕ). line ++ 10 ∷ []) (metrics_lines labels xs) (metrics_lines labels ys)
 
-followed : (all : Bool) (labels : List Label) (memory : Memory) → exposition labels (metrics_of all memory) ≡ exposition labels (report_metrics all memory) ++ listed_text labels memory
+followed : (all : Bool) (labels : List Label) (memory : Memory) → exposition labels (metrics_of all memory) ≡ metrics_with labels (exposition labels (report_metrics all memory)) (vdm_seen memory)
 unfolding metrics_of
 followed all labels memory = followed_in labels (report_metrics all memory) (vdm_metrics (vdm_seen memory))
-
-abbrev text_in : Answer → List ℕ
-text_in (Ok (text, reported)) = text
-text_in (Err f) = []
-
-abbrev fault_in : Answer → Option ReportedFault
-fault_in (Ok (text, reported)) = reported
-fault_in (Err f) = None
 
 module _ (options : Options) where
   abbrev reported_of : Bool → Result Memory ReportFault → Reported
@@ -112,23 +97,23 @@ module _ (options : Options) where
   copy_of : (text t : List ℕ) (f : Option ReportedFault) → IsReported IsObservedFrom true (reported_of true) text (Ok (t, f)) → ¬ (IsGivenUp (Ok (t, f))) → IsReportedOfCopy IsObservedFrom reported_of text (Ok (t, f))
   copy_of text t f (read, is, same) ended = reported_of_copy IsObservedFrom reported_of observing_fault text (Ok (t, f)) read is same refl ended
 
-  reported_before : (input t : List ℕ) (f : Option ReportedFault) → IsAnswerOver IsObservedFrom reported_of true input (Ok (t, f)) → ¬ (IsGivenUp (Ok (t, f))) → IsFollowed options.labels request input t f
+  reported_before : (input t : List ℕ) (f : Option ReportedFault) → IsAnswerOver IsObservedFrom reported_of true input (Ok (t, f)) → ¬ (IsGivenUp (Ok (t, f))) → IsFollowed vdm_seen (metrics_with options.labels) request input t f
   reported_before input t f is ended =
       let copy = copy_of (image_of input) t f is.2 ended in
       let image = copy.is_text.image in
       let memory = copy.memory in
       let reports = observed_reports (window_at_start memory) copy.is_read.0 memory copy.copy image refl copy.is_read.1 in
       let told = exposition options.labels (report_metrics options.all_flags copy.copy) in
-      let text_is : t ≡ told ++ listed_text options.labels copy.copy = ap text_in copy.is_reported ∙ followed options.all_flags options.labels copy.copy in
+      let text_is : t ≡ metrics_with options.labels told (vdm_seen copy.copy) = ap text_in copy.is_reported ∙ followed options.all_flags options.labels copy.copy in
       let fault_is : f ≡ option_map Metrics (first_fault memory) = ap fault_in copy.is_reported ∙ ap (option_map Metrics) (first_same copy.copy memory reports) in
-      let text_too : told ++ listed_text options.labels memory ≡ exposition options.labels (metrics_of options.all_flags memory) =
-      ap (λ (metrics : List Metric). exposition options.labels metrics ++ listed_text options.labels memory) (reports_same copy.copy memory reports options.all_flags)
+      let text_too : metrics_with options.labels told (vdm_seen memory) ≡ exposition options.labels (metrics_of options.all_flags memory) =
+      ap (λ (metrics : List Metric). metrics_with options.labels (exposition options.labels metrics) (vdm_seen memory)) (reports_same copy.copy memory reports options.all_flags)
       ∙ sym (followed options.all_flags options.labels memory) in
-      let more : List ℕ × Option ReportedFault = (told ++ listed_text options.labels memory, f) in
+      let more : List ℕ × Option ReportedFault = (metrics_with options.labels told (vdm_seen memory), f) in
       record {
         memory = memory;
         read = copy.copy;
-        reports = told;
+        beside = told;
         is_image = copy.is_text;
         is_text = text_is;
         whole = whole input (Ok more) (is.0, is.1, (Ok memory, copy.is_text, λ i. Ok (text_too i, fault_is i))) (λ clash. cc) (λ clash. cc);
@@ -142,14 +127,9 @@ module _ (options : Options) where
   refused text f (Ok memory, is, same) = absurd cc
   refused text f (Err g, is, same) = absurd cc
 
-  pub metrics_reported_before : AreReportedBefore options.labels (over_bus name.Metrics options)
+  pub metrics_reported_before : AreReportedBefore vdm_seen (metrics_with options.labels) (over_bus name.Metrics options)
   metrics_reported_before input (Ok (t, f)) is ended memory read = reported_before input t f is ended
   metrics_reported_before input (Err f) is ended memory read = whole input (Err f) (err_to IsObservedFrom reported_of input f (refused (image_of input) f) is) memory read
 
   pub metrics_reported_alike : AreReportedAlike (over_bus name.Metrics options)
-  metrics_reported_alike input (Ok (t, f)) own is ended memory read =
-      let before = reported_before input t f is ended in
-      let same : before.reports ++ listed_text options.labels before.memory ≡ t =
-      ap (λ (seen : List Seen). before.reports ++ exposition options.labels (vdm_metrics seen)) (sym (before.own (own before.memory before.is_image))) ∙ sym before.is_text in
-      subst (λ (text : List ℕ). IsPlainAnswer request input (Ok (text, f))) same before.whole
-  metrics_reported_alike input (Err f) own is ended memory read = metrics_reported_before input (Err f) is ended memory read
+  metrics_reported_alike = alike vdm_seen (metrics_with options.labels) request metrics_reported_before

@@ -22,7 +22,7 @@ use Rattle.command_line.specs.Runs.{Answer, IsAnswerTo}
 use Rattle.command_line.specs.SameOverBus.{IsGivenUp, IsReportedAlike, image_of, over_bus}
 use Rattle.command_line.specs.declared.choice.commands.CommandName.TheVariants.{Report}
 use Rattle.command_line.specs.declared.choice.commands.ReportName.{ReportName}
-use Rattle.command_line.specs.declared.choice.commands.ReportName.TheVariants.{Inventory, Apps, Monitors, Flags, Details}
+use Rattle.command_line.specs.declared.choice.commands.ReportName.TheVariants.{Inventory, Apps, Monitors, Flags}
 use Rattle.command_line.specs.declared.choice.options.Options.{Options}
 use Rattle.command_line.specs.declared.choice.part.Part.TheVariants.{Image}
 use Rattle.command_line.specs.declared.fault.Fault.{Fault}
@@ -143,4 +143,3 @@ each_reported_alike Inventory options = reported_alike Inventory options (λ fet
 each_reported_alike Apps options = reported_alike Apps options (λ fetched memory all. all.apps)
 each_reported_alike Monitors options = reported_alike Monitors options (λ fetched memory all. all.monitors)
 each_reported_alike Flags options = reported_alike Flags options (λ fetched memory all. all.flags)
-each_reported_alike Details options = reported_alike Details options (λ fetched memory all. all.details)

@@ -9,8 +9,8 @@ use Rattle.clap.specs.Words.{fault_of, with_rule, with_subcommand, Kinds}
 use Rattle.clap.specs.Simple.{on_top}
 use Rattle.command_line.specs.declared.choice.commands.CommandEntry.{CommandEntry}
 use Rattle.command_line.specs.declared.choice.commands.CommandName.{CommandName}
-use Rattle.command_line.specs.declared.choice.commands.CommandName.TheVariants.{Report, Observables, Metrics, Plan, Draw, Check, Provision, Trace}
-use Rattle.command_line.specs.declared.choice.commands.ReportName.TheVariants.{Inventory, Apps, Monitors, Flags, Details}
+use Rattle.command_line.specs.declared.choice.commands.CommandName.TheVariants.{Report, Details, Observables, Metrics, Plan, Draw, Check, Provision, Trace}
+use Rattle.command_line.specs.declared.choice.commands.ReportName.TheVariants.{Inventory, Apps, Monitors, Flags}
 use Rattle.command_line.specs.declared.choice.commands.Request.{Request}
 use Rattle.command_line.specs.declared.choice.word_fault.WordFault.{WordFault}
 use Rattle.command_line.specs.GivenFlags.{FlagEntry, activate, bus, color_flag, counts_by_id, first, flag_of, flag_rule, flags_flag, json, keep, label_flag, now, paired, svg, switch, wake, with_word, with_words}
@@ -32,7 +32,7 @@ commands =
     ∷ record { name = codes "apps"; command = Report Apps; flags = switch bus ∷ switch json ∷ [] }
     ∷ record { name = codes "monitors"; command = Report Monitors; flags = switch bus ∷ switch json ∷ with_word color_flag ∷ [] }
     ∷ record { name = codes "flags"; command = Report Flags; flags = switch bus ∷ switch json ∷ with_word color_flag ∷ [] }
-    ∷ record { name = codes "details"; command = Report Details; flags = switch bus ∷ switch json ∷ [] }
+    ∷ record { name = codes "details"; command = Details; flags = switch bus ∷ switch json ∷ [] }
     ∷ record { name = codes "observables"; command = Observables; flags = switch bus ∷ switch json ∷ with_word color_flag ∷ [] }
     ∷ record { name = codes "metrics"; command = Metrics; flags = switch bus ∷ with_words label_flag ∷ with_word flags_flag ∷ [] }
     ∷ record { name = codes "plan"; command = Plan; flags = switch keep ∷ switch paired ∷ switch counts_by_id ∷ switch now ∷ switch json ∷ [] }

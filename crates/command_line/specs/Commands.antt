@@ -5,16 +5,17 @@ use Rattle.command_line.specs.Inputs.{Inputs, parts_read}
 use Rattle.command_line.specs.MetricsCommand.{IsMetricsAnswer}
 use Rattle.command_line.specs.PlanCommand.{IsPlanAnswer}
 use Rattle.command_line.specs.ProvisionCommand.{IsProcedureAnswer}
-use Rattle.command_line.specs.ReportCommands.{IsObservablesAnswer, IsReportAnswer}
+use Rattle.command_line.specs.ReportCommands.{IsDetailsAnswer, IsObservablesAnswer, IsReportAnswer}
 use Rattle.command_line.specs.Runs.{Answer, IsAnswerTo}
 use Rattle.command_line.specs.declared.choice.commands.CommandName.{CommandName}
-use Rattle.command_line.specs.declared.choice.commands.CommandName.TheVariants.{Report, Observables, Metrics, Plan, Draw, Check, Provision, Trace}
+use Rattle.command_line.specs.declared.choice.commands.CommandName.TheVariants.{Report, Details, Observables, Metrics, Plan, Draw, Check, Provision, Trace}
 use Rattle.command_line.specs.declared.choice.commands.Request.{Request}
 use Rattle.command_line.specs.declared.choice.options.Options.{Options}
 
 -- the answer to the texts of its parts
 abbrev pub IsAnswerToInputs : CommandName → Options → Inputs → Answer → Type 0
 IsAnswerToInputs (Report report) options inputs = IsReportAnswer report options inputs.image
+IsAnswerToInputs Details options inputs = IsDetailsAnswer options inputs.image
 IsAnswerToInputs Observables options inputs = IsObservablesAnswer options inputs.image
 IsAnswerToInputs Metrics options inputs = IsMetricsAnswer options inputs.image
 IsAnswerToInputs Plan options inputs = IsPlanAnswer false options inputs

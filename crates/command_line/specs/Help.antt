@@ -5,8 +5,8 @@ use Rattle.std.specs.List.{flat_map}
 use Rattle.std.specs.Option.{option_map_or}
 use Rattle.clap.specs.Words.{Text}
 use Rattle.command_line.specs.declared.choice.commands.CommandName.{CommandName}
-use Rattle.command_line.specs.declared.choice.commands.CommandName.TheVariants.{Report, Observables, Metrics, Plan, Draw, Check, Provision, Trace}
-use Rattle.command_line.specs.declared.choice.commands.ReportName.TheVariants.{Inventory, Apps, Monitors, Flags, Details}
+use Rattle.command_line.specs.declared.choice.commands.CommandName.TheVariants.{Report, Details, Observables, Metrics, Plan, Draw, Check, Provision, Trace}
+use Rattle.command_line.specs.declared.choice.commands.ReportName.TheVariants.{Inventory, Apps, Monitors, Flags}
 use Rattle.command_line.specs.Inputs.{parts_of_command}
 use Rattle.command_line.specs.declared.choice.part.Part.{Part}
 use Rattle.command_line.specs.declared.choice.part.Part.TheVariants.{Image, Weights, Kept, Certificate, Script}
@@ -48,9 +48,9 @@ examples (Report Flags) =
     ∷ codes "flags --bus < examples/sfp_10g_lr_dim.txt"
     ∷ codes "flags --json < examples/sfp_10g_lr_dim.txt"
     ∷ []
-examples (Report Details) =
+examples Details =
     codes "details < examples/qsfp28_100g_sr4.txt"
-    ∷ codes "details --bus < examples/osfp_800g_dr8.txt"
+    ∷ codes "details --bus < examples/osfp_800g_vdm.txt"
     ∷ codes "details --json < examples/sfp_10g_lr.txt"
     ∷ []
 examples Observables =

@@ -3,7 +3,7 @@ use Rattle.std.specs.Prelude.{ℕ, Bool, true, false, not, ◌||◌, List, [], �
 use Rattle.std.specs.List.{position}
 use Rattle.std.specs.Option.{option_map_or}
 use Rattle.command_line.specs.declared.choice.commands.CommandName.{CommandName}
-use Rattle.command_line.specs.declared.choice.commands.CommandName.TheVariants.{Report, Observables, Metrics, Plan, Draw, Check, Provision, Trace}
+use Rattle.command_line.specs.declared.choice.commands.CommandName.TheVariants.{Report, Details, Observables, Metrics, Plan, Draw, Check, Provision, Trace}
 use Rattle.command_line.specs.declared.choice.part.Part.{Part}
 use Rattle.command_line.specs.declared.choice.part.Part.TheVariants.{Image, Weights, Kept, Certificate, Script}
 use Rattle.command_line.specs.declared.commands.inputs.Inputs.{Inputs as Given}
@@ -13,6 +13,7 @@ use Rattle.command_line.specs.declared.commands.inputs.Inputs.{Inputs as Given}
 -- those of a command with all of its flags, in their order
 abbrev pub parts_of_command : CommandName → List Part
 parts_of_command (Report report) = Image ∷ []
+parts_of_command Details = Image ∷ []
 parts_of_command Observables = Image ∷ []
 parts_of_command Metrics = Image ∷ []
 parts_of_command Plan = Image ∷ Weights ∷ Kept ∷ []

@@ -1,5 +1,5 @@
 -- What a report speaks of: the memory of the image that is given, or what is read of its module over a bus that refuses
--- nothing by itself; for observables and metrics the statistics (VDM) too. (docs/formats.md, "Reports over a bus"; docs/bus.md, "Windows" and "Reading
+-- nothing by itself; for details, observables and metrics the statistics (VDM) too. (docs/formats.md, "Reports over a bus"; docs/bus.md, "Windows" and "Reading
 -- an image"; this project's own)
 use Rattle.std.specs.Prelude.{◌≡◌, ◌*◌, ℕ, Bool, true, false, List, [], Result, Ok, Err}
 use Rattle.text_lines.specs.Lines.{lines_of}
@@ -29,7 +29,7 @@ window_at_start memory = record { steps = []; room = 3 * most_steps; state = ([]
 abbrev pub IsFetchedFrom : Memory → Result Memory ReportFault → Type 0
 IsFetchedFrom memory answer = (after : WindowBus) × IsFetching (script_rules window_conduct) (window_at_start memory) after answer
 
--- the same for its observables
+-- the same for its details, observables and metrics
 abbrev pub IsObservedFrom : Memory → Result Memory ReportFault → Type 0
 IsObservedFrom memory answer = (after : WindowBus) × IsObserving (script_rules window_conduct) (window_at_start memory) after answer
 

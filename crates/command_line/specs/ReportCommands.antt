@@ -1,5 +1,5 @@
 -- What a command that reports of an image answers to its text, with the flags `--bus` and `--json` or without them.
--- (docs/formats.md, "Input", "Reports", "JSON", "observables" and "Reports over a bus"; this project's own)
+-- (docs/formats.md, "Input", "Reports", "JSON", "details", "observables" and "Reports over a bus"; this project's own)
 use Rattle.std.specs.Prelude.{◌≡◌, ◌⊎◌, ℕ, Bool, true, false, List, Option, Some, None, MatchOption, Result, Ok, Err, Vec}
 use Rattle.std.specs.Result.{result_map_both}
 use Rattle.std.specs.declared.alloc.Global.{Global}
@@ -12,14 +12,15 @@ use Rattle.reports.specs.Apps.{apps_entries, apps_fault}
 use Rattle.report_entries.specs.Entries.{Entry}
 use Rattle.report_entries.specs.EntryJson.{json_text, report_json}
 use Rattle.report_entries.specs.EntryText.{report_text}
-use Rattle.reports.specs.Details.{details_entries, details_fault}
+use Rattle.reports.specs.Details.{details_fault}
 use Rattle.reports.specs.Families.{detail_fault}
 use Rattle.observable_reports.specs.Answered.{json_of}
+use Rattle.observable_reports.specs.Details.{details_text}
 use Rattle.observable_reports.specs.ObservationText.{observables_lines}
 use Rattle.reports.specs.Reports.{flags_entries, flags_fault, inventory_entries, inventory_fault, monitors_entries, monitors_fault}
 use Rattle.reports.specs.declared.fault.ReportFault.{ReportFault}
 use Rattle.command_line.specs.declared.choice.commands.ReportName.{ReportName}
-use Rattle.command_line.specs.declared.choice.commands.ReportName.TheVariants.{Inventory, Apps, Monitors, Flags, Details}
+use Rattle.command_line.specs.declared.choice.commands.ReportName.TheVariants.{Inventory, Apps, Monitors, Flags}
 use Rattle.command_line.specs.declared.fault.Fault.TheVariants as fault
 use Rattle.command_line.specs.Coloring.{shown_as}
 use Rattle.command_line.specs.declared.choice.options.Options.{Options}
@@ -70,7 +71,6 @@ refusal_of Inventory = inventory_fault
 refusal_of Apps = apps_fault
 refusal_of Monitors = monitors_fault
 refusal_of Flags = flags_fault
-refusal_of Details = details_fault
 
 -- what it says of one
 abbrev pub entries_of : ReportName → Memory → List Entry
@@ -78,7 +78,6 @@ entries_of Inventory memory = inventory_entries memory
 entries_of Apps memory = apps_entries (advertised_by memory)
 entries_of Monitors memory = monitors_entries memory
 entries_of Flags memory = flags_entries memory
-entries_of Details memory = details_entries memory
 
 -- what is printed of that, as JSON or as text
 abbrev pub printed : Bool → List Entry → List ℕ
@@ -91,6 +90,11 @@ printed_of report json memory = printed json (entries_of report memory)
 -- the answer of a report to the text of an image
 abbrev pub IsReportAnswer : ReportName → Options → List ℕ → Answer → Type 0
 IsReportAnswer report options = IsReported IsFetchedFrom options.bus (report_of options (refusal_of report) (printed_of report))
+
+-- ---- details
+
+abbrev pub IsDetailsAnswer : Options → List ℕ → Answer → Type 0
+IsDetailsAnswer options = IsReported IsObservedFrom options.bus (report_of options details_fault details_text)
 
 -- ---- observables, of the modules of which details are reported
 

@@ -1,5 +1,5 @@
--- That a report with `--bus` is the one without it, and so are metrics, but for statistics (VDM) that their bank doesn't advertise. (docs/formats.md,
--- "Reports over a bus"; this project's own)
+-- That a report with `--bus` is the one without it, and so are details and metrics, but for statistics (VDM) that their bank doesn't advertise.
+-- (docs/formats.md, "Reports over a bus"; this project's own)
 use Rattle.std.specs.Prelude.{◌≡◌, ◌≢◌, ◌≤◌, ◌∷◌, ◌++◌, [], ℕ, Bool, true, false, List, Option, Some, option_map, Ok, Err}
 use Rattle.std.specs.FinMap as map
 use Rattle.text_lines.specs.Lines.{lines_of}
@@ -8,11 +8,15 @@ use Rattle.paged_memory.specs.ImageText.{IsTextOf}
 use Rattle.paged_memory.specs.Keys.{page_key}
 use Rattle.observable_reports.specs.SameStatistics.{HasOwnStatistics}
 use Rattle.module_metrics.specs.Exposition.{Label, exposition}
-use Rattle.module_metrics.specs.VdmMetrics.{vdm_metrics, vdm_seen}
+use Rattle.module_metrics.specs.VdmMetrics.{vdm_metrics}
+use Rattle.observable_reports.specs.Details.{printed_with}
+use Rattle.observable_reports.specs.declared.listed_instances.Seen.{Seen}
+use Rattle.report_entries.specs.Entries.{Entry}
 use Rattle.reports.specs.declared.fault.ReportFault.TheVariants.{GaveUp}
 use Rattle.command_line.specs.Faults.{fault_of_reported}
 use Rattle.command_line.specs.declared.fault.Fault.{Fault}
 use Rattle.command_line.specs.declared.fault.Fault.TheVariants.{Memory, Io, Report}
+use Rattle.command_line.specs.Coloring.{shown_as}
 use Rattle.command_line.specs.Commands.{IsAnswerOf}
 use Rattle.command_line.specs.Inputs.{text_in}
 use Rattle.command_line.specs.Parts.{parts_of}
@@ -52,31 +56,35 @@ IsReportedAlike request =
 abbrev pub image_of : List ℕ → List ℕ
 image_of input = text_in (Image ∷ []) (parts_of input) Image
 
--- the metrics of what a module lists itself (VDM)
-abbrev pub listed_text : List Label → images.Memory → List ℕ
-listed_text labels memory = exposition labels (vdm_metrics (vdm_seen memory))
+-- ---- what a module lists itself (VDM)
 
--- the metrics of reports are followed by those of the statistics that were read, which are the image's; without `--bus` by those of all that the image
--- has
-pub record IsFollowed (labels : List Label) (request : Bool → Request) (input text : List ℕ) (reported : Option ReportedFault) : Type 0 where
+-- what is told beside it is printed with it: in metrics it follows, in details its lines or members do
+abbrev pub metrics_with : List Label → List ℕ → List Seen → List ℕ
+metrics_with labels reports seen = reports ++ exposition labels (vdm_metrics seen)
+
+abbrev pub details_with : Options → List Entry → List Seen → List ℕ
+details_with options entries seen = shown_as options.coloring options.json (printed_with options.json entries seen)
+
+-- over a bus that is told of the statistics that were read, which are the image's; without `--bus` of all that the image has
+pub record IsFollowed {T : Type 0} (seen_in : images.Memory → List Seen) (printed : T → List Seen → List ℕ) (request : Bool → Request) (input text : List ℕ) (reported : Option ReportedFault) : Type 0 where
   pub memory : images.Memory
   pub read : images.Memory
-  pub reports : List ℕ
+  pub beside : T
   pub is_image : IsTextOf (lines_of (image_of input)) memory
-  pub is_text : text ≡ reports ++ listed_text labels read
-  pub whole : IsPlainAnswer request input (Ok (reports ++ listed_text labels memory, reported))
+  pub is_text : text ≡ printed beside (seen_in read)
+  pub whole : IsPlainAnswer request input (Ok (printed beside (seen_in memory), reported))
   pub pages : (page : ℕ) (bytes : List ℕ) → 0x20 ≤ page → map.get read (page_key page) ≡ Some bytes → map.get memory (page_key page) ≡ Some bytes
-  pub own : HasOwnStatistics memory → vdm_seen read ≡ vdm_seen memory
+  pub own : HasOwnStatistics memory → seen_in read ≡ seen_in memory
 
-abbrev pub IsFollowedAnswer : List Label → (Bool → Request) → List ℕ → Answer → Type 0
-IsFollowedAnswer labels request input (Ok (text, reported)) = IsFollowed labels request input text reported
-IsFollowedAnswer labels request input (Err f) = IsPlainAnswer request input (Err f)
+abbrev pub IsFollowedAnswer : {T : Type 0} → (images.Memory → List Seen) → (T → List Seen → List ℕ) → (Bool → Request) → List ℕ → Answer → Type 0
+IsFollowedAnswer seen_in printed request input (Ok (text, reported)) = IsFollowed seen_in printed request input text reported
+IsFollowedAnswer seen_in printed request input (Err f) = IsPlainAnswer request input (Err f)
 
 -- so is each answer with `--bus`, but for the same
-abbrev pub AreReportedBefore : List Label → (Bool → Request) → Type 0
-AreReportedBefore labels request =
+abbrev pub AreReportedBefore : {T : Type 0} → (images.Memory → List Seen) → (T → List Seen → List ℕ) → (Bool → Request) → Type 0
+AreReportedBefore seen_in printed request =
     (input : List ℕ) (answer : Answer) → IsAnswerOf (request true) input answer → ¬ (IsGivenUp answer) → answer ≢ Err Memory → answer ≢ Err Io
-    → IsFollowedAnswer labels request input answer
+    → IsFollowedAnswer seen_in printed request input answer
 
 -- of an image that has no other statistics than those that its banks advertise, the answer is that without `--bus`
 abbrev pub AreReportedAlike : (Bool → Request) → Type 0

@@ -27,7 +27,7 @@ either_depth : (is_number : Bool) (written : List ℕ) → depth (if is_number t
 either_depth true written = omega arith
 either_depth false written = omega arith
 
-scalar_depth : (written : List ℕ) → depth (scalar_json written) ≤ 1
+pub scalar_depth : (written : List ℕ) → depth (scalar_json written) ≤ 1
 unfolding scalar_json
 scalar_depth written = either_depth (is_read (after_number written)) written
 

@@ -2,6 +2,8 @@ mod StatisticsRead
 pub mod ExactTexts
 pub mod JsonDepths
 pub mod ListedInstances
+mod DetailDepths
+pub mod UniqueInstances
 pub mod WordNumbers
 pub mod WindowStatistics
 mod BankReadings

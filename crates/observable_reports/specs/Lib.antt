@@ -2,6 +2,8 @@ pub mod AmountTexts
 pub mod ObservationText
 pub mod ObservationJson
 pub mod ListedInstances
+pub mod Details
+pub mod UniqueInstances
 pub mod Answered
 pub mod WrittenAmounts
 pub mod FetchedObservables

@@ -1,7 +1,9 @@
-//! What a module measures, as text and as JSON, and how its memory is read for that.
+//! What a module measures, and all that it says of itself, as text and as JSON, and how its memory is read for that.
 #![tactic(auto)]
 
 mod amount_text;
+pub mod detail_laws;
+mod detail_report;
 mod fetching;
 pub mod laws;
 mod listed_instances;
@@ -10,6 +12,7 @@ mod observation_text;
 mod report;
 
 pub use amount_text::{ShownAmount, shown_as};
+pub use detail_report::{details, details_json};
 pub use fetching::fetch_observables;
 pub use listed_instances::{Seen, all_listed};
 pub use report::{observables, observables_json};

@@ -90,9 +90,9 @@ impl fmt::Display for KnownText {
     }
 }
 
-// What is measured of, and the number of its lane.
+/// What is measured of, and the number of its lane.
 #[derive(Clone, Copy)]
-struct PlaceText(Subject, Side);
+pub struct PlaceText(pub Subject, pub Side);
 
 impl fmt::Display for PlaceText {
     ghost output = { λ place. Some (place_text place.0 place.1) };

@@ -5,10 +5,11 @@ use Rattle.std.specs.declared.alloc.Global.{Global}
 use Rattle.text_lines.specs.Lines.{lines_of}
 use Rattle.paged_memory.specs.Images.{Memory as Image}
 use Rattle.paged_memory.specs.ImageText.{IsTextOf}
-use Rattle.report_entries.specs.Entries.{Entry}
-use Rattle.report_entries.specs.EntryJson.{json_text, report_json}
-use Rattle.reports.specs.Answered.{ReportsJson}
-use Rattle.reports.specs.Details.{details_entries, details_fault}
+use Rattle.json.specs.Json.{Json}
+use Rattle.report_entries.specs.EntryJson.{json_text}
+use Rattle.observable_reports.specs.Answered.{AnswersJson}
+use Rattle.observable_reports.specs.Details.{details_json, details_text}
+use Rattle.reports.specs.Details.{details_fault}
 use Rattle.module_metrics.specs.Answers.{metrics_of}
 use Rattle.module_metrics.specs.Exposition.{Label, exposition}
 use Rattle.reports.specs.declared.fault.ReportFault.{ReportFault}
@@ -24,23 +25,23 @@ refused refusal text_of given image read f (inl same) = absurd cc
 refused refusal text_of given image read f (inr is) = (image, read, is)
 
 -- what is known of a report as JSON
-json_refused : (o : Option ReportFault) (entries : List Entry) (f : ReportFault) → ReportsJson o entries (Err f) → (f ≡ report.Memory) ⊎ (o ≡ Some f)
-json_refused None entries f h = inl h
-json_refused (Some g) entries f h = inr cc
+json_refused : (o : Option ReportFault) (value : Json) (f : ReportFault) → AnswersJson o value (Err f) → (f ≡ report.Memory) ⊎ (o ≡ Some f)
+json_refused None value f h = inl h
+json_refused (Some g) value f h = inr cc
 
-json_told : (o : Option ReportFault) (entries : List Entry) (text : Vec ℕ Global) → ReportsJson o entries (Ok text)
-    → (o ≡ None) × (text.items ≡ json_text (report_json entries))
-json_told None entries text h = (refl, h.spelled)
-json_told (Some f) entries text h = absurd cc
+json_told : (o : Option ReportFault) (value : Json) (text : Vec ℕ Global) → AnswersJson o value (Ok text)
+    → (o ≡ None) × (text.items ≡ json_text value)
+json_told None value text h = (refl, h.spelled)
+json_told (Some f) value text h = absurd cc
 
 module _ (given : List ℕ) (image : Image) (read : IsTextOf (lines_of given) image) where
-  pub details_refused : (f : ReportFault) → ReportsJson (details_fault image) (details_entries image) (Err f) → IsDetails given (Err (fault_of_report f))
+  pub details_refused : (f : ReportFault) → AnswersJson (details_fault image) (details_json image) (Err f) → IsDetails given (Err (fault_of_report f))
   details_refused f h =
-      refused details_fault (λ image. json_text (report_json (details_entries image))) given image read f (json_refused (details_fault image) (details_entries image) f h)
+      refused details_fault (details_text true) given image read f (json_refused (details_fault image) (details_json image) f h)
 
-  pub details_told : (text : Vec ℕ Global) → ReportsJson (details_fault image) (details_entries image) (Ok text) → IsDetails given (Ok text.items)
+  pub details_told : (text : Vec ℕ Global) → AnswersJson (details_fault image) (details_json image) (Ok text) → IsDetails given (Ok text.items)
   details_told text h =
-      let told = json_told (details_fault image) (details_entries image) text h in
+      let told = json_told (details_fault image) (details_json image) text h in
       (image, read, told.0, told.1)
 
   -- without labels of one's own

@@ -5,8 +5,8 @@ use Rattle.text_lines.specs.Lines.{lines_of}
 use Rattle.paged_memory.specs.Images.{Memory as Image}
 use Rattle.paged_memory.specs.ImageText.{IsTextOf}
 use Rattle.paged_memory.specs.ImageFaults.{IsFirstFault}
-use Rattle.report_entries.specs.EntryJson.{json_text, report_json}
-use Rattle.reports.specs.Details.{details_entries, details_fault}
+use Rattle.observable_reports.specs.Details.{details_text}
+use Rattle.reports.specs.Details.{details_fault}
 use Rattle.reports.specs.declared.fault.ReportFault.{ReportFault}
 use Rattle.module_metrics.specs.Answers.{metrics_of}
 use Rattle.module_metrics.specs.Exposition.{exposition}
@@ -21,7 +21,7 @@ IsReport refusal text_of given (Err (fault.Image f)) = IsFirstFault (lines_of gi
 IsReport refusal text_of given (Err fault.Memory) = Unit {0}
 
 abbrev pub IsDetails : List ℕ → Answer → Type 0
-IsDetails = IsReport details_fault (λ image. json_text (report_json (details_entries image)))
+IsDetails = IsReport details_fault (details_text true)
 
 -- faults of reports are among the metrics
 abbrev pub IsMetricsOf : Bool → List ℕ → Answer → Type 0

@@ -5,8 +5,8 @@ ghost use Rattle.report_api.specs.ReportTexts.{IsDetails, IsMetrics, IsMetricsOf
 use crate::answer::put;
 use crate::fault::Fault;
 use module_metrics::{Labels, metrics};
+use observable_reports::details_json;
 use paged_memory::LargeImage;
-use reports::details_json;
 use std::alloc::Global;
 
 /// Puts all that the module of an image has about itself, as JSON, into `buffer`, and the text's length into `text_length`, which it

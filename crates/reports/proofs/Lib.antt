@@ -15,5 +15,5 @@ pub mod FetchedReports
 pub mod BesideFetched
 pub mod SameRows
 pub mod PutPages
-mod UniqueDetails
+pub mod UniqueDetails
 mod FewHalves

@@ -73,17 +73,17 @@ abbrev values_keys : List ℕ → List ℕ → Values → List (List ℕ)
 values_keys banks name (One i) = key_text name Module ∷ []
 values_keys banks name (Lanes n) = flat_map (bank_keys name n) banks
 
-abbrev are_few : Values → Bool
+abbrev pub are_few : Values → Bool
 are_few (One i) = true
 are_few (Lanes n) = list_all (λ (i : ℕ). nat_lt i 10) (range_with_len 1 n)
 
 abbrev row_keys : List ℕ → Row → List (List ℕ)
 row_keys banks row = values_keys banks row.name row.values
 
-abbrev tables_keys : List ℕ → List (List Row) → List (List ℕ)
+abbrev pub tables_keys : List ℕ → List (List Row) → List (List ℕ)
 tables_keys banks tables = flat_map (flat_map (row_keys banks)) tables
 
-abbrev keys_of : List Entry → List (List ℕ)
+abbrev pub keys_of : List Entry → List (List ℕ)
 keys_of entries = map entry_key entries
 
 -- of entries that are told of each of some things
@@ -113,7 +113,7 @@ bank_part : (identifier : ℕ) (lanes : Memory) (name : List ℕ) (item : Item) 
 bank_part identifier lanes name item n e bank few =
     each_part (lane_entries identifier name item bank lanes) (λ i. lane_key name (8 * bank + i) ∷ []) (λ i. nat_lt i 10) (λ i small. lane_part identifier lanes name item bank few i (ltb-true i 10 small)) (range_with_len 1 n) e
 
-abbrev is_bank : ℕ → Bool
+abbrev pub is_bank : ℕ → Bool
 is_bank bank = nat_le bank 3
 
 values_part : (memory : Memory) (banks name : List ℕ) (item : Item) (values : Values) → list_all is_bank banks ≡ true → are_few values ≡ true → Part (keys_of (values_entries memory banks name item values)) (values_keys (0 ∷ banks) name values)
@@ -130,14 +130,31 @@ row_part memory banks flat row of e =
     cond_both (is_left_out memory flat row) [] (values_entries memory banks row.name row.item row.values) (λ (entries : List Entry). Part (keys_of entries) (row_keys (0 ∷ banks) row))
     (λ left_out. part_none (row_keys (0 ∷ banks) row)) (λ shown. values_part memory banks row.name row.item row.values of e)
 
+tables_part : (banks : List ℕ) → list_all is_bank banks ≡ true → (tables : List (List Row)) → list_all (list_all (λ (row : Row). are_few row.values)) tables ≡ true
+    → (memory : Memory) (flat : Bool) → Part (keys_of (tables_entries memory banks flat tables)) (tables_keys (0 ∷ banks) tables)
+tables_part banks of tables few memory flat =
+    let few_in = λ (row : Row). are_few row.values in
+    let keys = row_keys (0 ∷ banks) in
+    each_part (rows_entries memory banks flat) (flat_map keys) (list_all few_in) (each_part (row_entries memory banks flat) keys few_in (λ row e. row_part memory banks flat row of e)) tables few
+
 -- ---- of each family
+
+all_pass : (test : List ℕ → Bool) (keys : List (List ℕ)) → list_all test keys ≡ true → AllByRecursion (λ key. test key ≡ true) keys
+all_pass test [] e = tt
+all_pass test (key ∷ keys) e =
+    let both = and_parts (test key) (list_all test keys) e in
+    (both.0, all_pass test keys both.1)
+
+-- a test that all keys of the rows pass, all that they say do
+pub each_passes : (test : List ℕ → Bool) (banks : List ℕ) → list_all is_bank banks ≡ true → (tables : List (List Row)) → list_all (list_all (λ (row : Row). are_few row.values)) tables ≡ true
+    → list_all test (tables_keys (0 ∷ banks) tables) ≡ true → (memory : Memory) (flat : Bool) → AllByRecursion (λ key. test key ≡ true) (keys_of (tables_entries memory banks flat tables))
+each_passes test banks of tables few passed memory flat =
+    part_all (λ key. test key ≡ true) (tables_part banks of tables few memory flat) (all_pass test (tables_keys (0 ∷ banks) tables) passed)
 
 unique : (banks : List ℕ) → list_all is_bank banks ≡ true → (tables : List (List Row)) → list_all (list_all (λ (row : Row). are_few row.values)) tables ≡ true
     → distinct_count bytes_eq (tables_keys (0 ∷ banks) tables) ≡ length (tables_keys (0 ∷ banks) tables) → (memory : Memory) (flat : Bool) → HaveUniqueKeys (tables_entries memory banks flat tables)
 unique banks of tables few new memory flat =
-    let few_in = λ (row : Row). are_few row.values in
-    let keys = row_keys (0 ∷ banks) in
-    let part = each_part (rows_entries memory banks flat) (flat_map keys) (list_all few_in) (each_part (row_entries memory banks flat) keys few_in (λ row e. row_part memory banks flat row of e)) tables few in
+    let part = tables_part banks of tables few memory flat in
     AllPairs-from_IsDistinct bytes_decides (keys_of (tables_entries memory banks flat tables)) (part_distinct part (IsDistinct-from_count nat_list_eq_equiv (tables_keys (0 ∷ banks) tables) new))
 
 cmis_unique : (further : Further) (memory : Memory) (flat : Bool) → HaveUniqueKeys (tables_entries memory (numbers further) flat cmis.tables_of_rows)

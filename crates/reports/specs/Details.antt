@@ -1,5 +1,5 @@
--- All that a module says of itself, by its family. (docs/formats.md, "details"; this project's own)
-use Rattle.std.specs.Prelude.{ℕ, ◌&&◌, not, if◌then◌else◌, List, Option, Some, None}
+-- All that a module says of itself at fixed places, by its family. (docs/formats.md, "details"; this project's own)
+use Rattle.std.specs.Prelude.{◌&&◌, not, if◌then◌else◌, List, Option, Some, None}
 use Rattle.std.specs.Option.{option_or}
 use Rattle.bus_model.specs.declared.device.Dev.TheVariants.{A2}
 use Rattle.paged_memory.specs.declared.family.Family.{Family}
@@ -13,7 +13,6 @@ use Rattle.module_details.specs.Families.{cmis_entries, lacks_diagnostics, qsfp_
 use Rattle.sff8636_map.specs.Refusals as sff8636_refusals
 use Rattle.sff8472_map.specs.Refusals as sff8472_refusals
 use Rattle.report_entries.specs.Entries.{Entry}
-use Rattle.report_entries.specs.EntryText.{entries_lines}
 use Rattle.reports.specs.declared.fault.ReportFault.{ReportFault}
 use Rattle.reports.specs.declared.fault.ReportFault.TheVariants.{Absent}
 use Rattle.reports.specs.Families.{detail_fault, lacks, of_sff}
@@ -39,6 +38,3 @@ details_fault memory = option_or (detail_fault memory) (fault_in (detail_family_
 
 unfoldable pub details_entries : Memory → List Entry
 details_entries memory = entries_in (detail_family_of memory) memory
-
-unfoldable pub details_lines : Memory → List (List ℕ)
-details_lines memory = entries_lines (details_entries memory)

@@ -19,7 +19,8 @@ pub record IsSame {F A : Type 0} (fault_of : Memory → Option F) (content_of : 
   pub fault : fault_of memory ≡ fault_of other
   pub content : fault_of memory ≡ None → content_of memory ≡ content_of other
 
--- so have the five reports of modules, in whatever form their entries are printed, and what is said of the lanes of all banks
+-- so have the five reports of modules (of details what stands at fixed places), in whatever form their entries are printed, and what is said of the
+-- lanes of all banks
 pub record ReportsSame (memory other : Memory) : Type 0 where
   pub inventory : IsSame inventory_fault inventory_entries memory other
   pub apps : IsSame apps_fault (λ (m : Memory). apps_entries (advertised_by m)) memory other

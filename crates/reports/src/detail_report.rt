@@ -1,7 +1,7 @@
-// All that a module says of itself.
-ghost use Rattle.reports.specs.Answered.{AreEntries, Reports, ReportsJson};
+// All that a module says of itself at fixed places.
+ghost use Rattle.reports.specs.Answered.{AreEntries};
 ghost use Rattle.reports.specs.Details as spec;
-ghost use Rattle.reports.specs.Details.{details_entries, details_fault, details_lines};
+ghost use Rattle.reports.specs.Details.{details_entries, details_fault};
 ghost use Rattle.paged_memory.specs.declared.family.Family.TheVariants as families;
 
 use crate::family::detail_family_of;
@@ -10,27 +10,12 @@ use bus_model::Dev;
 use module_decoding::absent_detail_page;
 use module_details::{cmis_details, lacks_diagnostics, qsfp_details, sfp_details};
 use paged_memory::{Family, Image, Key};
-use report_entries::{Entry, json, text};
+use report_entries::Entry;
 use std::alloc::Global;
 
-/// All that the module says of itself, line by line.
-#[tactic(auto, unfolding(report_entries::specs::Entries::as_entries, crate::specs::Details::details_lines))]
-pub fn details(alloc: Global, image: &Image) -> Result<Vec<u8>, ReportFault>
-    ensures { Reports (details_fault image.now) (details_lines image.now) result }
-{
-    Ok(text(alloc, &details_entries(alloc, image)?)?)
-}
-
-/// The same as JSON.
-#[tactic(auto, unfolding(report_entries::specs::Entries::as_entries))]
-pub fn details_json(alloc: Global, image: &Image) -> Result<Vec<u8>, ReportFault>
-    ensures { ReportsJson (details_fault image.now) (details_entries image.now) result }
-{
-    Ok(json(alloc, &details_entries(alloc, image)?)?)
-}
-
+/// All that the module says of itself at fixed places, as entries.
 #[tactic(auto, unfolding(crate::specs::Details::details_fault, crate::specs::Details::details_entries))]
-fn details_entries(alloc: Global, image: &Image) -> Result<Vec<Entry>, ReportFault>
+pub fn details_entries(alloc: Global, image: &Image) -> Result<Vec<Entry>, ReportFault>
     ensures { AreEntries (details_fault image.now) (details_entries image.now) result }
 {
     match detail_family_of(image)? {

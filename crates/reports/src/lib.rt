@@ -11,7 +11,7 @@ mod report;
 mod tables;
 
 pub use cmis_apps::{apps, apps_json};
-pub use detail_report::{details, details_json};
+pub use detail_report::details_entries;
 pub use fault::ReportFault;
 pub use fetching::{fetch_image, put_page};
 pub use report::{

@@ -12,13 +12,13 @@ pub enum ReportName {
     Apps,
     Monitors,
     Flags,
-    Details,
 }
 
 /// What the program is asked to do.
 #[derive(Clone, Copy)]
 pub enum CommandName {
     Report(ReportName),
+    Details,
     Observables,
     Metrics,
     Plan,
@@ -130,7 +130,7 @@ pub fn commands() -> &'static [CommandEntry]
         "apps" Report(Apps) [BUS JSON] "Print the Applications that the module advertises";
         "monitors" Report(Monitors) [BUS JSON COLOR] "Print what the module measures";
         "flags" Report(Flags) [BUS JSON COLOR] "Print the states of the module and its lanes, and the raised flags";
-        "details" Report(Details) [BUS JSON] "Print everything that the module has about itself, with names";
+        "details" Details [BUS JSON] "Print everything that the module has about itself, with names";
         "observables" Observables [BUS JSON COLOR] "Print everything that the module measures, VDM too, with limits and flags";
         "metrics" Metrics [BUS LABEL FLAGS] "Print inventory, monitors and flags as metrics for Prometheus";
         "plan" Plan [KEEP PAIRED COUNTS_BY_ID NOW JSON] "Print the best plan for an image and weights, with its certificate";

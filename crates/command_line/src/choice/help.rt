@@ -56,6 +56,7 @@ pub fn of_command(command: CommandName) -> &'static str
 {
     match command {
         CommandName::Report(report) => of_report(report),
+        CommandName::Details => of_details(),
         CommandName::Observables => of_observables(),
         CommandName::Metrics => end!([image] []
             ["metrics < examples/osfp_800g_dr8.txt" "metrics --bus --label port=Ethernet0 < examples/qsfp28_100g_sr4.txt"
@@ -96,10 +97,15 @@ fn of_report(report: ReportName) -> &'static str
         ReportName::Flags => end!([image] []
             ["flags < examples/osfp_800g_overheated.txt" "flags --bus < examples/sfp_10g_lr_dim.txt"
                 "flags --json < examples/sfp_10g_lr_dim.txt"]),
-        ReportName::Details => end!([image] []
-            ["details < examples/qsfp28_100g_sr4.txt" "details --bus < examples/osfp_800g_dr8.txt"
-                "details --json < examples/sfp_10g_lr.txt"]),
     }
+}
+
+fn of_details() -> &'static str
+    ensures { result.now ≡ help_of CommandName.Details }
+{
+    end!([image] []
+        ["details < examples/qsfp28_100g_sr4.txt" "details --bus < examples/osfp_800g_vdm.txt"
+            "details --json < examples/sfp_10g_lr.txt"])
 }
 
 fn of_observables() -> &'static str

@@ -22,9 +22,10 @@ impl CommandName {
         ensures { result.now ≡ parts_read self keep }
     {
         match self {
-            CommandName::Report(_) | CommandName::Observables | CommandName::Metrics => {
-                &[Part::Image]
-            }
+            CommandName::Report(_)
+            | CommandName::Details
+            | CommandName::Observables
+            | CommandName::Metrics => &[Part::Image],
             CommandName::Check => &[Part::Image, Part::Weights, Part::Certificate],
             CommandName::Plan | CommandName::Draw => {
                 if keep {

@@ -14,7 +14,7 @@ use super::inputs::Inputs;
 use super::metrics_command::print_metrics;
 use super::plan_command::plan;
 use super::provision_command::provision;
-use super::report_commands::{print_observables, report};
+use super::report_commands::{print_details, print_observables, report};
 use crate::choice::commands::{CommandName, Request};
 use crate::command_output::CommandOutput;
 use crate::fault::Fault;
@@ -124,6 +124,7 @@ fn answer_to(alloc: Global, request: &Request, inputs: &Inputs<'_>) -> Result<Co
     let options = &request.options;
     match request.command {
         CommandName::Report(name) => report(alloc, name, options, inputs.image),
+        CommandName::Details => print_details(alloc, options, inputs.image),
         CommandName::Observables => print_observables(alloc, options, inputs.image),
         CommandName::Metrics => print_metrics(alloc, options, inputs.image),
         CommandName::Plan => plan(alloc, false, options, inputs),

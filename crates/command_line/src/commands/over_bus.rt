@@ -28,7 +28,7 @@ pub fn image_to_report(alloc: Global, text: &[u8], is_over_bus: bool) -> Result<
     }
 }
 
-/// The same for its observables and metrics: over a bus also what is read of the module's statistics (VDM).
+/// The same for its details, observables and metrics: over a bus also what is read of the module's statistics (VDM).
 pub fn image_to_observe(alloc: Global, text: &[u8], is_over_bus: bool) -> Result<LargeImage, Fault>
     ensures { MatchResult result (λ read. IsReading IsObservedFrom is_over_bus text.now (Ok read)) (IsInputRefusal IsObservedFrom is_over_bus text.now) }
 {

@@ -1,8 +1,10 @@
 ghost use Rattle.std.specs.Prelude.{◌≢◌, IfErr, List, Option, ℕ};
+ghost use Rattle.observable_reports.specs.Details.{details_text};
+ghost use Rattle.reports.specs.Details.{details_fault};
 ghost use Rattle.reports.specs.Families.{detail_fault};
 ghost use Rattle.reports.specs.declared.fault.ReportFault.{ReportFault};
 ghost use Rattle.command_line.specs.Coloring.{shown_as};
-ghost use Rattle.command_line.specs.ReportCommands.{IsObservablesAnswer, IsReportAnswer, IsReportedAs, Prints, observed_text, printed_of, refusal_of, text_unless};
+ghost use Rattle.command_line.specs.ReportCommands.{IsDetailsAnswer, IsObservablesAnswer, IsReportAnswer, IsReportedAs, Prints, observed_text, printed_of, refusal_of, text_unless};
 ghost use Rattle.command_line.specs.Runs.{IsOwnAnswer, answer_of};
 
 use super::over_bus::{image_to_observe, image_to_report};
@@ -11,7 +13,7 @@ use crate::choice::options::Options;
 use crate::command_output::CommandOutput;
 use crate::fault::Fault;
 use crate::remark::Warnings;
-use observable_reports::{observables, observables_json};
+use observable_reports::{details, details_json, observables, observables_json};
 use paged_memory::Image;
 use reports::ReportFault;
 use std::alloc::Global;
@@ -28,6 +30,16 @@ pub fn report(
 {
     let image = image_to_report(alloc, image, options.bus)?;
     let printed = printed(alloc, name, options.json, &image.view());
+    report_output(alloc, options, printed)
+}
+
+/// All that the module of the image says of itself, or what is read of that over a bus, as text or as JSON.
+pub fn print_details(alloc: Global, options: &Options, image: &[u8]) -> Result<CommandOutput, Fault>
+    ensures answer { IsOwnAnswer (IsDetailsAnswer options.now image.now) (answer_of result) }
+    ensures read { IfErr result (λ fault. fault ≢ Fault.Io) }
+{
+    let image = image_to_observe(alloc, image, options.bus)?;
+    let printed = detailed(alloc, options.json, &image.view());
     report_output(alloc, options, printed)
 }
 
@@ -63,7 +75,7 @@ fn report_output(
     })
 }
 
-#[tactic(auto, unfolding(reports::specs::Reports::report_lines, reports::specs::Details::details_lines))]
+#[tactic(auto, unfolding(reports::specs::Reports::report_lines))]
 fn printed(
     alloc: Global,
     name: ReportName,
@@ -81,8 +93,16 @@ fn printed(
         (ReportName::Monitors, true) => reports::monitors_json(alloc, image),
         (ReportName::Flags, false) => reports::flags(alloc, image),
         (ReportName::Flags, true) => reports::flags_json(alloc, image),
-        (ReportName::Details, false) => reports::details(alloc, image),
-        (ReportName::Details, true) => reports::details_json(alloc, image),
+    }
+}
+
+fn detailed(alloc: Global, is_json: bool, image: &Image) -> Result<Vec<u8>, ReportFault>
+    ensures { Prints (details_fault image.now) (details_text is_json image.now) result }
+{
+    if is_json {
+        details_json(alloc, image)
+    } else {
+        details(alloc, image)
     }
 }
 

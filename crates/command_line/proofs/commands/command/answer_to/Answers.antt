@@ -3,6 +3,9 @@ use Rattle.command_line.proofs.commands.command.answer_to.Goals as goal
 pub returns-in-Report-clause-answer : goal.returns-in-Report-clause-answer
 returns-in-Report-clause-answer c = rw c.in-Report.is c.report.ensures.answer
 
+pub returns-in-Details-clause-answer : goal.returns-in-Details-clause-answer
+returns-in-Details-clause-answer c = rw c.in-Details.is c.print_details.ensures.answer
+
 pub returns-in-Observables-clause-answer : goal.returns-in-Observables-clause-answer
 returns-in-Observables-clause-answer c = rw c.in-Observables.is c.print_observables.ensures.answer
 
