@@ -1,5 +1,6 @@
 ghost use Rattle.std.specs.Prelude.{◌≡◌, ◌≤◌, length, MatchOption, None, Ok, Err};
 ghost use Rattle.std.specs.List.{list_all};
+ghost use Rattle.std.specs.FinMap as map;
 ghost use Rattle.applications.specs.Advertised.{advertised_by};
 ghost use Rattle.firmware_api.specs.Halves.{advert_of, conventions_of, has_place, key_of, memory_of, module_refusal, refusal_under};
 ghost use Rattle.firmware_api.specs.SimulatedModules.{half_refusal, refusal_over, simulated_refusal};
@@ -104,7 +105,9 @@ pub fn image_of(halves: &[HalfBytes]) -> SmallImage
     requires { length halves.now ≤ most_pages }
     ensures { result ≡ memory_of halves.now }
 {
-    owned_image_of(halves)
+    let mut image = SmallImage::new();
+    put_halves(&mut image, halves);
+    image
 }
 
 /// The same of as many halves as a large image has room for.
@@ -112,20 +115,22 @@ pub fn large_image_of(halves: &[HalfBytes]) -> LargeImage
     requires { length halves.now ≤ most_large }
     ensures { result ≡ memory_of halves.now }
 {
-    owned_image_of(halves)
+    let mut image = LargeImage::new();
+    put_halves(&mut image, halves);
+    image
 }
 
-// Since the first of several halves at one place counts, the last is put first.
-fn owned_image_of<const MOST: usize>(halves: &[HalfBytes]) -> OwnedImage<MOST>
-    requires { length halves.now ≤ MOST }
-    ensures { result ≡ memory_of halves.now }
+// Puts the halves into an image without any. Since the first of several halves at one place counts, the last is put first. Where an image is
+// returned through a function that is generic, it takes its room twice.
+fn put_halves<const MOST: usize>(image: &mut OwnedImage<MOST>, halves: &[HalfBytes])
+    requires empty { image.old ≡ map.empty }
+    requires few { length halves.now ≤ MOST }
+    ensures { image.new ≡ memory_of halves.now }
 {
-    let mut image = OwnedImage::new();
     for place in (0..halves.len()).rev() {
         let half = halves[place];
         image.put(half.key(), Page::from(half.bytes)).unwrap();
     }
-    image
 }
 
 /// The status of what is wrong with the halves themselves, or 0.
