@@ -1,8 +1,9 @@
-/* The memory of qemu's mps2-an386: code from 0 on, data from 0x20000000 on, the stack at the end of the data's 64 KB. */
+/* The memory of qemu's mps2-an386: code from 0 on, data from 0x20000000 on, the stack at the end of the data's 128 KB,
+   most of which the simulated module takes. */
 ENTRY(reset)
 MEMORY {
     CODE (rx) : ORIGIN = 0, LENGTH = 256K
-    DATA (rw) : ORIGIN = 0x20000000, LENGTH = 64K
+    DATA (rw) : ORIGIN = 0x20000000, LENGTH = 128K
 }
 SECTIONS {
     .text : { KEEP(*(.vectors)) *(.text*) *(.rodata*) . = ALIGN(4); } > CODE
