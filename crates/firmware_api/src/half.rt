@@ -120,8 +120,8 @@ pub fn large_image_of(halves: &[HalfBytes]) -> LargeImage
     image
 }
 
-// Puts the halves into an image without any. Since the first of several halves at one place counts, the last is put first. Where an image is
-// returned through a function that is generic, it takes its room twice.
+// Puts the halves into an empty image. Since the first of several halves at one place counts, the last is put first. The image is lent, since
+// one that a further call returns takes its room on the stack twice.
 fn put_halves<const MOST: usize>(image: &mut OwnedImage<MOST>, halves: &[HalfBytes])
     requires empty { image.old ≡ map.empty }
     requires few { length halves.now ≤ MOST }
