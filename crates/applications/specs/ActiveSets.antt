@@ -4,7 +4,8 @@
 use Rattle.std.specs.Prelude.{ℕ, ◌+◌, ◌-◌, ◌==◌, ◌&&◌, Bool, replicate, slice_index}
 use Rattle.std.specs.List.{list_all, range_with_len}
 use Rattle.paged_memory.specs.Images.{Memory}
-use Rattle.field_tables.specs.declared.field.Field.TheVariants.{CActiveAppSel, CActivePathId}
+use Rattle.field_tables.specs.declared.field.Field.TheVariants as fields
+use Rattle.field_tables.specs.declared.table.cmis.CmisField.TheVariants as cmis
 use Rattle.field_tables.specs.Readings.{all_numbers}
 use Rattle.applications.specs.declared.active.ActiveSet.{ActiveSet}
 use Rattle.applications.specs.declared.app.App.{App}
@@ -14,7 +15,7 @@ abbrev pub nothing_active : ActiveSet
 nothing_active = record { app_sel_codes = replicate 8 0; data_path_ids = replicate 8 0 }
 
 abbrev pub active_in : Memory → ActiveSet
-active_in memory = record { app_sel_codes = all_numbers memory CActiveAppSel; data_path_ids = all_numbers memory CActivePathId }
+active_in memory = record { app_sel_codes = all_numbers memory (fields.Cmis cmis.ActiveAppSel); data_path_ids = all_numbers memory (fields.Cmis cmis.ActivePathId) }
 
 -- a host lane has the AppSelCode of the Application, and the DataPathID of a path from a host lane on: that lane, less one
 abbrev pub is_lane_of : ActiveSet → App → ℕ → ℕ → Bool

@@ -5,7 +5,8 @@
 use Rattle.std.specs.Prelude.{◌≡◌, ℕ, Bool, false, if◌then◌else◌, List, length, map}
 use Rattle.std.specs.List.{range_with_len}
 use Rattle.paged_memory.specs.Images.{Memory}
-use Rattle.field_tables.specs.declared.field.Field.TheVariants.{CMediaType, CUnsupportedMedia}
+use Rattle.field_tables.specs.declared.field.Field.TheVariants as fields
+use Rattle.field_tables.specs.declared.table.cmis.CmisField.TheVariants as cmis
 use Rattle.field_tables.specs.LaneSets.{Lanes, lanes_in}
 use Rattle.field_tables.specs.Readings.{number}
 use Rattle.applications.specs.declared.active.ActiveSet.{ActiveSet}
@@ -28,7 +29,7 @@ abbrev pub InOrder : List App → Type 0
 InOrder apps = map (λ (app : App). app.number) apps ≡ range_with_len 1 (length apps)
 
 abbrev pub advertised_by : Memory → Advertised
-advertised_by memory = record { apps = apps_of memory; unsupported = lanes_in (number memory CUnsupportedMedia); paired = false; active = nothing_active }
+advertised_by memory = record { apps = apps_of memory; unsupported = lanes_in (number memory (fields.Cmis cmis.UnsupportedMedia)); paired = false; active = nothing_active }
 
 -- the same of a module that pairs first lanes, or does not
 abbrev pub with_pairing : Bool → Advertised → Advertised
@@ -45,6 +46,6 @@ with_counts by_id media_type advert = if by_id then with_counts_by_id media_type
 -- what the module advertises to a host that reads it by these conventions
 abbrev pub advertised_under : Conventions → Memory → Advertised
 advertised_under conventions memory =
-    record (with_pairing conventions.paired (with_counts conventions.counts_by_id (number memory CMediaType) (advertised_by memory))) {
+    record (with_pairing conventions.paired (with_counts conventions.counts_by_id (number memory (fields.Cmis cmis.MediaType)) (advertised_by memory))) {
       active = if conventions.now then active_in memory else nothing_active;
     }

@@ -6,8 +6,10 @@ use Rattle.bus_model.specs.declared.device.Dev.TheVariants.{A0}
 use Rattle.paged_memory.specs.declared.family.Family.TheVariants.{Cmis}
 use Rattle.paged_memory.specs.Keys.{lower_key, upper_key}
 use Rattle.paged_memory.specs.Images.{Memory}
-use Rattle.field_tables.specs.declared.field.Field.TheVariants.{CIdentifier, CRevision, CFlatMemory}
-use Rattle.field_tables.specs.declared.field.Sum.TheVariants.{CSum00, CSum01}
+use Rattle.field_tables.specs.declared.field.Field.TheVariants as fields
+use Rattle.field_tables.specs.declared.table.cmis.CmisField.TheVariants as cmis
+use Rattle.field_tables.specs.declared.field.Sum.TheVariants as sums
+use Rattle.field_tables.specs.declared.field.CmisSum.TheVariants as cmis_sums
 use Rattle.field_tables.specs.Reasons.{Reason, lacks, tells, wrong, if_set, of_another, refused_by}
 use Rattle.applications.specs.declared.conventions.Conventions.{Conventions}
 use Rattle.applications.specs.declared.fault.AdvertFault.{AdvertFault}
@@ -21,10 +23,10 @@ is_read_revision revision = revision / 16 == 4 || revision / 16 == 5
 abbrev pub module_reasons : List (Reason AdvertFault)
 module_reasons =
     lacks (lower_key A0) (Absent (lower_key A0))
-    ∷ of_another Cmis CIdentifier (λ identifier. NotCmis identifier)
-    ∷ tells CRevision (λ (revision : ℕ). not (is_read_revision revision)) (λ revision. Revision revision)
-    ∷ tells CIdentifier (λ (identifier : ℕ). identifier == 0x1E) (λ identifier. NotEightLanes identifier)
-    ∷ if_set CFlatMemory FlatMemory
+    ∷ of_another Cmis (fields.Cmis cmis.Identifier) (λ identifier. NotCmis identifier)
+    ∷ tells (fields.Cmis cmis.Revision) (λ (revision : ℕ). not (is_read_revision revision)) (λ revision. Revision revision)
+    ∷ tells (fields.Cmis cmis.Identifier) (λ (identifier : ℕ). identifier == 0x1E) (λ identifier. NotEightLanes identifier)
+    ∷ if_set (fields.Cmis cmis.FlatMemory) FlatMemory
     ∷ []
 
 -- of its pages
@@ -32,8 +34,8 @@ abbrev pub page_reasons : List (Reason AdvertFault)
 page_reasons =
     lacks (upper_key A0 0 0x00) (Absent (upper_key A0 0 0x00))
     ∷ lacks (upper_key A0 0 0x01) (Absent (upper_key A0 0 0x01))
-    ∷ wrong CSum00 (BadSum 0x00)
-    ∷ wrong CSum01 (BadSum 0x01)
+    ∷ wrong (sums.Cmis cmis_sums.Sum00) (BadSum 0x00)
+    ∷ wrong (sums.Cmis cmis_sums.Sum01) (BadSum 0x01)
     ∷ []
 
 abbrev pub page_fault : Memory → Option AdvertFault

@@ -3,7 +3,7 @@ ghost use Rattle.std.specs.Prelude.{◌≡◌, ◌≤◌, ◌-◌, slice_index};
 ghost use Rattle.applications.specs.ActiveSets.{active_in, is_active, is_lane_of, nothing_active};
 
 use crate::app::App;
-use field_tables::{Field, all_numbers};
+use field_tables::{all_numbers, field};
 use paged_memory::Image;
 
 /// The AppSelCodes and DataPathIDs of the host lanes 1 to 8.
@@ -29,8 +29,8 @@ impl ActiveSet {
         ensures { result ≡ active_in image.now }
     {
         ActiveSet {
-            app_sel_codes: all_numbers(image, Field::CActiveAppSel),
-            data_path_ids: all_numbers(image, Field::CActivePathId),
+            app_sel_codes: all_numbers(image, field!(Cmis ActiveAppSel)),
+            data_path_ids: all_numbers(image, field!(Cmis ActivePathId)),
         }
     }
 

@@ -9,7 +9,7 @@ use crate::descriptors::apps_in;
 use crate::fault::AdvertFault;
 use crate::refusal::{refusal, refusal_under};
 use arrayvec::ArrayVec;
-use field_tables::{Field, LaneSet, number};
+use field_tables::{LaneSet, field, number};
 use paged_memory::Image;
 use std::marker::Model;
 
@@ -55,7 +55,7 @@ impl Advert {
     pub fn under(conventions: Conventions, image: &Image) -> Result<Advert, AdvertFault>
         ensures { MatchOption (advert_fault_under conventions image.now) (result ≡ Ok (advertised_under conventions image.now)) (λ fault. result ≡ Err fault) }
     {
-        let media_type = number(image, Field::CMediaType);
+        let media_type = number(image, field!(Cmis MediaType));
         if let Some(fault) = refusal_under(conventions, image) {
             return Err(fault);
         }
@@ -129,7 +129,7 @@ fn advertised_by(image: &Image) -> Advert
 {
     Advert {
         apps: apps_in(image),
-        unsupported: LaneSet::from(number(image, Field::CUnsupportedMedia)),
+        unsupported: LaneSet::from(number(image, field!(Cmis UnsupportedMedia))),
         paired: false,
         active: ActiveSet::nothing(),
     }

@@ -4,11 +4,11 @@ ghost use Rattle.applications.specs.Descriptors as spec;
 
 use crate::app::{App, MAX_APPS};
 use arrayvec::ArrayVec;
-use field_tables::Field::{
-    CAppHost, CAppHostLanes, CAppHostLanesMore, CAppHostMore, CAppHostStarts, CAppHostStartsMore,
-    CAppMedia, CAppMediaLanes, CAppMediaLanesMore, CAppMediaMore, CMediaStarts,
+use field_tables::CmisField::{
+    AppHost, AppHostLanes, AppHostLanesMore, AppHostMore, AppHostStarts, AppHostStartsMore,
+    AppMedia, AppMediaLanes, AppMediaLanesMore, AppMediaMore, MediaStarts,
 };
-use field_tables::{Field, number_at};
+use field_tables::{CmisField, Field, number_at};
 use paged_memory::Image;
 
 // The HostInterfaceID that ends the list.
@@ -39,17 +39,17 @@ fn app_at(image: &Image, number: u8) -> App
 {
     App {
         number,
-        host_id: described(image, CAppHost, CAppHostMore, number),
-        media_id: described(image, CAppMedia, CAppMediaMore, number),
-        host_lanes: described(image, CAppHostLanes, CAppHostLanesMore, number),
-        media_lanes: described(image, CAppMediaLanes, CAppMediaLanesMore, number),
-        host_starts: described(image, CAppHostStarts, CAppHostStartsMore, number).into(),
-        media_starts: number_at(image, CMediaStarts, number).into(),
+        host_id: described(image, AppHost, AppHostMore, number),
+        media_id: described(image, AppMedia, AppMediaMore, number),
+        host_lanes: described(image, AppHostLanes, AppHostLanesMore, number),
+        media_lanes: described(image, AppMediaLanes, AppMediaLanesMore, number),
+        host_starts: described(image, AppHostStarts, AppHostStartsMore, number).into(),
+        media_starts: number_at(image, Field::Cmis(MediaStarts), number).into(),
     }
 }
 
 // What the descriptor of a number has in a column: those of 1 to 8 are in one field, those of 9 to 15 in another.
-fn described(image: &Image, first: Field, more: Field, number: u8) -> u8
+fn described(image: &Image, first: CmisField, more: CmisField, number: u8) -> u8
     requires one { 1 ≤ number }
     requires last { number ≤ 15 }
     requires first_fits { IsTrue (is_column first 8) }
@@ -57,8 +57,8 @@ fn described(image: &Image, first: Field, more: Field, number: u8) -> u8
     ensures { result ≡ spec.described image.now first more number }
 {
     if number <= 8 {
-        number_at(image, first, number)
+        number_at(image, Field::Cmis(first), number)
     } else {
-        number_at(image, more, number - 8)
+        number_at(image, Field::Cmis(more), number - 8)
     }
 }

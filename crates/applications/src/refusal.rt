@@ -6,7 +6,7 @@ ghost use Rattle.applications.specs.declared.fault.AdvertFault.TheVariants.{Abse
 use crate::conventions::Conventions;
 use crate::fault::AdvertFault;
 use bus_model::Dev;
-use field_tables::{Field, Sum, is_sum_right, number};
+use field_tables::{Sum, field, is_sum_right, number, sum_of};
 use paged_memory::{Family, Image, Key};
 
 /// Why the Applications of an image are not read: the first reason that applies.
@@ -18,18 +18,18 @@ pub fn refusal(image: &Image) -> Option<AdvertFault>
     if !image.has(lower) {
         return Some(AdvertFault::Absent(lower));
     }
-    let identifier = number(image, Field::CIdentifier);
+    let identifier = number(image, field!(Cmis Identifier));
     if !Family::Cmis.has(identifier) {
         return Some(AdvertFault::NotCmis(identifier));
     }
-    let revision = number(image, Field::CRevision);
+    let revision = number(image, field!(Cmis Revision));
     if !is_read_revision(revision) {
         return Some(AdvertFault::Revision(revision));
     }
     if identifier == 0x1E {
         return Some(AdvertFault::NotEightLanes(identifier));
     }
-    if number(image, Field::CFlatMemory) == 1 {
+    if number(image, field!(Cmis FlatMemory)) == 1 {
         return Some(AdvertFault::FlatMemory);
     }
     page_refusal(image)
@@ -56,10 +56,10 @@ pub fn page_refusal(image: &Image) -> Option<AdvertFault>
     if let Some(fault) = absent(image, Key::upper(Dev::A0, 0, 0x01)) {
         return Some(fault);
     }
-    if let Some(fault) = bad_sum(image, Sum::CSum00, 0x00) {
+    if let Some(fault) = bad_sum(image, sum_of!(Cmis Sum00), 0x00) {
         return Some(fault);
     }
-    bad_sum(image, Sum::CSum01, 0x01)
+    bad_sum(image, sum_of!(Cmis Sum01), 0x01)
 }
 
 fn absent(image: &Image, key: Key) -> Option<AdvertFault>

@@ -1,7 +1,8 @@
 -- What the commands `plan` and `draw` answer to the texts of their parts, for a module that pairs first lanes or one that does not.
 -- (docs/formats.md, "Input", "plan" and "draw"; this project's own)
 use Rattle.std.specs.Prelude.{◌≡◌, ℕ, Bool, true, false, List, None, Ok, Err}
-use Rattle.field_tables.specs.declared.field.Field.TheVariants.{CMediaType}
+use Rattle.field_tables.specs.declared.field.Field.TheVariants as fields
+use Rattle.field_tables.specs.declared.table.cmis.CmisField.TheVariants as cmis
 use Rattle.field_tables.specs.Readings.{number}
 use Rattle.plan_certificate.specs.Certificates.{Claim}
 use Rattle.plan_drawing.specs.Drawings.{IsDrawing}
@@ -35,7 +36,7 @@ IsPlanReport json planning text = IsPlanReportFor json planning.advert (app_weig
 -- the drawing of the plan, as an SVG or as text
 abbrev pub DrawsPlan : Bool → Planning → List ℕ → Type 0
 DrawsPlan svg planning text = (has_paths : Bool)
-    × IsDrawing svg (number planning.image CMediaType) planning.advert (app_weights planning.advert planning.weights) planning.kept text has_paths
+    × IsDrawing svg (number planning.image (fields.Cmis cmis.MediaType)) planning.advert (app_weights planning.advert planning.weights) planning.kept text has_paths
 
 -- what is reported by the options of the command, which draws the plan or not
 abbrev pub IsPlanOutput : Bool → Options → Planning → List ℕ → Type 0

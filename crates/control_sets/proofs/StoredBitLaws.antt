@@ -4,7 +4,7 @@ use Rattle.std.specs.FinSet as set
 use Rattle.std.specs.List.{AllByRecursion}
 use Rattle.bus_model.specs.declared.operation.Op.{Op}
 use Rattle.bus_model.specs.declared.operation.Step.{Step}
-use Rattle.field_tables.specs.declared.field.Register.TheVariants.{CApplyDPInit, CDPDeinit}
+use Rattle.field_tables.specs.declared.field.Register.TheVariants as registers
 use Rattle.field_tables.specs.Registers.{first_byte}
 use Rattle.field_tables.specs.LaneSets.{Lanes, byte_of, lanes_in}
 use Rattle.control_sets.specs.StoredBits.{HasBitsOf, LeavesOthers, Sets, byte_for}
@@ -14,16 +14,16 @@ use Rattle.control_sets.specs.Pages.{EachStep, History, read_selection, selectio
 use Rattle.control_sets.proofs.LaneBits.{in_byte_of}
 
 -- an operation that has no byte for either address
-stores_none : (op other : Op) (bits : ℕ) → op ≡ other → byte_for (first_byte CDPDeinit) other ≡ None → byte_for (first_byte CApplyDPInit) other ≡ None → Sets bits op → ⊥
-stores_none op other bits is first second (inl sets) = let some : None ≡ Some bits = sym first ∙ ap (byte_for (first_byte CDPDeinit)) (sym is) ∙ sets in cc
-stores_none op other bits is first second (inr sets) = let some : None ≡ Some bits = sym second ∙ ap (byte_for (first_byte CApplyDPInit)) (sym is) ∙ sets in cc
+stores_none : (op other : Op) (bits : ℕ) → op ≡ other → byte_for (first_byte registers.DPDeinit) other ≡ None → byte_for (first_byte registers.ApplyDPInit) other ≡ None → Sets bits op → ⊥
+stores_none op other bits is first second (inl sets) = let some : None ≡ Some bits = sym first ∙ ap (byte_for (first_byte registers.DPDeinit)) (sym is) ∙ sets in cc
+stores_none op other bits is first second (inr sets) = let some : None ≡ Some bits = sym second ∙ ap (byte_for (first_byte registers.ApplyDPInit)) (sym is) ∙ sets in cc
 
 -- the bits that are stored, and no others
 mask_alone : (op : Op) (bits mask : ℕ) → (op ≡ set_deinit mask) ⊎ (op ≡ apply mask) → Sets bits op → bits ≡ mask
-mask_alone op bits mask (inl deinit) (inl sets) = let same : Some mask ≡ Some bits = ap (byte_for (first_byte CDPDeinit)) (sym deinit) ∙ sets in cc
-mask_alone op bits mask (inl deinit) (inr sets) = let none : None ≡ Some bits = ap (byte_for (first_byte CApplyDPInit)) (sym deinit) ∙ sets in cc
-mask_alone op bits mask (inr applies) (inl sets) = let none : None ≡ Some bits = ap (byte_for (first_byte CDPDeinit)) (sym applies) ∙ sets in cc
-mask_alone op bits mask (inr applies) (inr sets) = let same : Some mask ≡ Some bits = ap (byte_for (first_byte CApplyDPInit)) (sym applies) ∙ sets in cc
+mask_alone op bits mask (inl deinit) (inl sets) = let same : Some mask ≡ Some bits = ap (byte_for (first_byte registers.DPDeinit)) (sym deinit) ∙ sets in cc
+mask_alone op bits mask (inl deinit) (inr sets) = let none : None ≡ Some bits = ap (byte_for (first_byte registers.ApplyDPInit)) (sym deinit) ∙ sets in cc
+mask_alone op bits mask (inr applies) (inl sets) = let none : None ≡ Some bits = ap (byte_for (first_byte registers.DPDeinit)) (sym applies) ∙ sets in cc
+mask_alone op bits mask (inr applies) (inr sets) = let same : Some mask ≡ Some bits = ap (byte_for (first_byte registers.ApplyDPInit)) (sym applies) ∙ sets in cc
 
 module _ (doubts : Bool) (control : List ℕ) (lanes : Lanes) where
   mask_of : (step : Step) (before : History) (bits : ℕ) → IsProvisioningStepBy doubts control lanes step before → Sets bits step.op → bits ≡ byte_of lanes

@@ -3,7 +3,8 @@
 use Rattle.std.specs.Prelude.{◌≡◌, ℕ, ◌+◌, ◌-◌, ◌*◌, List, Option, Some, None, find, map}
 use Rattle.std.specs.List.{range_with_len}
 use Rattle.std.specs.FinSet as set
-use Rattle.field_tables.specs.declared.field.Field.TheVariants.{CActiveAppSel, CActiveExplicit, CActivePathId, CStagedAppSel, CStagedExplicit, CStagedPathId}
+use Rattle.field_tables.specs.declared.field.Field.TheVariants as fields
+use Rattle.field_tables.specs.declared.table.cmis.CmisField.TheVariants as cmis
 use Rattle.field_tables.specs.FieldValues.{number_in_byte}
 use Rattle.applications.specs.Advertised.{Advertised}
 use Rattle.plan_certificate.specs.declared.path.Path.{Path}
@@ -12,14 +13,14 @@ use Rattle.control_sets.specs.declared.control_byte.ControlByte.{ControlByte}
 
 -- AppSelCode and DataPathID, in a control set of either kind; ExplicitControl is not looked at
 abbrev pub control_of : ℕ → ControlByte
-control_of byte = record { app_sel_code = number_in_byte CStagedAppSel byte; data_path_id = number_in_byte CStagedPathId byte }
+control_of byte = record { app_sel_code = number_in_byte (fields.Cmis cmis.StagedAppSel) byte; data_path_id = number_in_byte (fields.Cmis cmis.StagedPathId) byte }
 
 -- the bits of a control byte of the Active Control Set are those of a staged one
 abbrev pub IsOfEitherSet : ℕ → Type 0
 IsOfEitherSet byte =
-    (number_in_byte CActiveAppSel byte ≡ (control_of byte).app_sel_code)
-    × (number_in_byte CActivePathId byte ≡ (control_of byte).data_path_id)
-    × (number_in_byte CActiveExplicit byte ≡ number_in_byte CStagedExplicit byte)
+    (number_in_byte (fields.Cmis cmis.ActiveAppSel) byte ≡ (control_of byte).app_sel_code)
+    × (number_in_byte (fields.Cmis cmis.ActivePathId) byte ≡ (control_of byte).data_path_id)
+    × (number_in_byte (fields.Cmis cmis.ActiveExplicit) byte ≡ number_in_byte (fields.Cmis cmis.StagedExplicit) byte)
 
 -- the byte that says this, ExplicitControl 0
 abbrev pub byte_saying : ControlByte → ℕ

@@ -7,6 +7,7 @@ use Rattle.conversations.specs.declared.pausing.Patience.{Patience}
 use Rattle.paged_memory.specs.Images.{Memory}
 use Rattle.field_tables.specs.declared.field.Field.{Field}
 use Rattle.field_tables.specs.declared.field.Field.TheVariants as fields
+use Rattle.field_tables.specs.declared.table.cmis.CmisField.TheVariants as cmis
 use Rattle.field_tables.specs.Readings.{number}
 
 -- the ends of the ranges that the codes from 0 on stand for, in milliseconds; later codes have no upper end, or no meaning
@@ -26,12 +27,12 @@ duration_of memory field = lasts (number memory field)
 -- of the module and of its data paths
 abbrev pub states_of : Memory → List ℕ
 states_of memory =
-    duration_of memory fields.CMaxDurationModulePwrUp
-    ∷ duration_of memory fields.CMaxDurationModulePwrDn
-    ∷ duration_of memory fields.CMaxDurationDPInit
-    ∷ duration_of memory fields.CMaxDurationDPDeinit
-    ∷ duration_of memory fields.CMaxDurationDPTxTurnOn
-    ∷ duration_of memory fields.CMaxDurationDPTxTurnOff
+    duration_of memory (fields.Cmis cmis.MaxDurationModulePwrUp)
+    ∷ duration_of memory (fields.Cmis cmis.MaxDurationModulePwrDn)
+    ∷ duration_of memory (fields.Cmis cmis.MaxDurationDPInit)
+    ∷ duration_of memory (fields.Cmis cmis.MaxDurationDPDeinit)
+    ∷ duration_of memory (fields.Cmis cmis.MaxDurationDPTxTurnOn)
+    ∷ duration_of memory (fields.Cmis cmis.MaxDurationDPTxTurnOff)
     ∷ []
 
 abbrev pub longest_of : List ℕ → ℕ

@@ -3,7 +3,8 @@
 use Rattle.std.specs.Prelude.{◌≡◌, ℕ, ◌-◌, ◌==◌, ◌&&◌, ◌||◌, nat_le, not, Bool, true, false, List, Option, Some, None, find, slice_index, is_none}
 use Rattle.std.specs.List.{list_all, range_with_len}
 use Rattle.std.specs.FinSet as set
-use Rattle.field_tables.specs.declared.field.Field.TheVariants.{CModuleState}
+use Rattle.field_tables.specs.declared.field.Field.TheVariants as fields
+use Rattle.field_tables.specs.declared.table.cmis.CmisField.TheVariants as cmis
 use Rattle.field_tables.specs.FieldValues.{number_in_byte}
 use Rattle.field_tables.specs.LaneSets.{Lanes, every_lane}
 use Rattle.module_states.specs.declared.state.ModuleState.{ModuleState as State}
@@ -93,7 +94,7 @@ judged_statuses lanes codes =
 
 -- what the bytes that were read say of the task; a store has none
 unfoldable pub judged : Task → List ℕ → ReplyJudgement
-judged FindReady bytes = judged_module (number_in_byte CModuleState (slice_index bytes 0))
+judged FindReady bytes = judged_module (number_in_byte (fields.Cmis cmis.ModuleState) (slice_index bytes 0))
 judged (AwaitDeactivated lanes) bytes = judged_states lanes lanes Deactivated (codes_in bytes 8)
 judged (CheckStaged control) bytes = met_unless StagedDiffers (differing_lane bytes control)
 judged (AwaitApplied lanes) bytes = judged_statuses lanes (codes_in bytes 8)

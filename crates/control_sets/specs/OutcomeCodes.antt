@@ -2,7 +2,8 @@
 -- OIF-CMIS-05.0: Module State, Data Path States, Configuration Command Status)
 use Rattle.std.specs.Prelude.{◌≡◌, ◌≢◌, ◌⊎◌, ◌-◌, ◌<◌, ◌≤◌, ℕ, List, Some, None, true, slice_index}
 use Rattle.std.specs.FinSet as set
-use Rattle.field_tables.specs.declared.field.Field.TheVariants.{CModuleState}
+use Rattle.field_tables.specs.declared.field.Field.TheVariants as fields
+use Rattle.field_tables.specs.declared.table.cmis.CmisField.TheVariants as cmis
 use Rattle.field_tables.specs.FieldValues.{number_in_byte}
 use Rattle.field_tables.specs.LaneSets.{IsLane, Lanes}
 use Rattle.module_states.specs.declared.state.ModuleState.{ModuleState}
@@ -32,7 +33,7 @@ DiffersAt control lane bytes = IsLowest (λ lane. byte_at bytes lane ≢ byte_at
 
 -- the code of the module state, in the byte that was read
 abbrev pub module_code : List ℕ → ℕ
-module_code bytes = number_in_byte CModuleState (slice_index bytes 0)
+module_code bytes = number_in_byte (fields.Cmis cmis.ModuleState) (slice_index bytes 0)
 
 abbrev pub IsReady : List ℕ → Type 0
 IsReady bytes = module_state_at (module_code bytes) ≡ Some Ready

@@ -8,7 +8,7 @@ use Rattle.bus_model.specs.declared.operation.Reply.TheVariants.{Done}
 use Rattle.bus_model.specs.declared.operation.Step.{Step}
 use Rattle.conversations.specs.Selecting.{trusted}
 use Rattle.control_sets.specs.declared.fault.ProvisionFault.TheVariants.{Rejected, StagedDiffers, ActiveDiffers, ModuleState, Reserved}
-use Rattle.field_tables.specs.declared.field.Register.TheVariants.{CPageMapping}
+use Rattle.field_tables.specs.declared.field.Register.TheVariants as registers
 use Rattle.field_tables.specs.Registers.{first_byte}
 use Rattle.field_tables.specs.LaneSets.{Lanes, byte_of}
 use Rattle.datapath_states.specs.declared.state.PathState.TheVariants.{Deactivated}
@@ -50,7 +50,7 @@ IsStore (Fetch dev offset count) = ⊥
 
 -- the store, if it is no selection and was accepted
 abbrev pub accepted_store : Op → Reply → List Op
-accepted_store (Store dev offset bytes) Done = if offset == first_byte CPageMapping then [] else Store dev offset bytes ∷ []
+accepted_store (Store dev offset bytes) Done = if offset == first_byte registers.PageMapping then [] else Store dev offset bytes ∷ []
 accepted_store op reply = []
 
 -- the accepted stores but for selections, in the order in which they were made

@@ -8,7 +8,7 @@ use Rattle.bus_model.specs.declared.operation.Op.TheVariants.{Store}
 use Rattle.bus_model.specs.declared.operation.Reply.TheVariants.{Bytes}
 use Rattle.bus_model.specs.declared.operation.Step.{Step}
 use Rattle.field_tables.specs.declared.field.Register.{Register}
-use Rattle.field_tables.specs.declared.field.Register.TheVariants.{CActiveControl, CApplyDPInit, CConfigStatus, CDPDeinit, CGlobalStatus, CPageMapping, CPathStates, CStagedControl}
+use Rattle.field_tables.specs.declared.field.Register.TheVariants as registers
 use Rattle.field_tables.specs.Registers.{byte_count, first_byte, page_of, span_of}
 use Rattle.conversations.specs.Selecting.{trusted}
 use Rattle.control_sets.specs.RegisterOperations.{IsWholly, read_of, store_to}
@@ -17,44 +17,44 @@ use Rattle.control_sets.specs.OutcomeSteps.{IsRefused, Newest}
 
 -- the byte of lower memory with the module state
 abbrev pub read_module_state : Op
-read_module_state = read_of CGlobalStatus
+read_module_state = read_of registers.GlobalStatus
 
 -- page 10h, DPDeinit: a bit for each lane, lane 1 the lowest
 abbrev pub set_deinit : ℕ → Op
-set_deinit lanes = store_to CDPDeinit (lanes ∷ [])
+set_deinit lanes = store_to registers.DPDeinit (lanes ∷ [])
 
 -- page 10h, ApplyDPInit of Staged Control Set 0
 abbrev pub apply : ℕ → Op
-apply lanes = store_to CApplyDPInit (lanes ∷ [])
+apply lanes = store_to registers.ApplyDPInit (lanes ∷ [])
 
 -- page 10h, DPConfigLane1 to 8 of Staged Control Set 0
 abbrev pub stage : List ℕ → Op
-stage control = store_to CStagedControl control
+stage control = store_to registers.StagedControl control
 
 abbrev pub read_staged : Op
-read_staged = read_of CStagedControl
+read_staged = read_of registers.StagedControl
 
 -- page 11h, DPStateHostLane1 to 8, four bits each
 abbrev pub read_path_states : Op
-read_path_states = read_of CPathStates
+read_path_states = read_of registers.PathStates
 
 -- page 11h, ConfigStatusLane1 to 8, four bits each
 abbrev pub read_statuses : Op
-read_statuses = read_of CConfigStatus
+read_statuses = read_of registers.ConfigStatus
 
 -- page 11h, DPConfigLane1 to 8 of the Active Control Set
 abbrev pub read_active : Op
-read_active = read_of CActiveControl
+read_active = read_of registers.ActiveControl
 
 abbrev pub control_page : ℕ
-control_page = (span_of CStagedControl).page
+control_page = (span_of registers.StagedControl).page
 
 abbrev pub status_page : ℕ
-status_page = (span_of CActiveControl).page
+status_page = (span_of registers.ActiveControl).page
 
 -- a store on bank or page select, whatever became of it
 abbrev pub CoversSelection : Op → Type 0
-CoversSelection (Store A0 offset bytes) = (offset < first_byte CPageMapping + byte_count CPageMapping) × (first_byte CPageMapping < offset + length bytes.items)
+CoversSelection (Store A0 offset bytes) = (offset < first_byte registers.PageMapping + byte_count registers.PageMapping) × (first_byte registers.PageMapping < offset + length bytes.items)
 CoversSelection op = ⊥
 
 -- bank 0 and the page were read back

@@ -3,8 +3,9 @@
 use Rattle.std.specs.Prelude.{ℕ, ◌+◌, ◌-◌, ◌^◌, [], ◌∷◌, if◌then◌else◌}
 use Rattle.bus_model.specs.declared.operation.Op.{Op}
 use Rattle.field_tables.specs.declared.field.Field.{Field}
-use Rattle.field_tables.specs.declared.field.Field.TheVariants.{CLowPwrAllowHW, CLowPwrRequestSW, CSoftwareReset}
-use Rattle.field_tables.specs.declared.field.Register.TheVariants.{CGlobalControls}
+use Rattle.field_tables.specs.declared.field.Field.TheVariants as fields
+use Rattle.field_tables.specs.declared.table.cmis.CmisField.TheVariants as cmis
+use Rattle.field_tables.specs.declared.field.Register.TheVariants as registers
 use Rattle.field_tables.specs.FieldRows.{row_of}
 use Rattle.field_tables.specs.FieldValues.{is_set}
 use Rattle.field_tables.specs.Parts.{low_of}
@@ -27,8 +28,8 @@ set_in field byte = if is_set field byte then byte else byte + bit_of field
 -- what is stored if this byte was read: neither the pin nor software asks for low power, or software does; nothing is reset, and
 -- the other bits stay
 unfoldable pub wanted_controls : Power → ℕ → ℕ
-wanted_controls Awake byte = cleared CSoftwareReset (cleared CLowPwrRequestSW (cleared CLowPwrAllowHW byte))
-wanted_controls Asleep byte = cleared CSoftwareReset (set_in CLowPwrRequestSW byte)
+wanted_controls Awake byte = cleared (fields.Cmis cmis.SoftwareReset) (cleared (fields.Cmis cmis.LowPwrRequestSW) (cleared (fields.Cmis cmis.LowPwrAllowHW) byte))
+wanted_controls Asleep byte = cleared (fields.Cmis cmis.SoftwareReset) (set_in (fields.Cmis cmis.LowPwrRequestSW) byte)
 
 -- the state that a module is to come to
 abbrev pub wanted_state : Power → ModuleState
@@ -36,7 +37,7 @@ wanted_state Awake = Ready
 wanted_state Asleep = LowPwr
 
 abbrev pub read_controls : Op
-read_controls = read_of CGlobalControls
+read_controls = read_of registers.GlobalControls
 
 abbrev pub set_controls : ℕ → Op
-set_controls byte = store_to CGlobalControls (byte ∷ [])
+set_controls byte = store_to registers.GlobalControls (byte ∷ [])

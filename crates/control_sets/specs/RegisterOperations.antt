@@ -4,7 +4,7 @@ use Rattle.bus_model.specs.declared.device.Dev.TheVariants.{A0, A2}
 use Rattle.bus_model.specs.declared.operation.Op.{Op}
 use Rattle.bus_model.specs.declared.operation.Op.TheVariants.{Fetch, Store}
 use Rattle.field_tables.specs.declared.field.Register.{Register}
-use Rattle.field_tables.specs.declared.field.Register.TheVariants.{CApplyDPInit}
+use Rattle.field_tables.specs.declared.field.Register.TheVariants as registers
 use Rattle.field_tables.specs.Registers.{byte_count, first_byte, span_of}
 
 -- all its bytes are read
@@ -24,5 +24,5 @@ IsWholly register op =
 -- it stores ApplyDPInit, where page 10h shows (OIF-CMIS-05.0, page 10h)
 abbrev pub is_apply : Op → Bool
 is_apply (Fetch dev offset count) = false
-is_apply (Store A0 offset bytes) = offset == first_byte CApplyDPInit
+is_apply (Store A0 offset bytes) = offset == first_byte registers.ApplyDPInit
 is_apply (Store A2 offset bytes) = false

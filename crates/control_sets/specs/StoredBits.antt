@@ -5,7 +5,7 @@ use Rattle.std.specs.FinSet as set
 use Rattle.bus_model.specs.declared.operation.Op.{Op}
 use Rattle.bus_model.specs.declared.operation.Op.TheVariants.{Fetch, Store}
 use Rattle.bus_model.specs.declared.operation.Step.{Step}
-use Rattle.field_tables.specs.declared.field.Register.TheVariants.{CApplyDPInit, CDPDeinit}
+use Rattle.field_tables.specs.declared.field.Register.TheVariants as registers
 use Rattle.field_tables.specs.Registers.{first_byte}
 use Rattle.field_tables.specs.LaneSets.{IsLane, Lanes, lanes_in}
 
@@ -16,7 +16,7 @@ byte_for address (Fetch dev offset count) = None
 
 -- the operation has these bits for DPDeinit or for ApplyDPInit
 abbrev pub Sets : ℕ → Op → Type 0
-Sets bits op = (byte_for (first_byte CDPDeinit) op ≡ Some bits) ⊎ (byte_for (first_byte CApplyDPInit) op ≡ Some bits)
+Sets bits op = (byte_for (first_byte registers.DPDeinit) op ≡ Some bits) ⊎ (byte_for (first_byte registers.ApplyDPInit) op ≡ Some bits)
 
 -- whatever became of the step: if it has bits, the bit of each of these lanes is set, and the bit of each other lane is clear
 abbrev pub HasBitsOf : Lanes → Step → Type 0

@@ -5,34 +5,34 @@
 use Rattle.std.specs.Prelude.{ℕ, ◌-◌, List, [], ◌∷◌, Option}
 use Rattle.field_tables.specs.LaneSets.{Lanes, byte_of}
 use Rattle.bus_model.specs.declared.operation.Op.{Op}
-use Rattle.field_tables.specs.declared.field.Register.TheVariants.{CActiveControl, CApplyDPInit, CConfigStatus, CDPDeinit, CGlobalStatus, CPathStates, CStagedControl}
-use Rattle.field_tables.specs.Registers as registers
+use Rattle.field_tables.specs.declared.field.Register.TheVariants as registers
+use Rattle.field_tables.specs.Registers as places
 use Rattle.control_sets.specs.RegisterOperations.{read_of, store_to}
 use Rattle.control_sets.specs.declared.procedures.task.Task.{Task}
 use Rattle.control_sets.specs.declared.procedures.task.Task.TheVariants.{FindReady, Deinitialize, AwaitDeactivated, Stage, CheckStaged, Apply, AwaitApplied, CheckActive, AwaitActivated}
 
 abbrev pub operation : Task → Op
-operation FindReady = read_of CGlobalStatus
-operation (Deinitialize bits) = store_to CDPDeinit (bits ∷ [])
-operation (AwaitDeactivated lanes) = read_of CPathStates
-operation (Stage control) = store_to CStagedControl control
-operation (CheckStaged control) = read_of CStagedControl
-operation (Apply bits) = store_to CApplyDPInit (bits ∷ [])
-operation (AwaitApplied lanes) = read_of CConfigStatus
-operation (CheckActive control) = read_of CActiveControl
-operation (AwaitActivated lanes) = read_of CPathStates
+operation FindReady = read_of registers.GlobalStatus
+operation (Deinitialize bits) = store_to registers.DPDeinit (bits ∷ [])
+operation (AwaitDeactivated lanes) = read_of registers.PathStates
+operation (Stage control) = store_to registers.StagedControl control
+operation (CheckStaged control) = read_of registers.StagedControl
+operation (Apply bits) = store_to registers.ApplyDPInit (bits ∷ [])
+operation (AwaitApplied lanes) = read_of registers.ConfigStatus
+operation (CheckActive control) = read_of registers.ActiveControl
+operation (AwaitActivated lanes) = read_of registers.PathStates
 
 -- none for the lower memory
 abbrev pub page_of : Task → Option ℕ
-page_of FindReady = registers.page_of CGlobalStatus
-page_of (Deinitialize bits) = registers.page_of CDPDeinit
-page_of (AwaitDeactivated lanes) = registers.page_of CPathStates
-page_of (Stage control) = registers.page_of CStagedControl
-page_of (CheckStaged control) = registers.page_of CStagedControl
-page_of (Apply bits) = registers.page_of CApplyDPInit
-page_of (AwaitApplied lanes) = registers.page_of CConfigStatus
-page_of (CheckActive control) = registers.page_of CActiveControl
-page_of (AwaitActivated lanes) = registers.page_of CPathStates
+page_of FindReady = places.page_of registers.GlobalStatus
+page_of (Deinitialize bits) = places.page_of registers.DPDeinit
+page_of (AwaitDeactivated lanes) = places.page_of registers.PathStates
+page_of (Stage control) = places.page_of registers.StagedControl
+page_of (CheckStaged control) = places.page_of registers.StagedControl
+page_of (Apply bits) = places.page_of registers.ApplyDPInit
+page_of (AwaitApplied lanes) = places.page_of registers.ConfigStatus
+page_of (CheckActive control) = places.page_of registers.ActiveControl
+page_of (AwaitActivated lanes) = places.page_of registers.PathStates
 
 -- these control bytes become active; data paths are taken down, and bytes applied, on these lanes alone
 abbrev pub provisioning : List ℕ → Lanes → List Task

@@ -1,4 +1,4 @@
-use field_tables::{Field, LaneNumber, number_in_byte};
+use field_tables::{LaneNumber, field, number_in_byte};
 
 /// What the control byte of a host lane says, but for ExplicitControl.
 #[derive(Clone, Copy, Debug, PartialEq, Eq)]
@@ -47,8 +47,8 @@ impl From<u8> for ControlByte {
 
     fn from(byte: u8) -> ControlByte {
         ControlByte {
-            app_sel_code: number_in_byte(Field::CStagedAppSel, byte),
-            data_path_id: number_in_byte(Field::CStagedPathId, byte),
+            app_sel_code: number_in_byte(field!(Cmis StagedAppSel), byte),
+            data_path_id: number_in_byte(field!(Cmis StagedPathId), byte),
         }
     }
 }

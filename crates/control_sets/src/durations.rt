@@ -4,7 +4,7 @@ ghost use Rattle.control_sets.specs.Durations.{states_in_a_row};
 ghost use Rattle.control_sets.specs.Durations as spec;
 
 use conversations::Patience;
-use field_tables::{Field, number};
+use field_tables::{field, number};
 use paged_memory::Image;
 
 /// How many milliseconds to pause wherever a transaction brought nothing, if the module has this memory: at least 100, and so
@@ -56,16 +56,16 @@ fn longest_state(image: &Image) -> u32
     ensures few { result ≤ 3000000 }
 {
     let module = larger(
-        lasts(number(image, Field::CMaxDurationModulePwrUp)),
-        lasts(number(image, Field::CMaxDurationModulePwrDn)),
+        lasts(number(image, field!(Cmis MaxDurationModulePwrUp))),
+        lasts(number(image, field!(Cmis MaxDurationModulePwrDn))),
     );
     let path = larger(
-        lasts(number(image, Field::CMaxDurationDPInit)),
-        lasts(number(image, Field::CMaxDurationDPDeinit)),
+        lasts(number(image, field!(Cmis MaxDurationDPInit))),
+        lasts(number(image, field!(Cmis MaxDurationDPDeinit))),
     );
     let output = larger(
-        lasts(number(image, Field::CMaxDurationDPTxTurnOn)),
-        lasts(number(image, Field::CMaxDurationDPTxTurnOff)),
+        lasts(number(image, field!(Cmis MaxDurationDPTxTurnOn))),
+        lasts(number(image, field!(Cmis MaxDurationDPTxTurnOff))),
     );
     larger(module, larger(path, output))
 }

@@ -16,8 +16,9 @@ use Rattle.conversations.specs.declared.watching.Look.TheVariants.{Seen, Due, Le
 use Rattle.conversations.specs.declared.watching.Watched.{Watched}
 use Rattle.conversations.specs.declared.watching.Watched.TheVariants as watched
 use Rattle.conversations.specs.declared.watching.Watching.{Watching}
-use Rattle.field_tables.specs.declared.field.Field.TheVariants.{CModuleState}
-use Rattle.field_tables.specs.declared.field.Register.TheVariants.{CGlobalStatus}
+use Rattle.field_tables.specs.declared.field.Field.TheVariants as fields
+use Rattle.field_tables.specs.declared.table.cmis.CmisField.TheVariants as cmis
+use Rattle.field_tables.specs.declared.field.Register.TheVariants as registers
 use Rattle.field_tables.specs.FieldValues.{number_in_byte}
 use Rattle.field_tables.specs.Registers.{byte_count, first_byte, span_of}
 use Rattle.module_states.specs.declared.state.ModuleState.{ModuleState}
@@ -28,7 +29,7 @@ use Rattle.module_states.specs.Codes.{state_at}
 
 -- the byte with the module's state is read
 abbrev pub read_state : Op
-read_state = Fetch (span_of CGlobalStatus).dev (first_byte CGlobalStatus) (byte_count CGlobalStatus)
+read_state = Fetch (span_of registers.GlobalStatus).dev (first_byte registers.GlobalStatus) (byte_count registers.GlobalStatus)
 
 -- the operation reads the state itself
 abbrev pub is_look : Op → Bool
@@ -36,7 +37,7 @@ is_look op = is_same_fetch read_state op
 
 -- the code of the state in the byte that was read
 abbrev pub state_code : List ℕ → ℕ
-state_code bytes = number_in_byte CModuleState (slice_index bytes 0)
+state_code bytes = number_in_byte (fields.Cmis cmis.ModuleState) (slice_index bytes 0)
 
 -- the code that a reply to a look shows
 abbrev pub shown : Reply → Option ℕ

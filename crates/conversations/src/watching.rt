@@ -6,7 +6,7 @@ use crate::conversation::Conversation;
 use crate::next::Next;
 use crate::pausing::is_same_fetch;
 use bus_model::{Op, Reply};
-use field_tables::{Field, Register, number_in_byte, register};
+use field_tables::{Register, field, number_in_byte, register};
 use module_states::{ModuleState, state_of};
 
 /// Whether a conversation is to look at the module's state.
@@ -154,7 +154,7 @@ where
 fn read_state() -> Op
     ensures { result ≡ read_state }
 {
-    let span = register(Register::CGlobalStatus);
+    let span = register(Register::GlobalStatus);
     Op::Fetch {
         dev: span.dev,
         offset: span.first,
@@ -175,7 +175,7 @@ fn shown(reply: &Reply) -> Option<u8>
     ensures { result ≡ shown reply.now }
 {
     match reply {
-        Reply::Bytes(bytes) => Some(number_in_byte(Field::CModuleState, bytes[0])),
+        Reply::Bytes(bytes) => Some(number_in_byte(field!(Cmis ModuleState), bytes[0])),
         Reply::Done | Reply::Refused => None,
     }
 }

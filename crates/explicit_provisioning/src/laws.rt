@@ -8,7 +8,8 @@ ghost use Rattle.conversations.specs.declared.watching.Watched.{Watched};
 ghost use Rattle.conversations.specs.declared.within.Spent.{Spent};
 ghost use Rattle.conversations.specs.Events.{Events, steps_of};
 ghost use Rattle.conversations.specs.Pauses.{EndsPausing};
-ghost use Rattle.field_tables.specs.declared.field.Field.TheVariants.{CStagedExplicit};
+ghost use Rattle.field_tables.specs.declared.field.Field.TheVariants as fields;
+ghost use Rattle.field_tables.specs.declared.table.cmis.CmisField.TheVariants as cmis;
 ghost use Rattle.field_tables.specs.FieldValues.{number_in_byte};
 ghost use Rattle.field_tables.specs.LaneSets.{Lanes};
 ghost use Rattle.control_sets.specs.declared.control_byte.ControlByte.{ControlByte};
@@ -27,7 +28,7 @@ ghost use Rattle.explicit_provisioning.specs.Staging.{StagingEnds};
 /// A control byte under explicit control asks for the same path, with ExplicitControl 1. For a byte of a plan it is one more.
 pub fn explicit_control_keeps_the_path()
     ensures path { (byte : ℕ) → control_of (with_explicit byte) ≡ control_of byte }
-    ensures explicit { (byte : ℕ) → number_in_byte CStagedExplicit (with_explicit byte) ≡ 1 }
+    ensures explicit { (byte : ℕ) → number_in_byte (fields.Cmis cmis.StagedExplicit) (with_explicit byte) ≡ 1 }
     ensures more { (control : ControlByte) → with_explicit (byte_saying control) ≡ byte_saying control + 1 }
 {}
 

@@ -11,7 +11,7 @@ use crate::following::Leads;
 use bus_model::{Dev, Op, Reply};
 use control_sets::ProvisionFault;
 use conversations::{Conversation, NeedsPages, Next};
-use field_tables::{Field, Register, number_in_byte, register};
+use field_tables::{Register, field, number_in_byte, register};
 use lane_controls::{SETTINGS, SettingsChange, SettingsPiece, store_piece};
 use module_states::{ModuleState, state_of};
 use paged_memory::PageAddressing;
@@ -58,7 +58,7 @@ impl StagingStage {
     {
         match (self, reply) {
             (StagingStage::Finding, Reply::Bytes(bytes)) => {
-                found(number_in_byte(Field::CModuleState, bytes[0]))
+                found(number_in_byte(field!(Cmis ModuleState), bytes[0]))
             }
             (StagingStage::Reading, Reply::Bytes(bytes)) => {
                 StagingStage::Storing(SettingsPiece::First, change.mixed(bytes), change.tries)
@@ -118,7 +118,7 @@ fn read_state() -> Op
     ensures value { result ≡ read_state }
     ensures shape { IsWellShaped result }
 {
-    let span = register(Register::CGlobalStatus);
+    let span = register(Register::GlobalStatus);
     Op::Fetch {
         dev: span.dev,
         offset: span.first,

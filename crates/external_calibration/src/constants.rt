@@ -2,9 +2,10 @@
 ghost use Rattle.std.specs.Prelude.{◌≡◌, ◌≤◌, unsigned_abs};
 ghost use Rattle.field_tables.specs.Readings.{IsWord, reading_at};
 ghost use Rattle.field_tables.specs.declared.field.Field.TheVariants as fields;
+ghost use Rattle.field_tables.specs.declared.table.sff8472.Sff8472Field.TheVariants as sff8472;
 ghost use Rattle.external_calibration.specs.Constants as spec;
 
-use field_tables::{Field, lane, reading_at};
+use field_tables::{Sff8472Field, field, lane, reading_at};
 use paged_memory::Image;
 
 /// What makes a reading an amount of so many steps: it is multiplied by the slope, and the offset is added.
@@ -70,8 +71,8 @@ fn coefficient(image: &Image, index: u8) -> u32
     requires last { index ≤ 9 }
     ensures { result ≡ spec.coefficient image.now index }
 {
-    let high = word(reading_at(image, Field::SRxPowerCoefficients, index));
-    let low = word(reading_at(image, Field::SRxPowerCoefficients, index + 1));
+    let high = word(reading_at(image, field!(Sff8472 RxPowerCoefficients), index));
+    let low = word(reading_at(image, field!(Sff8472 RxPowerCoefficients), index + 1));
     u32::from(high) * 65_536 + u32::from(low)
 }
 
@@ -88,7 +89,7 @@ fn line_of(image: &Image, index: u8) -> Line
     ensures { result ≡ spec.line_of image.now index }
 {
     Line {
-        slope: word(reading_at(image, Field::SSlopes, index)),
+        slope: word(reading_at(image, field!(Sff8472 Slopes), index)),
         offset: offset(image, index),
     }
 }
@@ -97,9 +98,9 @@ fn line_of(image: &Image, index: u8) -> Line
 fn offset(image: &Image, index: u8) -> i16
     requires first { 1 ≤ index }
     requires last { index ≤ 4 }
-    ensures { result ≡ reading_at image.now fields.SOffsets index }
+    ensures { result ≡ reading_at image.now (fields.Sff8472 sff8472.Offsets) index }
 {
-    match lane::<4>(image, Field::SOffsets, index) {
+    match lane::<4>(image, field!(Sff8472 Offsets), index) {
         Ok(offset) => offset as i16,
         Err(_) => 0,
     }

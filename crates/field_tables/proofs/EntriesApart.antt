@@ -11,31 +11,42 @@ use Rattle.paged_memory.specs.declared.family.Family.{Family}
 use Rattle.paged_memory.specs.contracts.family.Family as family_enum
 use Rattle.paged_memory.specs.declared.key.Key.{Key}
 use Rattle.paged_memory.specs.KeyOrder.{device_rank, half_rank}
-use Rattle.field_tables.specs.contracts.field.Field as field_enum
-use Rattle.field_tables.specs.contracts.field.TextField as text_enum
-use Rattle.field_tables.specs.contracts.field.Sum as sum_enum
+use Rattle.field_tables.specs.contracts.field.CmisSum as cmis_sum
+use Rattle.field_tables.specs.contracts.field.CmisText as cmis_text
+use Rattle.field_tables.specs.contracts.field.Sff8472Sum as sff8472_sum
+use Rattle.field_tables.specs.contracts.field.Sff8636Sum as sff8636_sum
+use Rattle.field_tables.specs.contracts.field.SffText as sff_text
+use Rattle.field_tables.specs.contracts.table.cmis.CmisField as cmis_field
+use Rattle.field_tables.specs.contracts.table.sff8472.Sff8472Field as sff8472_field
+use Rattle.field_tables.specs.contracts.table.sff8636.Sff8636Field as sff8636_field
+use Rattle.field_tables.specs.declared.field.Field.TheVariants as fields
+use Rattle.field_tables.specs.declared.field.Sum.TheVariants as sums
+use Rattle.field_tables.specs.declared.field.TextField.TheVariants as texts
+use Rattle.field_tables.specs.FieldRows.{standard_of}
+use Rattle.field_tables.specs.Texts.{standard_of_text}
+use Rattle.field_tables.specs.Sums.{standard_of_sum}
 use Rattle.field_tables.specs.Layouts.{Place}
 use Rattle.field_tables.specs.Entries.{Entry, of_field, of_text, of_sum, NoBitTwice, WithinHalf, entry_count, entry_key, entry_place, entry_standard}
 use Rattle.field_tables.specs.RowFits.{in_half}
-use Rattle.field_tables.proofs.EveryValue.{every, every_value}
+use Rattle.field_tables.proofs.EveryField.{fields as all_fields, texts as all_texts, sums as all_sums, every_field, every_text, every_sum}
 use Rattle.field_tables.proofs.TrueTests.{all_in, in_range}
 
 -- ---- all entries
 
 abbrev entries : List Entry
-entries = map of_field (every field_enum.enum tt) ++ (map of_text (every text_enum.enum tt) ++ map of_sum (every sum_enum.enum tt))
+entries = map of_field all_fields ++ (map of_text all_texts ++ map of_sum all_sums)
 
 every_entry : (test : Entry → Bool) → list_all test entries ≡ true → (entry : Entry) → test entry ≡ true
 every_entry test all entry =
-    let fields = map of_field (every field_enum.enum tt) in
-    let texts = map of_text (every text_enum.enum tt) in
-    let sums = map of_sum (every sum_enum.enum tt) in
-    let first = and_parts (list_all test fields) (list_all test (texts ++ sums)) (sym (list_all-append test fields (texts ++ sums)) ∙ all) in
-    let later = and_parts (list_all test texts) (list_all test sums) (sym (list_all-append test texts sums) ∙ first.1) in
+    let of_fields = map of_field all_fields in
+    let of_texts = map of_text all_texts in
+    let of_sums = map of_sum all_sums in
+    let first = and_parts (list_all test of_fields) (list_all test (of_texts ++ of_sums)) (sym (list_all-append test of_fields (of_texts ++ of_sums)) ∙ all) in
+    let later = and_parts (list_all test of_texts) (list_all test of_sums) (sym (list_all-append test of_texts of_sums) ∙ first.1) in
     elim entry as (λ (e : Entry). test e ≡ true) [
-      | of_field field ↦ every_value field_enum.enum tt (λ f. test (of_field f)) (sym (list_all-map test of_field (every field_enum.enum tt)) ∙ first.0) field
-      | of_text text ↦ every_value text_enum.enum tt (λ t. test (of_text t)) (sym (list_all-map test of_text (every text_enum.enum tt)) ∙ later.0) text
-      | of_sum s ↦ every_value sum_enum.enum tt (λ t. test (of_sum t)) (sym (list_all-map test of_sum (every sum_enum.enum tt)) ∙ later.1) s
+      | of_field field ↦ every_field (λ f. test (of_field f)) (sym (list_all-map test of_field all_fields) ∙ first.0) field
+      | of_text text ↦ every_text (λ t. test (of_text t)) (sym (list_all-map test of_text all_texts) ∙ later.0) text
+      | of_sum s ↦ every_sum (λ t. test (of_sum t)) (sym (list_all-map test of_sum all_sums) ∙ later.1) s
     ]
 
 -- ---- spans of places
@@ -60,11 +71,26 @@ in_span (b ∷ place) bit (suc k, below, is) = let rest = in_span place bit (k, 
 
 -- ---- the test
 
--- an entry's number among those of its kind
+-- an entry's number among those of its kind and standard
+abbrev tag_in : Entry → ℕ
+tag_in (of_field (fields.Cmis field)) = tag_of cmis_field.the_type field
+tag_in (of_field (fields.Sff8636 field)) = tag_of sff8636_field.the_type field
+tag_in (of_field (fields.Sff8472 field)) = tag_of sff8472_field.the_type field
+tag_in (of_text (texts.Cmis text)) = tag_of cmis_text.the_type text
+tag_in (of_text (texts.Sff8636 text)) = tag_of sff_text.the_type text
+tag_in (of_text (texts.Sff8472 text)) = tag_of sff_text.the_type text
+tag_in (of_sum (sums.Cmis s)) = tag_of cmis_sum.the_type s
+tag_in (of_sum (sums.Sff8636 s)) = tag_of sff8636_sum.the_type s
+tag_in (of_sum (sums.Sff8472 s)) = tag_of sff8472_sum.the_type s
+
+-- its kind and standard
+abbrev kind_of : Entry → ℕ
+kind_of (of_field field) = tag_of family_enum.the_type (standard_of field) * 3
+kind_of (of_text text) = tag_of family_enum.the_type (standard_of_text text) * 3 + 1
+kind_of (of_sum s) = tag_of family_enum.the_type (standard_of_sum s) * 3 + 2
+
 abbrev number_of : Entry → ℕ × ℕ
-number_of (of_field field) = (0, tag_of field_enum.the_type field)
-number_of (of_text text) = (1, tag_of text_enum.the_type text)
-number_of (of_sum s) = (2, tag_of sum_enum.the_type s)
+number_of entry = (kind_of entry, tag_in entry)
 
 -- one number for each standard and half
 abbrev half_code : Family → Key → ℕ
@@ -125,16 +151,17 @@ values_clear_at a b i j codes i_first i_last j_first j_last =
 not_apart : (s t : ℕ × ℕ) (n : ℕ) → (s.0 ≤ n) × (n ≤ s.1) → (t.0 ≤ n) × (n ≤ t.1) → apart s t ≡ true → ⊥
 not_apart s t n in_s in_t e = elim (or_cases (nat_lt s.1 t.0) (nat_lt t.1 s.0) e) [ inl before ↦ grind (arith, nat_tests) | inr after ↦ grind (arith, nat_tests) ]
 
-same_entry : (a b : Entry) → (number_of a).0 ≡ (number_of b).0 → (number_of a).1 ≡ (number_of b).1 → a ≡ b
-same_entry (of_field x) (of_field y) kind tag = ap of_field (tag_one field_enum.the_type tt x y tag)
-same_entry (of_text x) (of_text y) kind tag = ap of_text (tag_one text_enum.the_type tt x y tag)
-same_entry (of_sum x) (of_sum y) kind tag = ap of_sum (tag_one sum_enum.the_type tt x y tag)
-same_entry (of_field x) (of_text y) kind tag = absurd (omega (arith, kind))
-same_entry (of_field x) (of_sum y) kind tag = absurd (omega (arith, kind))
-same_entry (of_text x) (of_field y) kind tag = absurd (omega (arith, kind))
-same_entry (of_text x) (of_sum y) kind tag = absurd (omega (arith, kind))
-same_entry (of_sum x) (of_field y) kind tag = absurd (omega (arith, kind))
-same_entry (of_sum x) (of_text y) kind tag = absurd (omega (arith, kind))
+same_entry : (a b : Entry) → kind_of a ≡ kind_of b → tag_in a ≡ tag_in b → a ≡ b
+same_entry (of_field (fields.Cmis x)) (of_field (fields.Cmis y)) kind tag = ap (λ z. of_field (fields.Cmis z)) (tag_one cmis_field.the_type tt x y tag)
+same_entry (of_field (fields.Sff8636 x)) (of_field (fields.Sff8636 y)) kind tag = ap (λ z. of_field (fields.Sff8636 z)) (tag_one sff8636_field.the_type tt x y tag)
+same_entry (of_field (fields.Sff8472 x)) (of_field (fields.Sff8472 y)) kind tag = ap (λ z. of_field (fields.Sff8472 z)) (tag_one sff8472_field.the_type tt x y tag)
+same_entry (of_text (texts.Cmis x)) (of_text (texts.Cmis y)) kind tag = ap (λ z. of_text (texts.Cmis z)) (tag_one cmis_text.the_type tt x y tag)
+same_entry (of_text (texts.Sff8636 x)) (of_text (texts.Sff8636 y)) kind tag = ap (λ z. of_text (texts.Sff8636 z)) (tag_one sff_text.the_type tt x y tag)
+same_entry (of_text (texts.Sff8472 x)) (of_text (texts.Sff8472 y)) kind tag = ap (λ z. of_text (texts.Sff8472 z)) (tag_one sff_text.the_type tt x y tag)
+same_entry (of_sum (sums.Cmis x)) (of_sum (sums.Cmis y)) kind tag = ap (λ z. of_sum (sums.Cmis z)) (tag_one cmis_sum.the_type tt x y tag)
+same_entry (of_sum (sums.Sff8636 x)) (of_sum (sums.Sff8636 y)) kind tag = ap (λ z. of_sum (sums.Sff8636 z)) (tag_one sff8636_sum.the_type tt x y tag)
+same_entry (of_sum (sums.Sff8472 x)) (of_sum (sums.Sff8472 y)) kind tag = ap (λ z. of_sum (sums.Sff8472 z)) (tag_one sff8472_sum.the_type tt x y tag)
+same_entry _ _ kind tag = absurd (omega (arith, kind))
 
 pub no_bit_twice : NoBitTwice
 no_bit_twice a b i j bit standards keys in_a in_b =

@@ -5,6 +5,7 @@ mod PlaceWidths
 mod RowPlaceLaws
 mod FieldAnswers
 mod EveryValue
+mod EveryField
 mod RowsFit
 mod EntriesApart
 pub mod SameValues

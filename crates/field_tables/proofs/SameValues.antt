@@ -15,15 +15,14 @@ use Rattle.paged_memory.specs.declared.key.Half.TheVariants.{Lower, Upper}
 use Rattle.paged_memory.specs.declared.key.Key.{Key}
 use Rattle.paged_memory.specs.Images.{Memory, place_in_half}
 use Rattle.paged_memory.proofs.WindowReads.{before_selection}
-use Rattle.field_tables.specs.contracts.field.Field as field_enum
-use Rattle.field_tables.specs.contracts.field.TextField as text_enum
-use Rattle.field_tables.specs.contracts.field.Sum as sum_enum
 use Rattle.field_tables.specs.declared.field.Field.{Field}
-use Rattle.field_tables.specs.declared.field.Field.TheVariants.{CBankSelect, CPageSelect, QPageSelect}
+use Rattle.field_tables.specs.declared.field.Field.TheVariants.{Cmis, Sff8636}
 use Rattle.field_tables.specs.declared.field.Sum.{Sum}
 use Rattle.field_tables.specs.declared.field.TextField.{TextField}
 use Rattle.field_tables.specs.declared.readings.PerLimit.{PerLimit}
 use Rattle.field_tables.specs.declared.spans.Span.{Span}
+use Rattle.field_tables.specs.declared.table.cmis.CmisField.TheVariants as cmis
+use Rattle.field_tables.specs.declared.table.sff8636.Sff8636Field.TheVariants as sff8636
 use Rattle.field_tables.specs.FieldRows.{row_of}
 use Rattle.field_tables.specs.FieldValues.{field_key, value_in}
 use Rattle.field_tables.specs.Halves.{byte_in, is_absent}
@@ -34,7 +33,7 @@ use Rattle.field_tables.specs.RowPlaces.{place_of}
 use Rattle.field_tables.specs.Spans.{bytes_in}
 use Rattle.field_tables.specs.Sums.{sum_key, sum_matches, sum_row}
 use Rattle.field_tables.specs.Texts.{text_key, text_span}
-use Rattle.field_tables.proofs.EveryValue.{every, every_value}
+use Rattle.field_tables.proofs.EveryField.{fields, texts, sums, every_field, every_text, every_sum}
 use Rattle.field_tables.proofs.TrueTests.{in_range}
 
 -- how many bytes of a half are before the selection
@@ -110,9 +109,9 @@ same_of n f so (Some xs) None e = absurd cc
 -- ---- no row but those of the selection covers it
 
 abbrev pub is_selection : Field → Bool
-is_selection CBankSelect = true
-is_selection CPageSelect = true
-is_selection QPageSelect = true
+is_selection (Cmis cmis.BankSelect) = true
+is_selection (Cmis cmis.PageSelect) = true
+is_selection (Sff8636 sff8636.PageSelect) = true
 is_selection _ = false
 
 abbrev value_plain : Field → ℕ → Bool
@@ -121,19 +120,19 @@ value_plain field i = list_all (is_within (plain (field_key field))) (place_of (
 abbrev field_plain : Field → Bool
 field_plain field = list_all (value_plain field) (range_with_len 1 (row_of field).count)
 
-fields_plain : list_all (λ field. is_selection field || field_plain field) (every field_enum.enum tt) ≡ true
+fields_plain : list_all (λ field. is_selection field || field_plain field) fields ≡ true
 fields_plain = refl
 
 abbrev text_plain : TextField → Bool
 text_plain field = span_within (plain (text_key field)) (text_span field)
 
-texts_plain : list_all text_plain (every text_enum.enum tt) ≡ true
+texts_plain : list_all text_plain texts ≡ true
 texts_plain = refl
 
 abbrev sum_plain : Sum → Bool
 sum_plain s = span_within (plain (sum_key s)) (sum_row s).0 && nat_lt (place_in_half (sum_row s).1) (plain (sum_key s))
 
-sums_plain : list_all sum_plain (every sum_enum.enum tt) ≡ true
+sums_plain : list_all sum_plain sums ≡ true
 sums_plain = refl
 
 other_plain : (b c : Bool) → (b || c) ≡ true → b ≡ false → c ≡ true
@@ -142,7 +141,7 @@ other_plain false c e is = e
 
 is_plain : (field : Field) (i : ℕ) → is_selection field ≡ false → 1 ≤ i → i ≤ (row_of field).count → value_plain field i ≡ true
 is_plain field i other first last =
-    let all = other_plain (is_selection field) (field_plain field) (every_value field_enum.enum tt (λ f. is_selection f || field_plain f) fields_plain field) other in
+    let all = other_plain (is_selection field) (field_plain field) (every_field (λ f. is_selection f || field_plain f) fields_plain field) other in
     in_range (value_plain field) 1 (row_of field).count i all first (omega (arith, last))
 
 -- ---- what is read of memories that agree
@@ -215,12 +214,12 @@ module _ (a b : Memory) where
   same_text field agree =
       ap (λ (bytes : Option (List ℕ)). unwrap_or bytes [])
       (same_of (plain (text_key field)) (λ (bytes : List ℕ). bytes_in bytes (text_span field))
-      (λ xs ys same. same_span xs ys (plain (text_key field)) (text_span field) same (every_value text_enum.enum tt text_plain texts_plain field)) (map.get a (text_key field)) (map.get b (text_key field)) agree)
+      (λ xs ys same. same_span xs ys (plain (text_key field)) (text_span field) same (every_text text_plain texts_plain field)) (map.get a (text_key field)) (map.get b (text_key field)) agree)
 
   same_right : (s : Sum) (xs ys : List ℕ) → take (plain (sum_key s)) xs ≡ take (plain (sum_key s)) ys → sum_matches xs (sum_row s) ≡ sum_matches ys (sum_row s)
   same_right s xs ys same =
       let n = plain (sum_key s) in
-      let parts = and_parts (span_within n (sum_row s).0) (nat_lt (place_in_half (sum_row s).1) n) (every_value sum_enum.enum tt sum_plain sums_plain s) in
+      let parts = and_parts (span_within n (sum_row s).0) (nat_lt (place_in_half (sum_row s).1) n) (every_sum sum_plain sums_plain s) in
       let summed = same_span xs ys n (sum_row s).0 same parts.0 in
       let byte = same_byte xs ys n same (sum_row s).1 (grind (arith, nat_tests)) in
       λ i. sum (summed i) % 256 == byte i

@@ -11,8 +11,8 @@ use Rattle.field_tables.specs.RowPlaces.{place_of}
 use Rattle.field_tables.specs.RowFits.{in_half}
 use Rattle.field_tables.specs.FieldRows.{row_of, standard_of}
 use Rattle.field_tables.specs.FieldValues.{field_key}
-use Rattle.field_tables.specs.Texts.{text_key, text_line_of, text_span}
-use Rattle.field_tables.specs.Sums.{sum_key, sum_line_of, sum_row}
+use Rattle.field_tables.specs.Texts.{standard_of_text, text_key, text_span}
+use Rattle.field_tables.specs.Sums.{standard_of_sum, sum_key, sum_row}
 
 pub data Entry : Type 0 where
   of_field : Field → Entry
@@ -21,8 +21,8 @@ pub data Entry : Type 0 where
 
 abbrev pub entry_standard : Entry → Family
 entry_standard (of_field field) = standard_of field
-entry_standard (of_text text) = (text_line_of text).0
-entry_standard (of_sum s) = (sum_line_of s).0
+entry_standard (of_text text) = standard_of_text text
+entry_standard (of_sum s) = standard_of_sum s
 
 abbrev pub entry_key : Entry → Key
 entry_key (of_field field) = field_key field

@@ -6,6 +6,10 @@ pub mod Numbers
 pub mod Parts
 pub mod Spans
 pub mod Registers
+pub mod RowLines
+pub mod CmisRows
+pub mod Sff8636Rows
+pub mod Sff8472Rows
 pub mod FieldRows
 pub mod RowPlaces
 pub mod FieldValues

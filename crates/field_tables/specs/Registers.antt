@@ -10,17 +10,17 @@ use Rattle.field_tables.specs.Spans.{page_of_half, span, span_fits, span_len}
 
 -- device, half and page, first and last byte
 abbrev pub span_of : Register → Span
-span_of registers.CGlobalStatus = span A0 Lower 0x00 3 3
-span_of registers.CModuleFlags = span A0 Lower 0x00 9 9
-span_of registers.CGlobalControls = span A0 Lower 0x00 26 26
-span_of registers.CPageMapping = span A0 Lower 0x00 126 127
-span_of registers.CDPDeinit = span A0 Upper 0x10 128 128
-span_of registers.CApplyDPInit = span A0 Upper 0x10 143 143
-span_of registers.CStagedControl = span A0 Upper 0x10 145 152
-span_of registers.CPathStates = span A0 Upper 0x11 128 131
-span_of registers.CLaneFlags = span A0 Upper 0x11 134 152
-span_of registers.CConfigStatus = span A0 Upper 0x11 202 205
-span_of registers.CActiveControl = span A0 Upper 0x11 206 213
+span_of registers.GlobalStatus = span A0 Lower 0x00 3 3
+span_of registers.ModuleFlags = span A0 Lower 0x00 9 9
+span_of registers.GlobalControls = span A0 Lower 0x00 26 26
+span_of registers.PageMapping = span A0 Lower 0x00 126 127
+span_of registers.DPDeinit = span A0 Upper 0x10 128 128
+span_of registers.ApplyDPInit = span A0 Upper 0x10 143 143
+span_of registers.StagedControl = span A0 Upper 0x10 145 152
+span_of registers.PathStates = span A0 Upper 0x11 128 131
+span_of registers.LaneFlags = span A0 Upper 0x11 134 152
+span_of registers.ConfigStatus = span A0 Upper 0x11 202 205
+span_of registers.ActiveControl = span A0 Upper 0x11 206 213
 
 -- where it begins
 abbrev pub first_byte : Register → ℕ

@@ -20,7 +20,9 @@ mod units;
 mod values;
 
 pub use fault::FieldFault;
-pub use field::{Field, Register, Sum, TextField};
+pub use field::{
+    CmisSum, CmisText, Field, Register, Sff8472Sum, Sff8636Sum, SffText, Sum, TextField,
+};
 pub use lane_number::LaneNumber;
 pub use lane_set::LaneSet;
 pub use laws::{each_entry_is_within_its_half, no_bit_means_two_things};
@@ -33,7 +35,10 @@ pub use registers::register;
 pub use sff_fault::SffFault;
 pub use spans::Span;
 pub use sums::sum_right;
+pub use table::cmis::CmisField;
 pub use table::row;
+pub use table::sff8472::Sff8472Field;
+pub use table::sff8636::Sff8636Field;
 pub use texts::text_field;
 pub use units::{Unit, millis};
 pub use values::{is_set, lane, number_in_byte, value};

@@ -27,16 +27,16 @@ pub fn register(register: Register) -> Span
 {
     // device, half and page, first and last byte
     registers! { register;
-        CGlobalStatus: A0 Lower 0x00, 3-3;
-        CModuleFlags: A0 Lower 0x00, 9-9;
-        CGlobalControls: A0 Lower 0x00, 26-26;
-        CPageMapping: A0 Lower 0x00, 126-127;
-        CDPDeinit: A0 Upper 0x10, 128-128;
-        CApplyDPInit: A0 Upper 0x10, 143-143;
-        CStagedControl: A0 Upper 0x10, 145-152;
-        CPathStates: A0 Upper 0x11, 128-131;
-        CLaneFlags: A0 Upper 0x11, 134-152;
-        CConfigStatus: A0 Upper 0x11, 202-205;
-        CActiveControl: A0 Upper 0x11, 206-213;
+        GlobalStatus: A0 Lower 0x00, 3-3;
+        ModuleFlags: A0 Lower 0x00, 9-9;
+        GlobalControls: A0 Lower 0x00, 26-26;
+        PageMapping: A0 Lower 0x00, 126-127;
+        DPDeinit: A0 Upper 0x10, 128-128;
+        ApplyDPInit: A0 Upper 0x10, 143-143;
+        StagedControl: A0 Upper 0x10, 145-152;
+        PathStates: A0 Upper 0x11, 128-131;
+        LaneFlags: A0 Upper 0x11, 134-152;
+        ConfigStatus: A0 Upper 0x11, 202-205;
+        ActiveControl: A0 Upper 0x11, 206-213;
     }
 }

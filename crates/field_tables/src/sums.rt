@@ -7,13 +7,14 @@ use crate::fault::FieldFault;
 use crate::field::Sum;
 use crate::halves::{half_of, index_in_half, key_of};
 use crate::spans::{Span, bytes_of};
+use crate::sum_of;
 use bus_model::Dev;
 use paged_memory::{Half, Image, PAGE_LEN};
 
 macro_rules! sums {
-    ($sum:ident; $($name:ident: $dev:ident $half:ident $page:literal, $first:literal - $last:literal at $address:literal;)*) => {
+    ($sum:ident; $($of:ident $name:ident: $dev:ident $half:ident $page:literal, $first:literal - $last:literal at $address:literal;)*) => {
         match $sum {
-            $(Sum::$name => (
+            $(sum_of!($of $name) => (
                 Span {
                     dev: Dev::$dev,
                     half: Half::$half,
@@ -51,13 +52,13 @@ fn row_of(sum: Sum) -> (Span, u8)
 {
     // device, half and page, first and last byte, address
     sums! { sum;
-        CSum00: A0 Upper 0x00, 128-221 at 222;
-        CSum01: A0 Upper 0x01, 130-254 at 255;
-        CSum02: A0 Upper 0x02, 128-254 at 255;
-        QSumBase: A0 Upper 0x00, 128-190 at 191;
-        QSumExt: A0 Upper 0x00, 192-222 at 223;
-        SSumBase: A0 Lower 0x00, 0-62 at 63;
-        SSumExt: A0 Lower 0x00, 64-94 at 95;
-        SSumDmi: A2 Lower 0x00, 0-94 at 95;
+        Cmis Sum00: A0 Upper 0x00, 128-221 at 222;
+        Cmis Sum01: A0 Upper 0x01, 130-254 at 255;
+        Cmis Sum02: A0 Upper 0x02, 128-254 at 255;
+        Sff8636 SumBase: A0 Upper 0x00, 128-190 at 191;
+        Sff8636 SumExt: A0 Upper 0x00, 192-222 at 223;
+        Sff8472 SumBase: A0 Lower 0x00, 0-62 at 63;
+        Sff8472 SumExt: A0 Lower 0x00, 64-94 at 95;
+        Sff8472 SumDmi: A2 Lower 0x00, 0-94 at 95;
     }
 }

@@ -7,14 +7,15 @@ use crate::fault::FieldFault;
 use crate::field::TextField;
 use crate::halves::{half_of, key_of};
 use crate::spans::{Span, bytes_of};
+use crate::text_of;
 use arrayvec::ArrayVec;
 use bus_model::Dev;
 use paged_memory::{Half, Image};
 
 macro_rules! texts {
-    ($text:ident; $($name:ident: $dev:ident $half:ident $page:literal, $first:literal - $last:literal;)*) => {
+    ($text:ident; $($of:ident $name:ident: $dev:ident $half:ident $page:literal, $first:literal - $last:literal;)*) => {
         match $text {
-            $(TextField::$name => Span {
+            $(text_of!($of $name) => Span {
                 dev: Dev::$dev,
                 half: Half::$half,
                 page: $page,
@@ -44,21 +45,21 @@ fn span_of(text: TextField) -> Span
 {
     // device, half and page, first and last byte
     texts! { text;
-        CVendor: A0 Upper 0x00, 129-144;
-        CPart: A0 Upper 0x00, 148-163;
-        CPartRevision: A0 Upper 0x00, 164-165;
-        CSerial: A0 Upper 0x00, 166-181;
-        CDate: A0 Upper 0x00, 182-189;
-        CClei: A0 Upper 0x00, 190-199;
-        QVendor: A0 Upper 0x00, 148-163;
-        QPart: A0 Upper 0x00, 168-183;
-        QPartRevision: A0 Upper 0x00, 184-185;
-        QSerial: A0 Upper 0x00, 196-211;
-        QDate: A0 Upper 0x00, 212-219;
-        SVendor: A0 Lower 0x00, 20-35;
-        SPart: A0 Lower 0x00, 40-55;
-        SPartRevision: A0 Lower 0x00, 56-59;
-        SSerial: A0 Lower 0x00, 68-83;
-        SDate: A0 Lower 0x00, 84-91;
+        Cmis Vendor: A0 Upper 0x00, 129-144;
+        Cmis Part: A0 Upper 0x00, 148-163;
+        Cmis PartRevision: A0 Upper 0x00, 164-165;
+        Cmis Serial: A0 Upper 0x00, 166-181;
+        Cmis Date: A0 Upper 0x00, 182-189;
+        Cmis Clei: A0 Upper 0x00, 190-199;
+        Sff8636 Vendor: A0 Upper 0x00, 148-163;
+        Sff8636 Part: A0 Upper 0x00, 168-183;
+        Sff8636 PartRevision: A0 Upper 0x00, 184-185;
+        Sff8636 Serial: A0 Upper 0x00, 196-211;
+        Sff8636 Date: A0 Upper 0x00, 212-219;
+        Sff8472 Vendor: A0 Lower 0x00, 20-35;
+        Sff8472 Part: A0 Lower 0x00, 40-55;
+        Sff8472 PartRevision: A0 Lower 0x00, 56-59;
+        Sff8472 Serial: A0 Lower 0x00, 68-83;
+        Sff8472 Date: A0 Lower 0x00, 84-91;
     }
 }

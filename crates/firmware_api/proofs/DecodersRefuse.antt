@@ -12,7 +12,10 @@ use Rattle.paged_memory.specs.declared.key.Key.{Key}
 use Rattle.paged_memory.specs.Families.{family_by, is_of}
 use Rattle.paged_memory.specs.Images.{Memory}
 use Rattle.paged_memory.specs.Keys.{lower_key}
-use Rattle.field_tables.specs.declared.field.Field.TheVariants.{CRevision, QFlatMemory, QIdentifier, SIdentifier}
+use Rattle.field_tables.specs.declared.field.Field.TheVariants as fields
+use Rattle.field_tables.specs.declared.table.cmis.CmisField.TheVariants as cmis
+use Rattle.field_tables.specs.declared.table.sff8636.Sff8636Field.TheVariants as sff8636_fields
+use Rattle.field_tables.specs.declared.table.sff8472.Sff8472Field.TheVariants as sff8472_fields
 use Rattle.field_tables.specs.declared.sff_fault.SffFault.{SffFault}
 use Rattle.field_tables.specs.FieldValues.{value_in}
 use Rattle.field_tables.specs.FirstFault.{first_fault}
@@ -75,7 +78,7 @@ module _ (memory : Memory) where
   known_by true one other = λ same. cc
   known_by false one other = λ same. cc
 
-  is_known : (found : Option Family) → family_by (identifier memory) ≡ found → families.fault_in found (is_read_revision (number memory CRevision)) memory ≡ None → (family : Family) × IsOf family
+  is_known : (found : Option Family) → family_by (identifier memory) ≡ found → families.fault_in found (is_read_revision (number memory (fields.Cmis cmis.Revision))) memory ≡ None → (family : Family) × IsOf family
   unfolding families.fault_in
   is_known (Some family) is none = (family, is)
   is_known None is none = absurd (known_by (is_absent memory (lower_key A0)) _ _ none)
@@ -86,13 +89,13 @@ module _ (memory : Memory) where
   own Cmis id is = rw (is) refl
   own _ id is = rw (is) refl
 
-  qsfp_own : IsOf Sff8636 → not (is_of Sff8636 (number memory QIdentifier)) ≡ false
+  qsfp_own : IsOf Sff8636 → not (is_of Sff8636 (number memory (fields.Sff8636 sff8636_fields.Identifier))) ≡ false
   unfolding reading_at value_in
-  qsfp_own is = own Sff8636 (number memory QIdentifier) is
+  qsfp_own is = own Sff8636 (number memory (fields.Sff8636 sff8636_fields.Identifier)) is
 
-  sfp_own : IsOf Sff8472 → not (is_of Sff8472 (number memory SIdentifier)) ≡ false
+  sfp_own : IsOf Sff8472 → not (is_of Sff8472 (number memory (fields.Sff8472 sff8472_fields.Identifier))) ≡ false
   unfolding reading_at value_in
-  sfp_own is = own Sff8472 (number memory SIdentifier) is
+  sfp_own is = own Sff8472 (number memory (fields.Sff8472 sff8472_fields.Identifier)) is
 
   abbrev told : List (Reason SffFault) → Bool
   told reasons = are_told (map (judged memory) reasons)
@@ -115,7 +118,7 @@ module _ (memory : Memory) where
   qsfp_identity is = refused sff8636.identity_reasons (of_qsfp is (drop 2 sff8636.identity_reasons) (all_answered (map (judged memory) (drop 2 sff8636.identity_reasons)) refl))
 
   -- limits are looked for if memory is not flat
-  with_limits : (flat : Bool) → bit memory QFlatMemory ≡ flat → IsOf Sff8636 → AreAnswered (of_sff (if flat then None else sff8636.threshold_fault memory))
+  with_limits : (flat : Bool) → bit memory (fields.Sff8636 sff8636_fields.FlatMemory) ≡ flat → IsOf Sff8636 → AreAnswered (of_sff (if flat then None else sff8636.threshold_fault memory))
   unfolding qsfp_threshold_fault
   with_limits true flat is = tt
   with_limits false flat is = refused sff8636.threshold_reasons (of_qsfp is (drop 2 sff8636.threshold_reasons) (rw (flat) (all_answered (map (judged memory) (drop 3 sff8636.threshold_reasons)) refl)))
@@ -126,7 +129,7 @@ module _ (memory : Memory) where
 
   qsfp_measured : IsOf Sff8636 → AreAnswered (of_sff (sff8636.measured_fault memory))
   unfolding qsfp_measured_fault
-  qsfp_measured is = either (sff8636.module_fault memory) (if bit memory QFlatMemory then None else sff8636.threshold_fault memory) (qsfp_module is) (with_limits (bit memory QFlatMemory) refl is)
+  qsfp_measured is = either (sff8636.module_fault memory) (if bit memory (fields.Sff8636 sff8636_fields.FlatMemory) then None else sff8636.threshold_fault memory) (qsfp_module is) (with_limits (bit memory (fields.Sff8636 sff8636_fields.FlatMemory)) refl is)
 
   sfp_module : IsOf Sff8472 → AreAnswered (of_sff (sff8472.module_fault memory))
   unfolding sfp_module_fault

@@ -5,6 +5,7 @@ use Rattle.paged_memory.specs.declared.family.Family.{Family}
 use Rattle.paged_memory.specs.declared.family.Family.TheVariants as families
 use Rattle.paged_memory.specs.Images.{Memory}
 use Rattle.field_tables.specs.declared.field.Field.TheVariants as fields
+use Rattle.field_tables.specs.declared.table.cmis.CmisField.TheVariants as cmis
 use Rattle.field_tables.specs.declared.field.Sum.{Sum}
 use Rattle.field_tables.specs.Readings.{all_numbers, is_sum_right, number, text}
 use Rattle.module_decoding.specs.Amounts.{amount_at, length_in}
@@ -49,13 +50,13 @@ shared_identity memory family = identity_at memory family (shared_fields family)
 
 abbrev pub cmis_identity : Memory → ModuleIdentity
 cmis_identity memory = record (shared_identity memory families.Cmis) {
-  max_power = amount_at memory fields.CMaxPower None 1;
-  length = length_in memory fields.CLengthBase fields.CLengthMultiplier;
-  revision = number memory fields.CRevision;
+  max_power = amount_at memory (fields.Cmis cmis.MaxPower) None 1;
+  length = length_in memory (fields.Cmis cmis.LengthBase) (fields.Cmis cmis.LengthMultiplier);
+  revision = number memory (fields.Cmis cmis.Revision);
   flat = number_of (is_flat memory);
-  media_type = number memory fields.CMediaType;
-  power_class = number memory fields.CPowerClass + 1;
-  technology = number memory fields.CTechnology;
+  media_type = number memory (fields.Cmis cmis.MediaType);
+  power_class = number memory (fields.Cmis cmis.PowerClass) + 1;
+  technology = number memory (fields.Cmis cmis.Technology);
 }
 
 abbrev pub identity_of : Family → Memory → ModuleIdentity

@@ -7,7 +7,12 @@ use Rattle.paged_memory.specs.declared.family.Family.{Family}
 use Rattle.paged_memory.specs.declared.family.Family.TheVariants as families
 use Rattle.paged_memory.specs.Images.{Memory}
 use Rattle.field_tables.specs.declared.field.Field.TheVariants as fields
+use Rattle.field_tables.specs.declared.table.cmis.CmisField.TheVariants as cmis
+use Rattle.field_tables.specs.declared.table.sff8636.Sff8636Field.TheVariants as sff8636
+use Rattle.field_tables.specs.declared.table.sff8472.Sff8472Field.TheVariants as sff8472
 use Rattle.field_tables.specs.declared.field.Sum.TheVariants as sums
+use Rattle.field_tables.specs.declared.field.CmisSum.TheVariants as cmis_sums
+use Rattle.field_tables.specs.declared.field.Sff8472Sum.TheVariants as sff8472_sums
 use Rattle.field_tables.specs.Readings.{bit, is_sum_right}
 use Rattle.module_decoding.specs.CmisPages.{is_flat}
 use Rattle.module_decoding.specs.ModuleFamilies.{family_of}
@@ -33,19 +38,19 @@ no_monitors = record {
 -- a CMIS module itself, which has limits or has none
 abbrev pub own_monitors : Memory → Bool → ModuleMonitors
 own_monitors memory limited = record no_monitors {
-  temperature = module_value memory limited fields.CTemperature fields.CTempLimits;
-  vcc = module_value memory limited fields.CVcc fields.CVccLimits;
+  temperature = module_value memory limited (fields.Cmis cmis.Temperature) (fields.Cmis cmis.TempLimits);
+  vcc = module_value memory limited (fields.Cmis cmis.Vcc) (fields.Cmis cmis.VccLimits);
   family = family_number families.Cmis;
 }
 
 abbrev pub paged_monitors : Memory → ModuleMonitors
 paged_monitors memory = record (own_monitors memory true) {
-  tx_power = supported_values memory fields.CTxPowerMonitor fields.CTxPower None fields.CTxPowerLimits;
-  tx_bias = supported_values memory fields.CTxBiasMonitor fields.CTxBias (Some fields.CBiasMultiplier) fields.CTxBiasLimits;
-  rx_power = supported_values memory fields.CRxPowerMonitor fields.CRxPower None fields.CRxPowerLimits;
+  tx_power = supported_values memory (fields.Cmis cmis.TxPowerMonitor) (fields.Cmis cmis.TxPower) None (fields.Cmis cmis.TxPowerLimits);
+  tx_bias = supported_values memory (fields.Cmis cmis.TxBiasMonitor) (fields.Cmis cmis.TxBias) (Some (fields.Cmis cmis.BiasMultiplier)) (fields.Cmis cmis.TxBiasLimits);
+  rx_power = supported_values memory (fields.Cmis cmis.RxPowerMonitor) (fields.Cmis cmis.RxPower) None (fields.Cmis cmis.RxPowerLimits);
   lanes = 8;
   has_limits = 1;
-  sum = number_of (is_sum_right memory sums.CSum02);
+  sum = number_of (is_sum_right memory (sums.Cmis cmis_sums.Sum02));
 }
 
 -- with flat memory it has neither lanes nor limits
@@ -64,15 +69,15 @@ measured memory limited at = record no_monitors {
 
 -- limits stand on a page that flat memory doesn't have
 abbrev pub qsfp_has_limits : Memory → Bool
-qsfp_has_limits memory = not (bit memory fields.QFlatMemory)
+qsfp_has_limits memory = not (bit memory (fields.Sff8636 sff8636.FlatMemory))
 
 abbrev pub qsfp_monitors : Memory → ModuleMonitors
 qsfp_monitors memory = record {
-  temperature = module_value memory (qsfp_has_limits memory) fields.QTemperature fields.QTempLimits;
-  vcc = module_value memory (qsfp_has_limits memory) fields.QVcc fields.QVccLimits;
-  tx_power = lane_values memory (qsfp_has_limits memory) fields.QTxPower None fields.QTxPowerLimits;
-  tx_bias = lane_values memory (qsfp_has_limits memory) fields.QTxBias None fields.QTxBiasLimits;
-  rx_power = lane_values memory (qsfp_has_limits memory) fields.QRxPower None fields.QRxPowerLimits;
+  temperature = module_value memory (qsfp_has_limits memory) (fields.Sff8636 sff8636.Temperature) (fields.Sff8636 sff8636.TempLimits);
+  vcc = module_value memory (qsfp_has_limits memory) (fields.Sff8636 sff8636.Vcc) (fields.Sff8636 sff8636.VccLimits);
+  tx_power = lane_values memory (qsfp_has_limits memory) (fields.Sff8636 sff8636.TxPower) None (fields.Sff8636 sff8636.TxPowerLimits);
+  tx_bias = lane_values memory (qsfp_has_limits memory) (fields.Sff8636 sff8636.TxBias) None (fields.Sff8636 sff8636.TxBiasLimits);
+  rx_power = lane_values memory (qsfp_has_limits memory) (fields.Sff8636 sff8636.RxPower) None (fields.Sff8636 sff8636.RxPowerLimits);
   family = family_number families.Sff8636;
   lanes = 4;
   has_limits = number_of (qsfp_has_limits memory);
@@ -81,15 +86,15 @@ qsfp_monitors memory = record {
 
 abbrev pub sfp_monitors : Memory → ModuleMonitors
 sfp_monitors memory = record {
-  temperature = module_value memory true fields.STemperature fields.STempLimits;
-  vcc = module_value memory true fields.SVcc fields.SVccLimits;
-  tx_power = lane_values memory true fields.STxPower None fields.STxPowerLimits;
-  tx_bias = lane_values memory true fields.STxBias None fields.STxBiasLimits;
-  rx_power = lane_values memory true fields.SRxPower None fields.SRxPowerLimits;
+  temperature = module_value memory true (fields.Sff8472 sff8472.Temperature) (fields.Sff8472 sff8472.TempLimits);
+  vcc = module_value memory true (fields.Sff8472 sff8472.Vcc) (fields.Sff8472 sff8472.VccLimits);
+  tx_power = lane_values memory true (fields.Sff8472 sff8472.TxPower) None (fields.Sff8472 sff8472.TxPowerLimits);
+  tx_bias = lane_values memory true (fields.Sff8472 sff8472.TxBias) None (fields.Sff8472 sff8472.TxBiasLimits);
+  rx_power = lane_values memory true (fields.Sff8472 sff8472.RxPower) None (fields.Sff8472 sff8472.RxPowerLimits);
   family = family_number families.Sff8472;
   lanes = 1;
   has_limits = 1;
-  sum = number_of (is_sum_right memory sums.SSumDmi);
+  sum = number_of (is_sum_right memory (sums.Sff8472 sff8472_sums.SumDmi));
 }
 
 abbrev pub monitors_of : Family → Memory → ModuleMonitors

@@ -7,6 +7,9 @@ use Rattle.paged_memory.specs.declared.family.Family.TheVariants as families
 use Rattle.paged_memory.specs.Images.{Memory}
 use Rattle.field_tables.specs.declared.field.Field.{Field}
 use Rattle.field_tables.specs.declared.field.Field.TheVariants as fields
+use Rattle.field_tables.specs.declared.table.cmis.CmisField.TheVariants as cmis
+use Rattle.field_tables.specs.declared.table.sff8636.Sff8636Field.TheVariants as sff8636
+use Rattle.field_tables.specs.declared.table.sff8472.Sff8472Field.TheVariants as sff8472
 use Rattle.field_tables.specs.Readings.{all_numbers, bit_at, number}
 use Rattle.module_decoding.specs.CmisPages.{is_flat}
 use Rattle.module_decoding.specs.ModuleFamilies.{family_of}
@@ -77,55 +80,55 @@ no_flags = record {
 abbrev pub flat_flags : Memory → ModuleFlags
 flat_flags memory = record no_flags {
   family = family_number families.Cmis;
-  state = number memory fields.CModuleState;
-  temperature = past_limits memory fields.CModuleFlag 1;
-  vcc = past_limits memory fields.CModuleFlag 5;
+  state = number memory (fields.Cmis cmis.ModuleState);
+  temperature = past_limits memory (fields.Cmis cmis.ModuleFlag) 1;
+  vcc = past_limits memory (fields.Cmis cmis.ModuleFlag) 5;
 }
 
 abbrev pub paged_flags : Memory → ModuleFlags
 paged_flags memory = record (flat_flags memory) {
   lanes = 8;
-  path_states = all_numbers memory fields.CPathStates;
-  statuses = all_numbers memory fields.CConfigStatus;
-  path_state_changed = eight_lanes memory fields.CPathStateChanged;
-  tx_fault = eight_lanes memory fields.CTxFailure;
-  tx_los = eight_lanes memory fields.CTxLos;
-  tx_lol = eight_lanes memory fields.CTxLol;
-  tx_eq_fail = eight_lanes memory fields.CTxEqFail;
-  rx_los = eight_lanes memory fields.CRxLos;
-  rx_lol = eight_lanes memory fields.CRxLol;
-  tx_power = levels_at (eight_lanes memory) fields.CTxPowerHighAlarm fields.CTxPowerLowAlarm fields.CTxPowerHighWarning fields.CTxPowerLowWarning;
-  tx_bias = levels_at (eight_lanes memory) fields.CTxBiasHighAlarm fields.CTxBiasLowAlarm fields.CTxBiasHighWarning fields.CTxBiasLowWarning;
-  rx_power = levels_at (eight_lanes memory) fields.CRxPowerHighAlarm fields.CRxPowerLowAlarm fields.CRxPowerHighWarning fields.CRxPowerLowWarning;
+  path_states = all_numbers memory (fields.Cmis cmis.PathStates);
+  statuses = all_numbers memory (fields.Cmis cmis.ConfigStatus);
+  path_state_changed = eight_lanes memory (fields.Cmis cmis.PathStateChanged);
+  tx_fault = eight_lanes memory (fields.Cmis cmis.TxFailure);
+  tx_los = eight_lanes memory (fields.Cmis cmis.TxLos);
+  tx_lol = eight_lanes memory (fields.Cmis cmis.TxLol);
+  tx_eq_fail = eight_lanes memory (fields.Cmis cmis.TxEqFail);
+  rx_los = eight_lanes memory (fields.Cmis cmis.RxLos);
+  rx_lol = eight_lanes memory (fields.Cmis cmis.RxLol);
+  tx_power = levels_at (eight_lanes memory) (fields.Cmis cmis.TxPowerHighAlarm) (fields.Cmis cmis.TxPowerLowAlarm) (fields.Cmis cmis.TxPowerHighWarning) (fields.Cmis cmis.TxPowerLowWarning);
+  tx_bias = levels_at (eight_lanes memory) (fields.Cmis cmis.TxBiasHighAlarm) (fields.Cmis cmis.TxBiasLowAlarm) (fields.Cmis cmis.TxBiasHighWarning) (fields.Cmis cmis.TxBiasLowWarning);
+  rx_power = levels_at (eight_lanes memory) (fields.Cmis cmis.RxPowerHighAlarm) (fields.Cmis cmis.RxPowerLowAlarm) (fields.Cmis cmis.RxPowerHighWarning) (fields.Cmis cmis.RxPowerLowWarning);
 }
 
 abbrev pub qsfp_flags : Memory → ModuleFlags
 qsfp_flags memory = record no_flags {
   family = family_number families.Sff8636;
   lanes = 4;
-  tx_fault = four_lanes memory fields.QTxFault;
-  tx_los = four_lanes memory fields.QTxLos;
-  tx_lol = four_lanes memory fields.QTxLol;
-  rx_los = four_lanes memory fields.QRxLos;
-  rx_lol = four_lanes memory fields.QRxLol;
-  temperature = past_limits memory fields.QTempFlag 1;
-  vcc = past_limits memory fields.QVccFlag 1;
-  tx_power = levels_at (four_lanes memory) fields.QTxPowerHighAlarm fields.QTxPowerLowAlarm fields.QTxPowerHighWarning fields.QTxPowerLowWarning;
-  tx_bias = levels_at (four_lanes memory) fields.QTxBiasHighAlarm fields.QTxBiasLowAlarm fields.QTxBiasHighWarning fields.QTxBiasLowWarning;
-  rx_power = levels_at (four_lanes memory) fields.QRxPowerHighAlarm fields.QRxPowerLowAlarm fields.QRxPowerHighWarning fields.QRxPowerLowWarning;
+  tx_fault = four_lanes memory (fields.Sff8636 sff8636.TxFault);
+  tx_los = four_lanes memory (fields.Sff8636 sff8636.TxLos);
+  tx_lol = four_lanes memory (fields.Sff8636 sff8636.TxLol);
+  rx_los = four_lanes memory (fields.Sff8636 sff8636.RxLos);
+  rx_lol = four_lanes memory (fields.Sff8636 sff8636.RxLol);
+  temperature = past_limits memory (fields.Sff8636 sff8636.TempFlag) 1;
+  vcc = past_limits memory (fields.Sff8636 sff8636.VccFlag) 1;
+  tx_power = levels_at (four_lanes memory) (fields.Sff8636 sff8636.TxPowerHighAlarm) (fields.Sff8636 sff8636.TxPowerLowAlarm) (fields.Sff8636 sff8636.TxPowerHighWarning) (fields.Sff8636 sff8636.TxPowerLowWarning);
+  tx_bias = levels_at (four_lanes memory) (fields.Sff8636 sff8636.TxBiasHighAlarm) (fields.Sff8636 sff8636.TxBiasLowAlarm) (fields.Sff8636 sff8636.TxBiasHighWarning) (fields.Sff8636 sff8636.TxBiasLowWarning);
+  rx_power = levels_at (four_lanes memory) (fields.Sff8636 sff8636.RxPowerHighAlarm) (fields.Sff8636 sff8636.RxPowerLowAlarm) (fields.Sff8636 sff8636.RxPowerHighWarning) (fields.Sff8636 sff8636.RxPowerLowWarning);
 }
 
 abbrev pub sfp_flags : Memory → ModuleFlags
 sfp_flags memory = record no_flags {
   family = family_number families.Sff8472;
   lanes = 1;
-  tx_fault = lane_bit memory fields.STxFault 1 1;
-  rx_los = lane_bit memory fields.SRxLos 1 1;
-  temperature = past_pairs memory fields.SAlarms fields.SWarnings 1;
-  vcc = past_pairs memory fields.SAlarms fields.SWarnings 3;
-  tx_power = past_pairs memory fields.SAlarms fields.SWarnings 7;
-  tx_bias = past_pairs memory fields.SAlarms fields.SWarnings 5;
-  rx_power = past_pairs memory fields.SRxAlarms fields.SRxWarnings 1;
+  tx_fault = lane_bit memory (fields.Sff8472 sff8472.TxFault) 1 1;
+  rx_los = lane_bit memory (fields.Sff8472 sff8472.RxLos) 1 1;
+  temperature = past_pairs memory (fields.Sff8472 sff8472.Alarms) (fields.Sff8472 sff8472.Warnings) 1;
+  vcc = past_pairs memory (fields.Sff8472 sff8472.Alarms) (fields.Sff8472 sff8472.Warnings) 3;
+  tx_power = past_pairs memory (fields.Sff8472 sff8472.Alarms) (fields.Sff8472 sff8472.Warnings) 7;
+  tx_bias = past_pairs memory (fields.Sff8472 sff8472.Alarms) (fields.Sff8472 sff8472.Warnings) 5;
+  rx_power = past_pairs memory (fields.Sff8472 sff8472.RxAlarms) (fields.Sff8472 sff8472.RxWarnings) 1;
 }
 
 unfoldable pub cmis_flags : Memory → ModuleFlags

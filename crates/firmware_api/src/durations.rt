@@ -6,7 +6,7 @@ ghost use Rattle.firmware_api.specs.Statuses.{done, status_by};
 use crate::half::{HalfBytes, image_of, read_advert};
 use crate::status::DONE;
 use control_sets::longest_duration;
-use field_tables::{Field, number};
+use field_tables::{field, number};
 use paged_memory::Image;
 
 /// How long states of a module and of its data paths last at most, in milliseconds; `u32::MAX` if it does not say.
@@ -40,12 +40,12 @@ pub extern "C" fn dovecounter_durations(halves: &[HalfBytes], durations: &mut Du
 fn put_durations(image: &Image, durations: &mut Durations)
     ensures { durations.new ≡ durations_of image.now }
 {
-    durations.module_power_up = longest(number(image, Field::CMaxDurationModulePwrUp));
-    durations.module_power_down = longest(number(image, Field::CMaxDurationModulePwrDn));
-    durations.path_init = longest(number(image, Field::CMaxDurationDPInit));
-    durations.path_deinit = longest(number(image, Field::CMaxDurationDPDeinit));
-    durations.path_tx_turn_on = longest(number(image, Field::CMaxDurationDPTxTurnOn));
-    durations.path_tx_turn_off = longest(number(image, Field::CMaxDurationDPTxTurnOff));
+    durations.module_power_up = longest(number(image, field!(Cmis MaxDurationModulePwrUp)));
+    durations.module_power_down = longest(number(image, field!(Cmis MaxDurationModulePwrDn)));
+    durations.path_init = longest(number(image, field!(Cmis MaxDurationDPInit)));
+    durations.path_deinit = longest(number(image, field!(Cmis MaxDurationDPDeinit)));
+    durations.path_tx_turn_on = longest(number(image, field!(Cmis MaxDurationDPTxTurnOn)));
+    durations.path_tx_turn_off = longest(number(image, field!(Cmis MaxDurationDPTxTurnOff)));
 }
 
 // The end of the range that a code of durations stands for, in milliseconds.

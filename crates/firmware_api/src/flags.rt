@@ -12,7 +12,7 @@ ghost use Rattle.firmware_api.specs.Statuses.{done, status_by};
 use crate::half::{HalfBytes, half_status, image_of};
 use crate::read_module::family_number;
 use crate::status::{DONE, decode_status};
-use field_tables::{Field, all_numbers, bit_at, number};
+use field_tables::{Field, all_numbers, bit_at, field, number};
 use module_decoding::{Report, family_with, is_flat};
 use paged_memory::{Family, Image};
 
@@ -124,37 +124,37 @@ fn put_cmis_flags(image: &Image, flags: &mut ModuleFlags)
 {
     *flags = NO_FLAGS;
     flags.family = family_number(Family::Cmis);
-    flags.state = number(image, Field::CModuleState);
-    put_past_limits(image, Field::CModuleFlag, 1, &mut flags.temperature);
-    put_past_limits(image, Field::CModuleFlag, 5, &mut flags.vcc);
+    flags.state = number(image, field!(Cmis ModuleState));
+    put_past_limits(image, field!(Cmis ModuleFlag), 1, &mut flags.temperature);
+    put_past_limits(image, field!(Cmis ModuleFlag), 5, &mut flags.vcc);
     if is_flat(image) {
         return;
     }
     flags.lanes = 8;
-    flags.path_states = all_numbers(image, Field::CPathStates);
-    flags.statuses = all_numbers(image, Field::CConfigStatus);
-    flags.path_state_changed = eight_lanes(image, Field::CPathStateChanged);
-    flags.tx_fault = eight_lanes(image, Field::CTxFailure);
-    flags.tx_los = eight_lanes(image, Field::CTxLos);
-    flags.tx_lol = eight_lanes(image, Field::CTxLol);
-    flags.tx_eq_fail = eight_lanes(image, Field::CTxEqFail);
-    flags.rx_los = eight_lanes(image, Field::CRxLos);
-    flags.rx_lol = eight_lanes(image, Field::CRxLol);
+    flags.path_states = all_numbers(image, field!(Cmis PathStates));
+    flags.statuses = all_numbers(image, field!(Cmis ConfigStatus));
+    flags.path_state_changed = eight_lanes(image, field!(Cmis PathStateChanged));
+    flags.tx_fault = eight_lanes(image, field!(Cmis TxFailure));
+    flags.tx_los = eight_lanes(image, field!(Cmis TxLos));
+    flags.tx_lol = eight_lanes(image, field!(Cmis TxLol));
+    flags.tx_eq_fail = eight_lanes(image, field!(Cmis TxEqFail));
+    flags.rx_los = eight_lanes(image, field!(Cmis RxLos));
+    flags.rx_lol = eight_lanes(image, field!(Cmis RxLol));
     let tx_power = &mut flags.tx_power;
-    tx_power.high_alarm = eight_lanes(image, Field::CTxPowerHighAlarm);
-    tx_power.low_alarm = eight_lanes(image, Field::CTxPowerLowAlarm);
-    tx_power.high_warning = eight_lanes(image, Field::CTxPowerHighWarning);
-    tx_power.low_warning = eight_lanes(image, Field::CTxPowerLowWarning);
+    tx_power.high_alarm = eight_lanes(image, field!(Cmis TxPowerHighAlarm));
+    tx_power.low_alarm = eight_lanes(image, field!(Cmis TxPowerLowAlarm));
+    tx_power.high_warning = eight_lanes(image, field!(Cmis TxPowerHighWarning));
+    tx_power.low_warning = eight_lanes(image, field!(Cmis TxPowerLowWarning));
     let tx_bias = &mut flags.tx_bias;
-    tx_bias.high_alarm = eight_lanes(image, Field::CTxBiasHighAlarm);
-    tx_bias.low_alarm = eight_lanes(image, Field::CTxBiasLowAlarm);
-    tx_bias.high_warning = eight_lanes(image, Field::CTxBiasHighWarning);
-    tx_bias.low_warning = eight_lanes(image, Field::CTxBiasLowWarning);
+    tx_bias.high_alarm = eight_lanes(image, field!(Cmis TxBiasHighAlarm));
+    tx_bias.low_alarm = eight_lanes(image, field!(Cmis TxBiasLowAlarm));
+    tx_bias.high_warning = eight_lanes(image, field!(Cmis TxBiasHighWarning));
+    tx_bias.low_warning = eight_lanes(image, field!(Cmis TxBiasLowWarning));
     let rx_power = &mut flags.rx_power;
-    rx_power.high_alarm = eight_lanes(image, Field::CRxPowerHighAlarm);
-    rx_power.low_alarm = eight_lanes(image, Field::CRxPowerLowAlarm);
-    rx_power.high_warning = eight_lanes(image, Field::CRxPowerHighWarning);
-    rx_power.low_warning = eight_lanes(image, Field::CRxPowerLowWarning);
+    rx_power.high_alarm = eight_lanes(image, field!(Cmis RxPowerHighAlarm));
+    rx_power.low_alarm = eight_lanes(image, field!(Cmis RxPowerLowAlarm));
+    rx_power.high_warning = eight_lanes(image, field!(Cmis RxPowerHighWarning));
+    rx_power.low_warning = eight_lanes(image, field!(Cmis RxPowerLowWarning));
 }
 
 fn put_qsfp_flags(image: &Image, flags: &mut ModuleFlags)
@@ -163,28 +163,28 @@ fn put_qsfp_flags(image: &Image, flags: &mut ModuleFlags)
     *flags = NO_FLAGS;
     flags.family = family_number(Family::Sff8636);
     flags.lanes = 4;
-    flags.tx_fault = four_lanes(image, Field::QTxFault);
-    flags.tx_los = four_lanes(image, Field::QTxLos);
-    flags.tx_lol = four_lanes(image, Field::QTxLol);
-    flags.rx_los = four_lanes(image, Field::QRxLos);
-    flags.rx_lol = four_lanes(image, Field::QRxLol);
-    put_past_limits(image, Field::QTempFlag, 1, &mut flags.temperature);
-    put_past_limits(image, Field::QVccFlag, 1, &mut flags.vcc);
+    flags.tx_fault = four_lanes(image, field!(Sff8636 TxFault));
+    flags.tx_los = four_lanes(image, field!(Sff8636 TxLos));
+    flags.tx_lol = four_lanes(image, field!(Sff8636 TxLol));
+    flags.rx_los = four_lanes(image, field!(Sff8636 RxLos));
+    flags.rx_lol = four_lanes(image, field!(Sff8636 RxLol));
+    put_past_limits(image, field!(Sff8636 TempFlag), 1, &mut flags.temperature);
+    put_past_limits(image, field!(Sff8636 VccFlag), 1, &mut flags.vcc);
     let tx_power = &mut flags.tx_power;
-    tx_power.high_alarm = four_lanes(image, Field::QTxPowerHighAlarm);
-    tx_power.low_alarm = four_lanes(image, Field::QTxPowerLowAlarm);
-    tx_power.high_warning = four_lanes(image, Field::QTxPowerHighWarning);
-    tx_power.low_warning = four_lanes(image, Field::QTxPowerLowWarning);
+    tx_power.high_alarm = four_lanes(image, field!(Sff8636 TxPowerHighAlarm));
+    tx_power.low_alarm = four_lanes(image, field!(Sff8636 TxPowerLowAlarm));
+    tx_power.high_warning = four_lanes(image, field!(Sff8636 TxPowerHighWarning));
+    tx_power.low_warning = four_lanes(image, field!(Sff8636 TxPowerLowWarning));
     let tx_bias = &mut flags.tx_bias;
-    tx_bias.high_alarm = four_lanes(image, Field::QTxBiasHighAlarm);
-    tx_bias.low_alarm = four_lanes(image, Field::QTxBiasLowAlarm);
-    tx_bias.high_warning = four_lanes(image, Field::QTxBiasHighWarning);
-    tx_bias.low_warning = four_lanes(image, Field::QTxBiasLowWarning);
+    tx_bias.high_alarm = four_lanes(image, field!(Sff8636 TxBiasHighAlarm));
+    tx_bias.low_alarm = four_lanes(image, field!(Sff8636 TxBiasLowAlarm));
+    tx_bias.high_warning = four_lanes(image, field!(Sff8636 TxBiasHighWarning));
+    tx_bias.low_warning = four_lanes(image, field!(Sff8636 TxBiasLowWarning));
     let rx_power = &mut flags.rx_power;
-    rx_power.high_alarm = four_lanes(image, Field::QRxPowerHighAlarm);
-    rx_power.low_alarm = four_lanes(image, Field::QRxPowerLowAlarm);
-    rx_power.high_warning = four_lanes(image, Field::QRxPowerHighWarning);
-    rx_power.low_warning = four_lanes(image, Field::QRxPowerLowWarning);
+    rx_power.high_alarm = four_lanes(image, field!(Sff8636 RxPowerHighAlarm));
+    rx_power.low_alarm = four_lanes(image, field!(Sff8636 RxPowerLowAlarm));
+    rx_power.high_warning = four_lanes(image, field!(Sff8636 RxPowerHighWarning));
+    rx_power.low_warning = four_lanes(image, field!(Sff8636 RxPowerLowWarning));
 }
 
 fn put_sfp_flags(image: &Image, flags: &mut ModuleFlags)
@@ -193,10 +193,10 @@ fn put_sfp_flags(image: &Image, flags: &mut ModuleFlags)
     *flags = NO_FLAGS;
     flags.family = family_number(Family::Sff8472);
     flags.lanes = 1;
-    flags.tx_fault = lane_bit(image, Field::STxFault, 1, 1);
-    flags.rx_los = lane_bit(image, Field::SRxLos, 1, 1);
-    let pairs = (Field::SAlarms, Field::SWarnings);
-    let rx_pairs = (Field::SRxAlarms, Field::SRxWarnings);
+    flags.tx_fault = lane_bit(image, field!(Sff8472 TxFault), 1, 1);
+    flags.rx_los = lane_bit(image, field!(Sff8472 RxLos), 1, 1);
+    let pairs = (field!(Sff8472 Alarms), field!(Sff8472 Warnings));
+    let rx_pairs = (field!(Sff8472 RxAlarms), field!(Sff8472 RxWarnings));
     put_past_pairs(image, pairs, 1, &mut flags.temperature);
     put_past_pairs(image, pairs, 3, &mut flags.vcc);
     put_past_pairs(image, pairs, 7, &mut flags.tx_power);

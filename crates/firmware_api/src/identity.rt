@@ -11,7 +11,7 @@ use crate::half::{HalfBytes, half_status, image_of};
 use crate::read_module::{family_number, number_of};
 use crate::shown_texts::put_text;
 use crate::status::{DONE, decode_status};
-use field_tables::{Field, Sum, all_numbers, is_sum_right, number};
+use field_tables::{Sum, all_numbers, field, is_sum_right, number};
 use module_decoding::{Report, amount_at, family_with, is_flat, length_in, shared_fields};
 use paged_memory::{Family, Image};
 
@@ -84,13 +84,17 @@ fn put_cmis(image: &Image, identity: &mut ModuleIdentity)
     ensures { identity.new ≡ spec.cmis_identity image.now }
 {
     put_shared(image, Family::Cmis, identity);
-    identity.max_power = amount_at(image, Field::CMaxPower, None, 1);
-    identity.length = length_in(image, Field::CLengthBase, Field::CLengthMultiplier);
-    identity.revision = number(image, Field::CRevision);
+    identity.max_power = amount_at(image, field!(Cmis MaxPower), None, 1);
+    identity.length = length_in(
+        image,
+        field!(Cmis LengthBase),
+        field!(Cmis LengthMultiplier),
+    );
+    identity.revision = number(image, field!(Cmis Revision));
     identity.flat = number_of(is_flat(image));
-    identity.media_type = number(image, Field::CMediaType);
-    identity.power_class = number(image, Field::CPowerClass) + 1;
-    identity.technology = number(image, Field::CTechnology);
+    identity.media_type = number(image, field!(Cmis MediaType));
+    identity.power_class = number(image, field!(Cmis PowerClass)) + 1;
+    identity.technology = number(image, field!(Cmis Technology));
 }
 
 const NO_IDENTITY: ModuleIdentity = ModuleIdentity {

@@ -14,7 +14,7 @@ use crate::measured_values::{
 };
 use crate::read_module::{family_number, number_of};
 use crate::status::{DONE, decode_status};
-use field_tables::{Field, Sum, bit, is_sum_right};
+use field_tables::{Field, bit, field, is_sum_right, sum_of};
 use module_decoding::{Report, family_with, is_flat};
 use paged_memory::{Family, Image};
 
@@ -99,15 +99,15 @@ fn put_cmis_monitors(image: &Image, monitors: &mut ModuleMonitors)
     put_value(
         image,
         paged,
-        Field::CTemperature,
-        Field::CTempLimits,
+        field!(Cmis Temperature),
+        field!(Cmis TempLimits),
         &mut monitors.temperature,
     );
     put_value(
         image,
         paged,
-        Field::CVcc,
-        Field::CVccLimits,
+        field!(Cmis Vcc),
+        field!(Cmis VccLimits),
         &mut monitors.vcc,
     );
     monitors.family = family_number(Family::Cmis);
@@ -116,37 +116,37 @@ fn put_cmis_monitors(image: &Image, monitors: &mut ModuleMonitors)
     }
     put_supported(
         image,
-        Field::CTxPowerMonitor,
-        Field::CTxPower,
+        field!(Cmis TxPowerMonitor),
+        field!(Cmis TxPower),
         None,
-        Field::CTxPowerLimits,
+        field!(Cmis TxPowerLimits),
         &mut monitors.tx_power,
     );
     put_supported(
         image,
-        Field::CTxBiasMonitor,
-        Field::CTxBias,
-        Some(Field::CBiasMultiplier),
-        Field::CTxBiasLimits,
+        field!(Cmis TxBiasMonitor),
+        field!(Cmis TxBias),
+        Some(field!(Cmis BiasMultiplier)),
+        field!(Cmis TxBiasLimits),
         &mut monitors.tx_bias,
     );
     put_supported(
         image,
-        Field::CRxPowerMonitor,
-        Field::CRxPower,
+        field!(Cmis RxPowerMonitor),
+        field!(Cmis RxPower),
         None,
-        Field::CRxPowerLimits,
+        field!(Cmis RxPowerLimits),
         &mut monitors.rx_power,
     );
     monitors.lanes = 8;
     monitors.has_limits = 1;
-    monitors.sum = number_of(is_sum_right(image, Sum::CSum02));
+    monitors.sum = number_of(is_sum_right(image, sum_of!(Cmis Sum02)));
 }
 
 fn put_qsfp_monitors(image: &Image, monitors: &mut ModuleMonitors)
     ensures { monitors.new ≡ spec.qsfp_monitors image.now }
 {
-    let limited = !bit(image, Field::QFlatMemory);
+    let limited = !bit(image, field!(Sff8636 FlatMemory));
     put_measured(image, limited, &QSFP, monitors);
     monitors.family = family_number(Family::Sff8636);
     monitors.lanes = 4;
@@ -160,33 +160,33 @@ fn put_sfp_monitors(image: &Image, monitors: &mut ModuleMonitors)
     monitors.family = family_number(Family::Sff8472);
     monitors.lanes = 1;
     monitors.has_limits = 1;
-    monitors.sum = number_of(is_sum_right(image, Sum::SSumDmi));
+    monitors.sum = number_of(is_sum_right(image, sum_of!(Sff8472 SumDmi)));
 }
 
 const QSFP: MeasuredFields = MeasuredFields {
-    temperature: Field::QTemperature,
-    temperature_limits: Field::QTempLimits,
-    vcc: Field::QVcc,
-    vcc_limits: Field::QVccLimits,
-    tx_power: Field::QTxPower,
-    tx_power_limits: Field::QTxPowerLimits,
-    tx_bias: Field::QTxBias,
-    tx_bias_limits: Field::QTxBiasLimits,
-    rx_power: Field::QRxPower,
-    rx_power_limits: Field::QRxPowerLimits,
+    temperature: field!(Sff8636 Temperature),
+    temperature_limits: field!(Sff8636 TempLimits),
+    vcc: field!(Sff8636 Vcc),
+    vcc_limits: field!(Sff8636 VccLimits),
+    tx_power: field!(Sff8636 TxPower),
+    tx_power_limits: field!(Sff8636 TxPowerLimits),
+    tx_bias: field!(Sff8636 TxBias),
+    tx_bias_limits: field!(Sff8636 TxBiasLimits),
+    rx_power: field!(Sff8636 RxPower),
+    rx_power_limits: field!(Sff8636 RxPowerLimits),
 };
 
 const SFP: MeasuredFields = MeasuredFields {
-    temperature: Field::STemperature,
-    temperature_limits: Field::STempLimits,
-    vcc: Field::SVcc,
-    vcc_limits: Field::SVccLimits,
-    tx_power: Field::STxPower,
-    tx_power_limits: Field::STxPowerLimits,
-    tx_bias: Field::STxBias,
-    tx_bias_limits: Field::STxBiasLimits,
-    rx_power: Field::SRxPower,
-    rx_power_limits: Field::SRxPowerLimits,
+    temperature: field!(Sff8472 Temperature),
+    temperature_limits: field!(Sff8472 TempLimits),
+    vcc: field!(Sff8472 Vcc),
+    vcc_limits: field!(Sff8472 VccLimits),
+    tx_power: field!(Sff8472 TxPower),
+    tx_power_limits: field!(Sff8472 TxPowerLimits),
+    tx_bias: field!(Sff8472 TxBias),
+    tx_bias_limits: field!(Sff8472 TxBiasLimits),
+    rx_power: field!(Sff8472 RxPower),
+    rx_power_limits: field!(Sff8472 RxPowerLimits),
 };
 
 const NO_LANES: LaneValues = LaneValues {

@@ -21,7 +21,8 @@ use Rattle.conversations.specs.Wanted.{op_of}
 use Rattle.control_sets.specs.OutcomeAnswers.{most_steps}
 use Rattle.datapath_states.specs.StateCodes.{code_of}
 use Rattle.datapath_states.specs.declared.state.PathState.{PathState}
-use Rattle.field_tables.specs.declared.field.Field.TheVariants.{CModuleState}
+use Rattle.field_tables.specs.declared.field.Field.TheVariants as fields
+use Rattle.field_tables.specs.declared.table.cmis.CmisField.TheVariants as cmis
 use Rattle.field_tables.specs.FieldValues.{number_in_byte}
 use Rattle.field_tables.specs.LaneSets.{IsLane}
 use Rattle.field_tables.proofs.TrueTests.{range_passes}
@@ -133,8 +134,8 @@ module _ (most : ℕ) (goal : Goal) (sim : SimModule) (up : ComeUp most goal.con
   lower_seen : (page : List ℕ) → below (map (shown_byte sim page) (range_with_len 0 128)) ≡ Lanes
   lower_seen page =
       let bytes = map (shown_byte sim page) (range_with_len 0 128) in
-      let code : number_in_byte CModuleState (slice_index bytes 3) ≡ 3 =
-      ap (number_in_byte CModuleState) (get_or-map-range_with_len (shown_byte sim page) 0 128 3 3 0 (omega arith) refl) ∙ read_state sim page ∙ ap (λ (state : ModuleState). module_codes.code_of state) up.free.ready in
+      let code : number_in_byte (fields.Cmis cmis.ModuleState) (slice_index bytes 3) ≡ 3 =
+      ap (number_in_byte (fields.Cmis cmis.ModuleState)) (get_or-map-range_with_len (shown_byte sim page) 0 128 3 3 0 (omega arith) refl) ∙ read_state sim page ∙ ap (λ (state : ModuleState). module_codes.code_of state) up.free.ready in
       ap (λ (code : ℕ). if code == 3 then Lanes else Seen false) code
 
   -- page 11h

@@ -8,7 +8,8 @@ use Rattle.std.proofs.lemmas.List.Elements.{All-filter}
 use Rattle.std.proofs.lemmas.List.Folds.{Any-from_list_any, list_any-from_Any}
 use Rattle.std.proofs.lemmas.List.FromFn.{length-map-range_with_len}
 use Rattle.std.proofs.lemmas.List.Kept.{AllPairs-filter}
-use Rattle.field_tables.specs.declared.field.Field.TheVariants.{CMaxPower, CModuleState}
+use Rattle.field_tables.specs.declared.field.Field.TheVariants as fields
+use Rattle.field_tables.specs.declared.table.cmis.CmisField.TheVariants as cmis
 use Rattle.field_tables.specs.Readings.{number}
 use Rattle.field_tables.specs.LaneBytes.{contains-run_of}
 use Rattle.field_tables.specs.LaneSets.{IsLane, Lanes, every_lane}
@@ -150,7 +151,7 @@ judged_whole wanted image (Some page) decision (goal, has, is) =
 
 in_state : (wanted : Wanted) (image : Memory) (ready : Bool) (decision : Decision) → IsDecisionIn wanted image ready decision → IsJudgedWhole decision
 in_state wanted image true decision is = judged_whole wanted image (page_of_lanes image) decision is
-in_state wanted image false decision is = wake_if (nat_le (number image CMaxPower) wanted.max_power) decision is
+in_state wanted image false decision is = wake_if (nat_le (number image (fields.Cmis cmis.MaxPower)) wanted.max_power) decision is
 
 by_advert : (found : Option AdvertFault) (decision : Decision) (In : Type 0) → (In → IsJudgedWhole decision) → MatchOption found In (λ fault. decision ≡ Leave (Advert fault)) → IsJudgedWhole decision
 by_advert None decision In whole is = whole is
@@ -158,4 +159,4 @@ by_advert (Some fault) decision In whole is = left_whole decision (Leave (Advert
 
 -- a decision for a module that is to be awake
 pub decided_whole : (wanted : Wanted) (image : Memory) (decision : Decision) → IsDecisionAwake wanted image decision → IsJudgedWhole decision
-decided_whole wanted image decision is = by_advert (advert_fault_under (conventions_of wanted) image) decision (IsDecisionIn wanted image (number image CModuleState == 3) decision) (in_state wanted image (number image CModuleState == 3) decision) is
+decided_whole wanted image decision is = by_advert (advert_fault_under (conventions_of wanted) image) decision (IsDecisionIn wanted image (number image (fields.Cmis cmis.ModuleState) == 3) decision) (in_state wanted image (number image (fields.Cmis cmis.ModuleState) == 3) decision) is

@@ -14,7 +14,7 @@ use Rattle.std.specs.Option.{option_map}
 use Rattle.bus_model.specs.ScriptedBus.{passed_on, ticked_times}
 use Rattle.field_tables.specs.LaneSets.{lanes_in}
 use Rattle.field_tables.specs.Registers.{first_byte}
-use Rattle.field_tables.specs.declared.field.Register.TheVariants.{CApplyDPInit, CDPDeinit, CStagedControl}
+use Rattle.field_tables.specs.declared.field.Register.TheVariants as registers
 use Rattle.paged_memory.specs.declared.mapped_page.MappedPage.{MappedPage}
 use Rattle.paged_memory.specs.Images.{Memory}
 use Rattle.paged_memory.specs.Keys.{lower_key, page_key, upper_key}
@@ -56,12 +56,12 @@ halves_high : (sim : SimModule) (address byte : ℕ) → HasHalves sim → HasHa
 unfolding applied
 halves_high sim address byte has =
     let deinit = record sim { deinit = lanes_in byte } in
-    let staged = staged_at sim (address - first_byte CStagedControl + 1) byte in
-    let rest = if is_in CStagedControl address then staged else sim in
-    either HasHalves (is_at CDPDeinit address) deinit (if is_at CApplyDPInit address then applied sim (lanes_in byte) else rest) has
-    (either HasHalves (is_at CApplyDPInit address) (applied sim (lanes_in byte)) rest
+    let staged = staged_at sim (address - first_byte registers.StagedControl + 1) byte in
+    let rest = if is_in registers.StagedControl address then staged else sim in
+    either HasHalves (is_at registers.DPDeinit address) deinit (if is_at registers.ApplyDPInit address then applied sim (lanes_in byte) else rest) has
+    (either HasHalves (is_at registers.ApplyDPInit address) (applied sim (lanes_in byte)) rest
     (either HasHalves _ sim (applied_all sim (lanes_in byte)) has has)
-    (either HasHalves (is_in CStagedControl address) staged sim has has))
+    (either HasHalves (is_in registers.StagedControl address) staged sim has has))
 
 halves_byte : (sim : SimModule) (address byte : ℕ) → HasHalves sim → HasHalves (stored_byte sim address byte)
 unfolding stored_byte

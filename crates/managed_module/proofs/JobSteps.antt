@@ -15,7 +15,7 @@ use Rattle.conversations.specs.declared.on_page.OnPage.{OnPage}
 use Rattle.conversations.specs.Selecting.{IsFetch}
 use Rattle.field_tables.specs.LaneSets.{IsLane}
 use Rattle.field_tables.specs.Registers.{byte_count, first_byte}
-use Rattle.field_tables.specs.declared.field.Register.TheVariants.{CGlobalControls, CGlobalStatus}
+use Rattle.field_tables.specs.declared.field.Register.TheVariants as registers
 use Rattle.module_states.specs.Codes as module_codes
 use Rattle.module_states.specs.declared.state.ModuleState.{ModuleState}
 use Rattle.module_states.specs.declared.state.ModuleState.TheVariants as module_is
@@ -226,9 +226,9 @@ module _ (most : ℕ) (sim : SimModule) (has : HasHalves sim) (steady : IsSteady
   Idle change reply = (change.stage ≡ stage.Stored) × (change_after change reply ≡ change)
 
   unread_step : (reply : Reply) → reading_waits most false ≤ left → IsWoken stage.Unread (stage_of (change_after (record { power = Awake; stage = stage.Unread; fault = None }) reply)) read_controls (Idle (record { power = Awake; stage = stage.Unread; fault = None }) reply)
-  unread_step (Bytes bytes) few = record { calm = steady_read most sim has (first_byte CGlobalControls) (byte_count CGlobalControls) steady; less = left; at = few; fewer = omega arith; idles = λ idle. absurd (let wrong : stage.Unread ≡ stage.Stored = idle.0 in cc) }
-  unread_step Done few = record { calm = steady_read most sim has (first_byte CGlobalControls) (byte_count CGlobalControls) steady; less = left; at = few; fewer = omega arith; idles = λ idle. absurd (let wrong : stage.Unread ≡ stage.Stored = idle.0 in cc) }
-  unread_step Refused few = record { calm = steady_read most sim has (first_byte CGlobalControls) (byte_count CGlobalControls) steady; less = left; at = few; fewer = omega arith; idles = λ idle. absurd (let wrong : stage.Unread ≡ stage.Stored = idle.0 in cc) }
+  unread_step (Bytes bytes) few = record { calm = steady_read most sim has (first_byte registers.GlobalControls) (byte_count registers.GlobalControls) steady; less = left; at = few; fewer = omega arith; idles = λ idle. absurd (let wrong : stage.Unread ≡ stage.Stored = idle.0 in cc) }
+  unread_step Done few = record { calm = steady_read most sim has (first_byte registers.GlobalControls) (byte_count registers.GlobalControls) steady; less = left; at = few; fewer = omega arith; idles = λ idle. absurd (let wrong : stage.Unread ≡ stage.Stored = idle.0 in cc) }
+  unread_step Refused few = record { calm = steady_read most sim has (first_byte registers.GlobalControls) (byte_count registers.GlobalControls) steady; less = left; at = few; fewer = omega arith; idles = λ idle. absurd (let wrong : stage.Unread ≡ stage.Stored = idle.0 in cc) }
 
   -- the controls are stored
   module _ (byte : ℕ) where
@@ -236,7 +236,7 @@ module _ (most : ℕ) (sim : SimModule) (has : HasHalves sim) (steady : IsSteady
     stores = set_controls (wanted_controls Awake byte)
 
     stored_is : (passed_on conduct stores sim).1 ≡ record sim { control = wanted_controls Awake byte }
-    stored_is = stores_half sim (first_byte CGlobalControls) (wanted_controls Awake byte ∷ []) has ∙ controls_stored sim (wanted_controls Awake byte)
+    stored_is = stores_half sim (first_byte registers.GlobalControls) (wanted_controls Awake byte ∷ []) has ∙ controls_stored sim (wanted_controls Awake byte)
 
     awake_mid : has_low_power (passed_on conduct stores sim).1 ≡ false
     awake_mid = ap (λ (s : SimModule). has_low_power s) stored_is ∙ awake_controls byte sim.pin
@@ -271,7 +271,7 @@ module _ (most : ℕ) (sim : SimModule) (has : HasHalves sim) (steady : IsSteady
   ready_near : (ticks : ℕ) → has_low_power sim ≡ false → until_ready sim.delays sim.state sim.ticks_left ≤ ticks → (has_low_power (module_after sim state_read) ≡ false)
       × (until_ready (module_after sim state_read).delays (module_after sim state_read).state (module_after sim state_read).ticks_left ≤ ticks - 1)
   ready_near ticks awake near =
-      let same = leaves sim A0 (first_byte CGlobalStatus) (byte_count CGlobalStatus) in
+      let same = leaves sim A0 (first_byte registers.GlobalStatus) (byte_count registers.GlobalStatus) in
       let run = counters_passed most state_read sim steady.counters in
       let awake_mid : has_low_power state_mid ≡ false = power_kept sim state_mid same ∙ awake in
       let nearer = (module_wakes most state_mid run.time awake_mid run.state).1 in
@@ -286,7 +286,7 @@ module _ (most : ℕ) (sim : SimModule) (has : HasHalves sim) (steady : IsSteady
   stored_state ticks awake near few = let nearer = ready_near ticks awake near in (nearer.0, (ticks - 1, nearer.1, omega (arith, few)))
 
   read_steady : IsSteady most (module_after sim state_read)
-  read_steady = steady_read most sim has (first_byte CGlobalStatus) (byte_count CGlobalStatus) steady
+  read_steady = steady_read most sim has (first_byte registers.GlobalStatus) (byte_count registers.GlobalStatus) steady
 
   abbrev stored_change : PowerChange
   stored_change = record { power = Awake; stage = stage.Stored; fault = None }
@@ -306,8 +306,8 @@ module _ (most : ℕ) (sim : SimModule) (has : HasHalves sim) (steady : IsSteady
   stored_step : (reply : Reply) (ticks : ℕ) → reply ≡ reply_of sim state_read → has_low_power sim ≡ false → until_ready sim.delays sim.state sim.ticks_left ≤ ticks → ticks + reading_waits most true ≤ left
       → IsWoken stage.Stored (stage_of (change_after stored_change reply)) state_read (Idle stored_change reply)
   stored_step reply ticks gives awake near few =
-      let (page, reads) = reads_half sim (first_byte CGlobalStatus) (byte_count CGlobalStatus) has in
-      let bytes = map (shown_byte sim page) (range_with_len (first_byte CGlobalStatus) (byte_count CGlobalStatus)) in
+      let (page, reads) = reads_half sim (first_byte registers.GlobalStatus) (byte_count registers.GlobalStatus) has in
+      let bytes = map (shown_byte sim page) (range_with_len (first_byte registers.GlobalStatus) (byte_count registers.GlobalStatus)) in
       let code : module_code bytes ≡ module_codes.code_of sim.state = read_state sim page in
       let is : change_after stored_change reply ≡ moved_to stored_change (stage_judged (judged_power Awake (module_codes.code_of sim.state))) =
       ap (change_after stored_change) (gives ∙ reads) ∙ ap (λ (code : ℕ). moved_to stored_change (stage_judged (judged_power Awake code))) code in

@@ -5,7 +5,7 @@ use Rattle.std.proofs.lemmas.Bool.{not-false}
 use Rattle.std.proofs.lemmas.List.FromFn.{length-map-range_with_len}
 use Rattle.bus_model.specs.declared.device.Dev.TheVariants.{A0}
 use Rattle.field_tables.specs.Halves.{is_absent}
-use Rattle.field_tables.specs.declared.field.Register.TheVariants.{CGlobalControls}
+use Rattle.field_tables.specs.declared.field.Register.TheVariants as registers
 use Rattle.module_states.specs.declared.state.ModuleState.TheVariants as module_is
 use Rattle.paged_memory.specs.Images.{Memory}
 use Rattle.paged_memory.specs.Keys.{lower_key, upper_key}
@@ -48,7 +48,7 @@ new_steady most memory delays time = record {
   counters = new_counters_run most memory delays time;
   none = λ lane within. ap (λ (l : Lane). l.applying) (made_lane (start_lane memory) lane within);
   quiet = λ lane within. ap is_in_progress (made_lane (start_lane memory) lane within);
-  power = λ low. asleep_if (asks_low_power (byte_of_register memory CGlobalControls 0) false) low;
+  power = λ low. asleep_if (asks_low_power (byte_of_register memory registers.GlobalControls 0) false) low;
 }
 
 pub new_is_steady : NewIsSteady

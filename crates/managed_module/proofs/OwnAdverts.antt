@@ -9,8 +9,11 @@ use Rattle.std.proofs.lemmas.Bool.{and_parts, leb-true, not-false, not-true}
 use Rattle.bus_model.specs.declared.device.Dev.TheVariants.{A0}
 use Rattle.field_tables.specs.declared.field.Field.{Field}
 use Rattle.field_tables.specs.declared.field.Field.TheVariants as fields
+use Rattle.field_tables.specs.declared.table.cmis.CmisField.{CmisField}
+use Rattle.field_tables.specs.declared.table.cmis.CmisField.TheVariants as cmis_fields
 use Rattle.field_tables.specs.declared.field.Sum.{Sum}
-use Rattle.field_tables.specs.declared.field.Sum.TheVariants.{CSum00, CSum01}
+use Rattle.field_tables.specs.declared.field.Sum.TheVariants as sums
+use Rattle.field_tables.specs.declared.field.CmisSum.TheVariants as cmis_sums
 use Rattle.field_tables.specs.FieldValues.{field_key}
 use Rattle.field_tables.specs.FirstFault.{first_fault}
 use Rattle.field_tables.specs.Halves.{is_absent}
@@ -53,22 +56,22 @@ sum_of sum half = unwrap_or (option_map (λ bytes. sum_matches bytes (sum_row su
 module _ (image own : Memory) (lower : HasLower image own) (first : finmap.get image first_key ≡ finmap.get own first_key) (second : finmap.get image second_key ≡ finmap.get own second_key) where
   -- ---- Applications
 
-  column : (low more : Field) → field_key low ≡ lower_key A0 → field_key more ≡ second_key → list_all (plain_in low) (range_with_len 1 8) ≡ true → (n : ℕ) → 1 ≤ n → described image low more n ≡ described own low more n
+  column : (low more : CmisField) → field_key (fields.Cmis low) ≡ lower_key A0 → field_key (fields.Cmis more) ≡ second_key → list_all (plain_in (fields.Cmis low)) (range_with_len 1 8) ≡ true → (n : ℕ) → 1 ≤ n → described image low more n ≡ described own low more n
   column low more is above plain n from = by (nat_le n 8) refl where
     by : (b : Bool) → nat_le n 8 ≡ b → described image low more n ≡ described own low more n
     by true e =
-        ap (chosen low more n image) e ∙ lower_number image own low n lower is (in_range (plain_in low) 1 8 n plain from (omega (arith, leb-true n 8 e))) ∙ sym (ap (chosen low more n own) e)
-    by false e = ap (chosen low more n image) e ∙ same_half image own more (n - 8) (ap (finmap.get image) above ∙ second ∙ sym (ap (finmap.get own) above)) ∙ sym (ap (chosen low more n own) e)
+        ap (chosen (fields.Cmis low) (fields.Cmis more) n image) e ∙ lower_number image own (fields.Cmis low) n lower is (in_range (plain_in (fields.Cmis low)) 1 8 n plain from (omega (arith, leb-true n 8 e))) ∙ sym (ap (chosen (fields.Cmis low) (fields.Cmis more) n own) e)
+    by false e = ap (chosen (fields.Cmis low) (fields.Cmis more) n image) e ∙ same_half image own (fields.Cmis more) (n - 8) (ap (finmap.get image) above ∙ second ∙ sym (ap (finmap.get own) above)) ∙ sym (ap (chosen (fields.Cmis low) (fields.Cmis more) n own) e)
 
   app_same : (n : ℕ) → 1 ≤ n → app_at image n ≡ app_at own n
   unfolding app_at
   app_same n from =
-      let host = column fields.CAppHost fields.CAppHostMore refl refl refl n from in
-      let media = column fields.CAppMedia fields.CAppMediaMore refl refl refl n from in
-      let host_lanes = column fields.CAppHostLanes fields.CAppHostLanesMore refl refl refl n from in
-      let media_lanes = column fields.CAppMediaLanes fields.CAppMediaLanesMore refl refl refl n from in
-      let host_starts = column fields.CAppHostStarts fields.CAppHostStartsMore refl refl refl n from in
-      let media_starts = same_half image own fields.CMediaStarts n second in
+      let host = column cmis_fields.AppHost cmis_fields.AppHostMore refl refl refl n from in
+      let media = column cmis_fields.AppMedia cmis_fields.AppMediaMore refl refl refl n from in
+      let host_lanes = column cmis_fields.AppHostLanes cmis_fields.AppHostLanesMore refl refl refl n from in
+      let media_lanes = column cmis_fields.AppMediaLanes cmis_fields.AppMediaLanesMore refl refl refl n from in
+      let host_starts = column cmis_fields.AppHostStarts cmis_fields.AppHostStartsMore refl refl refl n from in
+      let media_starts = same_half image own (fields.Cmis cmis_fields.MediaStarts) n second in
       λ i. record {
         number = n;
         host_id = host i;
@@ -92,8 +95,8 @@ module _ (image own : Memory) (lower : HasLower image own) (first : finmap.get i
 
   pub advert_same : (conventions : Conventions) → advertised_under conventions image ≡ with_active (if conventions.now then active_in image else nothing_active) (advertised_under conventions own)
   advert_same conventions =
-      let media = lower_number image own fields.CMediaType 1 lower refl refl in
-      let unsupported = same_half image own fields.CUnsupportedMedia 1 first in
+      let media = lower_number image own (fields.Cmis cmis_fields.MediaType) 1 lower refl refl in
+      let unsupported = same_half image own (fields.Cmis cmis_fields.UnsupportedMedia) 1 first in
       let apps = apps_same in
       λ i. with_active (if conventions.now then active_in image else nothing_active)
       (with_pairing conventions.paired (with_counts conventions.counts_by_id (media i) (record { apps = apps i; unsupported = lanes_in (unsupported i); paired = false; active = nothing_active })))
@@ -110,13 +113,13 @@ module _ (image own : Memory) (lower : HasLower image own) (first : finmap.get i
   unfolding advert_fault
   fault_same =
       let there = lower_there in
-      let identifier = lower_number image own fields.CIdentifier 1 lower refl refl in
-      let revision = lower_number image own fields.CRevision 1 lower refl refl in
-      let flat = lower_number image own fields.CFlatMemory 1 lower refl refl in
+      let identifier = lower_number image own (fields.Cmis cmis_fields.Identifier) 1 lower refl refl in
+      let revision = lower_number image own (fields.Cmis cmis_fields.Revision) 1 lower refl refl in
+      let flat = lower_number image own (fields.Cmis cmis_fields.FlatMemory) 1 lower refl refl in
       let has_first = absent_same first_key first in
       let has_second = absent_same second_key second in
-      let first_sum = ap (sum_of CSum00) first in
-      let second_sum = ap (sum_of CSum01) second in
+      let first_sum = ap (sum_of (sums.Cmis cmis_sums.Sum00)) first in
+      let second_sum = ap (sum_of (sums.Cmis cmis_sums.Sum01)) second in
       λ i. first_fault ((there i, Absent (lower_key A0))
       ∷ (not (is_of Cmis (identifier i)), NotCmis (identifier i))
       ∷ (not (is_read_revision (revision i)), Revision (revision i))
@@ -128,11 +131,11 @@ module _ (image own : Memory) (lower : HasLower image own) (first : finmap.get i
       ∷ (not (second_sum i), BadSum 0x01)
       ∷ [])
 
-  pub identifier_same : number image fields.CIdentifier ≡ number own fields.CIdentifier
-  identifier_same = lower_number image own fields.CIdentifier 1 lower refl refl
+  pub identifier_same : number image (fields.Cmis cmis_fields.Identifier) ≡ number own (fields.Cmis cmis_fields.Identifier)
+  identifier_same = lower_number image own (fields.Cmis cmis_fields.Identifier) 1 lower refl refl
 
-  pub flat_same : number image fields.CFlatMemory ≡ number own fields.CFlatMemory
-  flat_same = lower_number image own fields.CFlatMemory 1 lower refl refl
+  pub flat_same : number image (fields.Cmis cmis_fields.FlatMemory) ≡ number own (fields.Cmis cmis_fields.FlatMemory)
+  flat_same = lower_number image own (fields.Cmis cmis_fields.FlatMemory) 1 lower refl refl
 
 -- ---- what is known of a module whose Applications are read
 
@@ -170,8 +173,8 @@ has_it : (memory : Memory) (key : Key) → is_absent memory key ≡ false → fi
 has_it memory key e = not-false (finmap.contains_key memory key) e
 
 pub record IsPaged (own : Memory) : Type 0 where
-  pub cmis : managed_by (number own fields.CIdentifier) ≡ Some Cmis
-  pub paged : (number own fields.CFlatMemory == 1) ≡ false
+  pub cmis : managed_by (number own (fields.Cmis cmis_fields.Identifier)) ≡ Some Cmis
+  pub paged : (number own (fields.Cmis cmis_fields.FlatMemory) == 1) ≡ false
   pub first : finmap.contains_key own first_key ≡ true
   pub second : finmap.contains_key own second_key ≡ true
 
@@ -186,8 +189,8 @@ paged_by own none =
     let first = and_parts _ _ flat.1 in
     let second = and_parts _ _ first.1 in
     record {
-      cmis = of_cmis (number own fields.CIdentifier) (not-false (is_of Cmis (number own fields.CIdentifier)) (not-true (not (is_of Cmis (number own fields.CIdentifier))) cmis.0));
-      paged = not-true (number own fields.CFlatMemory == 1) flat.0;
+      cmis = of_cmis (number own (fields.Cmis cmis_fields.Identifier)) (not-false (is_of Cmis (number own (fields.Cmis cmis_fields.Identifier))) (not-true (not (is_of Cmis (number own (fields.Cmis cmis_fields.Identifier)))) cmis.0));
+      paged = not-true (number own (fields.Cmis cmis_fields.FlatMemory) == 1) flat.0;
       first = has_it own first_key (not-true (is_absent own first_key) first.0);
       second = has_it own second_key (not-true (is_absent own second_key) second.0);
     }

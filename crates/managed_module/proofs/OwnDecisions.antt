@@ -5,6 +5,7 @@ use Rattle.std.specs.FinMap as finmap
 use Rattle.std.specs.FinSet as set
 use Rattle.std.proofs.lemmas.Bool.{eqb-true, le-leb, or_left, or_right}
 use Rattle.field_tables.specs.declared.field.Field.TheVariants as fields
+use Rattle.field_tables.specs.declared.table.cmis.CmisField.TheVariants as cmis
 use Rattle.field_tables.specs.LaneSets.{IsLane, Lanes}
 use Rattle.field_tables.specs.Readings.{number}
 use Rattle.field_tables.proofs.TrueTests.{range_passes}
@@ -111,13 +112,13 @@ module _ (sim : SimModule) (wanted : Wanted) (suits : Suits sim wanted) (image :
   -- it brings up lanes for a goal that the module has
   pub record IsWorkFor : Type 0 where
     pub work : IsWork decision
-    pub ready : number image fields.CModuleState ≡ 3
+    pub ready : number image (fields.Cmis cmis.ModuleState) ≡ 3
     pub goals : (goal : Goal) → named decision ≡ Some goal → HasGoal (with_active (active_in image) (read_by (conventions_of wanted) sim)) wanted lanes.page goal
     pub all : (goal : Goal) → decision ≡ Activate goal → has_all lanes.page goal.control ≡ true
 
   -- or the module isn't ready yet
   abbrev pub IsGood : Type 0
-  IsGood = IsWorkFor ⊎ ((decision ≡ Wake) × (number image fields.CModuleState ≡ 3 → ⊥))
+  IsGood = IsWorkFor ⊎ ((decision ≡ Wake) × (number image (fields.Cmis cmis.ModuleState) ≡ 3 → ⊥))
 
   -- each lane that is shown as up may be taken down
   each_may : (page : List ℕ) → lanes.page ≡ page → (lane : ℕ) → IsLane lane → (set.contains wanted.may_take_down lane ≡ true) ⊎ (is_activated page lane ≡ false)
@@ -126,7 +127,7 @@ module _ (sim : SimModule) (wanted : Wanted) (suits : Suits sim wanted) (image :
     by (inl among) = inl among
     by (inr spare) = inr (ap (λ (page : List ℕ). is_activated page lane) (sym same) ∙ spare_shown lanes.page sim lane lanes.shows within spare)
 
-  on_page : (found : Option (List ℕ)) → number image fields.CModuleState ≡ 3 → page_of_lanes image ≡ found → IsJudged wanted image found decision → IsGood
+  on_page : (found : Option (List ℕ)) → number image (fields.Cmis cmis.ModuleState) ≡ 3 → page_of_lanes image ≡ found → IsJudged wanted image found decision → IsGood
   on_page None ready none judged = absurd (let wrong : Some lanes.page ≡ None = sym lanes.there ∙ none in cc)
   on_page (Some page) ready there (goal, has, is) =
       let shown : lanes.page ≡ page = (let both : Some lanes.page ≡ Some page = sym lanes.there ∙ there in cc) in
@@ -141,32 +142,32 @@ module _ (sim : SimModule) (wanted : Wanted) (suits : Suits sim wanted) (image :
             (subst (HasGoal (with_active (active_in image) (read_by (conventions_of wanted) sim)) wanted page) (named_goal wanted page goal other (ap named (sym is) ∙ e)) own);
       })
 
-  not_three : (number image fields.CModuleState == 3) ≡ false → number image fields.CModuleState ≡ 3 → ⊥
-  not_three off three = let wrong : true ≡ false = sym (eq-eqb (number image fields.CModuleState) 3 three) ∙ off in cc
+  not_three : (number image (fields.Cmis cmis.ModuleState) == 3) ≡ false → number image (fields.Cmis cmis.ModuleState) ≡ 3 → ⊥
+  not_three off three = let wrong : true ≡ false = sym (eq-eqb (number image (fields.Cmis cmis.ModuleState)) 3 three) ∙ off in cc
 
-  in_state : (ready : Bool) → (number image fields.CModuleState == 3) ≡ ready → IsDecisionIn wanted image ready decision → IsGood
-  in_state true e judged = on_page (page_of_lanes image) (eqb-true (number image fields.CModuleState) 3 e) refl judged
+  in_state : (ready : Bool) → (number image (fields.Cmis cmis.ModuleState) == 3) ≡ ready → IsDecisionIn wanted image ready decision → IsGood
+  in_state true e judged = on_page (page_of_lanes image) (eqb-true (number image (fields.Cmis cmis.ModuleState)) 3 e) refl judged
   in_state false e is =
-      let power : number image fields.CMaxPower ≡ number sim.image fields.CMaxPower = same_half image sim.image fields.CMaxPower 1 whole.first in
-      let enough : nat_le (number image fields.CMaxPower) wanted.max_power ≡ true = le-leb (number image fields.CMaxPower) wanted.max_power (omega (arith, power, suits.power)) in
+      let power : number image (fields.Cmis cmis.MaxPower) ≡ number sim.image (fields.Cmis cmis.MaxPower) = same_half image sim.image (fields.Cmis cmis.MaxPower) 1 whole.first in
+      let enough : nat_le (number image (fields.Cmis cmis.MaxPower)) wanted.max_power ≡ true = le-leb (number image (fields.Cmis cmis.MaxPower)) wanted.max_power (omega (arith, power, suits.power)) in
       inr (is ∙ ap (λ (within : Bool). if within then Wake else Leave NeedsPower) enough, not_three e)
 
   pub decides : IsDecision wanted image decision → IsGood
   decides judged =
       let none = none_read (conventions_of wanted) sim.image refl suits.read image whole.lower whole.first whole.second whole.lanes in
-      in_state (number image fields.CModuleState == 3) refl
-      (subst (λ (found : Option AdvertFault). MatchOption found (IsDecisionIn wanted image (number image fields.CModuleState == 3) decision) (λ fault. decision ≡ Leave (Advert fault))) none
+      in_state (number image (fields.Cmis cmis.ModuleState) == 3) refl
+      (subst (λ (found : Option AdvertFault). MatchOption found (IsDecisionIn wanted image (number image (fields.Cmis cmis.ModuleState) == 3) decision) (λ fault. decision ≡ Leave (Advert fault))) none
       (is_awake wanted decision image wanted.asleep suits.awake judged))
 
 -- ---- how long the module's states last
 
 pub patience_same : (own image : Memory) → IsWholeImage own image → patience_for image ≡ patience_for own
 patience_same own image whole =
-    let up = same_half image own fields.CMaxDurationModulePwrUp 1 whole.second in
-    let down = same_half image own fields.CMaxDurationModulePwrDn 1 whole.second in
-    let init = same_half image own fields.CMaxDurationDPInit 1 whole.second in
-    let deinit = same_half image own fields.CMaxDurationDPDeinit 1 whole.second in
-    let on = same_half image own fields.CMaxDurationDPTxTurnOn 1 whole.second in
-    let off = same_half image own fields.CMaxDurationDPTxTurnOff 1 whole.second in
+    let up = same_half image own (fields.Cmis cmis.MaxDurationModulePwrUp) 1 whole.second in
+    let down = same_half image own (fields.Cmis cmis.MaxDurationModulePwrDn) 1 whole.second in
+    let init = same_half image own (fields.Cmis cmis.MaxDurationDPInit) 1 whole.second in
+    let deinit = same_half image own (fields.Cmis cmis.MaxDurationDPDeinit) 1 whole.second in
+    let on = same_half image own (fields.Cmis cmis.MaxDurationDPTxTurnOn) 1 whole.second in
+    let off = same_half image own (fields.Cmis cmis.MaxDurationDPTxTurnOff) 1 whole.second in
     let states : states_of image ≡ states_of own = (λ i. lasts (up i) ∷ lasts (down i) ∷ lasts (init i) ∷ lasts (deinit i) ∷ lasts (on i) ∷ lasts (off i) ∷ []) in
     ap (λ (states : List ℕ). record { pause = pause_after (longest_of states); limit = limit_after (longest_of states) }) states

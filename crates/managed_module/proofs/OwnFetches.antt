@@ -10,7 +10,8 @@ use Rattle.std.proofs.lemmas.List.FromFn.{get_or-map-range_with_len, length-map-
 use Rattle.bus_model.specs.declared.device.Dev.TheVariants.{A0, A2}
 use Rattle.bus_model.specs.declared.operation.Reply.{Reply}
 use Rattle.bus_model.specs.declared.operation.Reply.TheVariants.{Bytes}
-use Rattle.field_tables.specs.declared.field.Field.TheVariants.{CModuleState}
+use Rattle.field_tables.specs.declared.field.Field.TheVariants as fields
+use Rattle.field_tables.specs.declared.table.cmis.CmisField.TheVariants as cmis
 use Rattle.field_tables.specs.FieldValues.{value_in}
 use Rattle.field_tables.specs.Halves.{byte_in}
 use Rattle.field_tables.specs.Readings.{number}
@@ -72,17 +73,17 @@ read_page sim bytes page whole shows few =
 -- ---- the state of the module
 
 abbrev abs_value : List ℕ → ℕ
-abs_value bytes = unsigned_abs (value_in bytes CModuleState 1)
+abs_value bytes = unsigned_abs (value_in bytes (fields.Cmis cmis.ModuleState) 1)
 
 value_is : (bytes : List ℕ) → abs_value bytes ≡ byte_in bytes 3 / 2 ^ 1 % 2 ^ 3
 unfolding value_in
 value_is bytes = number-bits_up (byte_in bytes) 3 1 3
 
 -- a lower half that was read has the state
-pub state_in : (sim : SimModule) (page : List ℕ) (memory : Memory) → finmap.get memory (lower_key A0) ≡ Some (map (shown_byte sim page) (range_with_len 0 128)) → number memory CModuleState ≡ module_codes.code_of sim.state
+pub state_in : (sim : SimModule) (page : List ℕ) (memory : Memory) → finmap.get memory (lower_key A0) ≡ Some (map (shown_byte sim page) (range_with_len 0 128)) → number memory (fields.Cmis cmis.ModuleState) ≡ module_codes.code_of sim.state
 state_in sim page memory is =
     let bytes = map (shown_byte sim page) (range_with_len 0 128) in
-    number_is memory CModuleState 1 bytes is ∙ value_is bytes ∙ ap (λ (n : ℕ). n / 2 ^ 1 % 2 ^ 3) (get_or-map-range_with_len (shown_byte sim page) 0 128 3 3 0 (omega arith) refl) ∙ read_state sim page
+    number_is memory (fields.Cmis cmis.ModuleState) 1 bytes is ∙ value_is bytes ∙ ap (λ (n : ℕ). n / 2 ^ 1 % 2 ^ 3) (get_or-map-range_with_len (shown_byte sim page) 0 128 3 3 0 (omega arith) refl) ∙ read_state sim page
 
 ready_by : (state : ModuleState) → module_codes.code_of state ≡ 3 → state ≡ module_is.Ready
 ready_by module_is.LowPwr e = absurd (let wrong : 1 ≡ 3 = e in omega (arith, wrong))
@@ -111,7 +112,7 @@ pub record IsFetched (sim : SimModule) (region : Region) (reply : Reply) : Type 
   pub reads : reply ≡ Bytes (record { items = bytes })
   pub fits : Fits sim.image region bytes
   pub lanes : region ≡ Page 0x11 → ShowsLanes bytes sim
-  pub state : region ≡ Lower A0 → (memory : Memory) → finmap.get memory (lower_key A0) ≡ Some bytes → number memory CModuleState ≡ module_codes.code_of sim.state
+  pub state : region ≡ Lower A0 → (memory : Memory) → finmap.get memory (lower_key A0) ≡ Some bytes → number memory (fields.Cmis cmis.ModuleState) ≡ module_codes.code_of sim.state
 
 first_not_page : (page : ℕ) → Lower A0 ≡ Page page → ⊥
 first_not_page page e = cc

@@ -5,7 +5,8 @@ use Rattle.std.specs.FinMap as finmap
 use Rattle.std.specs.Ordering.{eq_by_cmp}
 use Rattle.bus_model.specs.declared.device.Dev.TheVariants.{A0}
 use Rattle.field_tables.specs.declared.field.Field.{Field}
-use Rattle.field_tables.specs.declared.field.Field.TheVariants.{CFlatMemory, CIdentifier}
+use Rattle.field_tables.specs.declared.field.Field.TheVariants as fields
+use Rattle.field_tables.specs.declared.table.cmis.CmisField.TheVariants as cmis
 use Rattle.field_tables.specs.FieldValues.{field_key, value_in}
 use Rattle.field_tables.specs.Halves.{byte_in}
 use Rattle.field_tables.specs.Readings.{number, reading_at}
@@ -43,13 +44,13 @@ pub record IsOwn (own : Memory) (halves : Halves) : Type 0 where
 
 -- ---- which half is next
 
-cmis_in : (own : Memory) (image : Memory) → IsPaged own → HasLower image own → managed_by (identifier image) ≡ managed_by (number own CIdentifier)
-cmis_in own image paged lower = ap managed_by (lower_number image own CIdentifier 1 lower refl refl)
+cmis_in : (own : Memory) (image : Memory) → IsPaged own → HasLower image own → managed_by (identifier image) ≡ managed_by (number own (fields.Cmis cmis.Identifier))
+cmis_in own image paged lower = ap managed_by (lower_number image own (fields.Cmis cmis.Identifier) 1 lower refl refl)
 
 in_order : (own : Memory) (image : Memory) → IsPaged own → HasLower image own → regions_of everything image ≡ all_regions
 in_order own image paged lower =
     ap (λ (family : Option Family). regions_in everything family image) (cmis_in own image paged lower ∙ paged.cmis)
-    ∙ ap (family_regions everything Cmis) (ap (λ (n : ℕ). n == 1) (lower_number image own CFlatMemory 1 lower refl refl) ∙ paged.paged)
+    ∙ ap (family_regions everything Cmis) (ap (λ (n : ℕ). n == 1) (lower_number image own (fields.Cmis cmis.FlatMemory) 1 lower refl refl) ∙ paged.paged)
 
 pub hand_is : (own : Memory) (halves : Halves) → IsPaged own → IsOwn own halves → in_hand halves ≡ slice_get all_regions halves.settled
 hand_is own halves paged is = by halves.settled refl where
@@ -73,7 +74,7 @@ no_family = refl
 pub is_cmis : (own : Memory) (halves : Halves) → IsPaged own → IsOwn own halves → IsCmisFamily (managed_by (identifier halves.image))
 is_cmis own halves paged is = by halves.settled refl where
   by : (n : ℕ) → halves.settled ≡ n → IsCmisFamily (managed_by (identifier halves.image))
-  by zero e = subst IsCmisFamily (sym (ap (λ (image : Memory). managed_by (identifier image)) (is.none e) ∙ ap managed_by (number_of_nothing CIdentifier) ∙ no_family)) tt
+  by zero e = subst IsCmisFamily (sym (ap (λ (image : Memory). managed_by (identifier image)) (is.none e) ∙ ap managed_by (number_of_nothing (fields.Cmis cmis.Identifier)) ∙ no_family)) tt
   by (suc n) e = subst IsCmisFamily (sym (cmis_in own halves.image paged (is.lower (omega (arith, e))) ∙ paged.cmis)) tt
 
 -- ---- one half more

@@ -8,7 +8,7 @@ use Rattle.bus_model.specs.ScriptedBus.{ticked_times}
 use Rattle.field_tables.specs.LaneSets.{IsLane}
 use Rattle.field_tables.specs.Numbers.{number_in}
 use Rattle.field_tables.specs.Registers.{byte_count, first_byte}
-use Rattle.field_tables.specs.declared.field.Register.TheVariants.{CActiveControl}
+use Rattle.field_tables.specs.declared.field.Register.TheVariants as registers
 use Rattle.datapath_states.specs.Lanes.{code_in, codes_in}
 use Rattle.datapath_states.specs.StateCodes.{code_of}
 use Rattle.datapath_states.specs.Transitions.{next_of}
@@ -60,7 +60,7 @@ active_shown : (sim : SimModule) (page : List ℕ) → Shows 0x11 sim → length
 active_shown sim page shows eight lane (from, to) =
     let f = shown_byte sim page in
     get_or-map-range_with_len f 128 128 (78 + (lane - 1)) (206 + (lane - 1)) 0 (omega (arith, from, to)) (omega arith)
-    ∙ sym (get_or-map-range_with_len f (first_byte CActiveControl) (byte_count CActiveControl) (lane - 1) (206 + (lane - 1)) 0 (omega (arith, from, to)) (omega arith))
+    ∙ sym (get_or-map-range_with_len f (first_byte registers.ActiveControl) (byte_count registers.ActiveControl) (lane - 1) (206 + (lane - 1)) 0 (omega (arith, from, to)) (omega arith))
     ∙ sym (ap (λ (bytes : List ℕ). get_or bytes (lane - 1) 0) (active_is sim page shows eight))
 
 pub shows_lanes : (sim : SimModule) (page : List ℕ) → Shows 0x11 sim → length sim.lanes ≡ 8 → ShowsLanes (map (shown_byte sim page) (range_with_len 128 128)) sim

@@ -2,7 +2,8 @@
 use Rattle.std.proofs.Common.{◌≡◌, ℕ, suc, zero, ◌≤◌, Bool, true, refl, sym, subst}
 use Rattle.bus_model.specs.ScriptedBus.{ticked_times}
 use Rattle.conversations.specs.declared.on_page.OnPage.{OnPage}
-use Rattle.field_tables.specs.declared.field.Field.TheVariants.{CModuleState}
+use Rattle.field_tables.specs.declared.field.Field.TheVariants as fields
+use Rattle.field_tables.specs.declared.table.cmis.CmisField.TheVariants as cmis
 use Rattle.field_tables.specs.Readings.{number}
 use Rattle.paged_memory.specs.Images.{Memory}
 use Rattle.module_reading.specs.declared.halves.Halves.{Halves}
@@ -24,9 +25,9 @@ use Rattle.managed_module.proofs.SteadyModules.{steady_tick}
 
 -- a module whose state was read as ready is awake; after waking up it is, and was read as ready
 pub record TellsState (woken : Bool) (halves : Halves) (sim : SimModule) : Type 0 where
-  pub ready : 1 ≤ halves.settled → number halves.image CModuleState ≡ 3 → IsAwake sim
+  pub ready : 1 ≤ halves.settled → number halves.image (fields.Cmis cmis.ModuleState) ≡ 3 → IsAwake sim
   pub awake : woken ≡ true → IsAwake sim
-  pub read : woken ≡ true → 1 ≤ halves.settled → number halves.image CModuleState ≡ 3
+  pub read : woken ≡ true → 1 ≤ halves.settled → number halves.image (fields.Cmis cmis.ModuleState) ≡ 3
 
 abbrev pub left_to_read : Patient (OnPage Halves) → ℕ
 left_to_read job = left_of paged_halves left_of_halves halves_counted job

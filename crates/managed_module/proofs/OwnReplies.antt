@@ -24,7 +24,8 @@ use Rattle.conversations.specs.declared.on_page.OnPage.{OnPage}
 use Rattle.conversations.specs.Selecting.{IsFetch, after_missing, chosen, lacked, lacked_by, told_lacked}
 use Rattle.conversations.specs.Wanted.{op_of}
 use Rattle.conversations.proofs.OnPageLaws.{Asks}
-use Rattle.field_tables.specs.declared.field.Field.TheVariants.{CModuleState}
+use Rattle.field_tables.specs.declared.field.Field.TheVariants as fields
+use Rattle.field_tables.specs.declared.table.cmis.CmisField.TheVariants as cmis_fields
 use Rattle.field_tables.specs.Readings.{number}
 use Rattle.module_states.specs.Codes as module_codes
 use Rattle.paged_memory.specs.declared.page_addressing.KnownPage.{KnownPage}
@@ -147,9 +148,9 @@ module _ (most : ℕ) (sim : SimModule) (has : HasHalves sim) (whole : AreWhole 
   -- the image stays as it is
   same_tells : (conversation : Halves) → conversation.image ≡ halves.image → (1 ≤ conversation.settled → 1 ≤ halves.settled) → TellsState woken conversation after
   same_tells conversation image settled = record {
-    ready = λ one is. stays_awake (r.tells.ready (settled one) (ap (λ (m : Memory). number m CModuleState) (sym image) ∙ is));
+    ready = λ one is. stays_awake (r.tells.ready (settled one) (ap (λ (m : Memory). number m (fields.Cmis cmis_fields.ModuleState)) (sym image) ∙ is));
     awake = λ is. stays_awake (r.tells.awake is);
-    read = λ is one. ap (λ (m : Memory). number m CModuleState) image ∙ r.tells.read is (settled one);
+    read = λ is one. ap (λ (m : Memory). number m (fields.Cmis cmis_fields.ModuleState)) image ∙ r.tells.read is (settled one);
   }
 
   -- ---- the selection is read back
@@ -223,7 +224,7 @@ module _ (most : ℕ) (sim : SimModule) (has : HasHalves sim) (whole : AreWhole 
   state_by : (n : ℕ) → halves.settled ≡ n → (f : IsFetched sim region reply) → IsOwn sim.image (reader.keeping halves region f.bytes) → TellsState woken (reader.keeping halves region f.bytes) after
   state_by zero e f own =
       let is : region ≡ Lower A0 = (let same : Some (Lower A0) ≡ Some region = sym (ap (slice_get all_regions) e) ∙ hand in let one : Lower A0 ≡ region = cc in sym one) in
-      let state : number (reader.keeping halves region f.bytes).image CModuleState ≡ module_codes.code_of sim.state = f.state is (reader.keeping halves region f.bytes).image (own_lower is f) in
+      let state : number (reader.keeping halves region f.bytes).image (fields.Cmis cmis_fields.ModuleState) ≡ module_codes.code_of sim.state = f.state is (reader.keeping halves region f.bytes).image (own_lower is f) in
       record {
         ready = λ one code. stays_awake (ready_awake most sim r.steady (sym state ∙ code));
         awake = λ is. stays_awake (r.tells.awake is);
@@ -236,7 +237,7 @@ module _ (most : ℕ) (sim : SimModule) (has : HasHalves sim) (whole : AreWhole 
   state_by (suc n) e f own =
       let kept : finmap.get (reader.put_in halves.image (regions.key_of region) f.bytes) (lower_key A0) ≡ finmap.get halves.image (lower_key A0) =
       keeps_lower halves region f.bytes (omega (arith, e)) found.1 in
-      let state : number (reader.keeping halves region f.bytes).image CModuleState ≡ number halves.image CModuleState = same_half (reader.keeping halves region f.bytes).image halves.image CModuleState 1 kept in
+      let state : number (reader.keeping halves region f.bytes).image (fields.Cmis cmis_fields.ModuleState) ≡ number halves.image (fields.Cmis cmis_fields.ModuleState) = same_half (reader.keeping halves region f.bytes).image halves.image (fields.Cmis cmis_fields.ModuleState) 1 kept in
       record {
         ready = λ one is. stays_awake (r.tells.ready (omega (arith, e)) (sym state ∙ is));
         awake = λ is. stays_awake (r.tells.awake is);

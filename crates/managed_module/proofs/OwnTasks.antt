@@ -18,7 +18,7 @@ use Rattle.bus_model.specs.ScriptedBus.{passed_on}
 use Rattle.field_tables.specs.FirstFault.{first_fault}
 use Rattle.field_tables.specs.LaneSets.{IsLane, Lanes, byte_of, every_lane, is_empty, lanes_in}
 use Rattle.field_tables.specs.Registers.{byte_count, first_byte}
-use Rattle.field_tables.specs.declared.field.Register.TheVariants.{CActiveControl, CApplyDPInit, CConfigStatus, CDPDeinit, CGlobalStatus, CPathStates, CStagedControl}
+use Rattle.field_tables.specs.declared.field.Register.TheVariants as registers
 use Rattle.field_tables.proofs.TrueTests.{in_range, range_passes}
 use Rattle.module_states.specs.Codes as module_codes
 use Rattle.module_states.specs.declared.state.ModuleState.{ModuleState}
@@ -348,19 +348,19 @@ module _ (most : ℕ) (sim : SimModule) (has : HasHalves sim) where
   -- what is read
   pub ready_told : (reply : Reply) → reply ≡ reply_of sim (operation tasks.FindReady) → judgement tasks.FindReady reply ≡ judged_module (module_codes.code_of sim.state)
   ready_told reply gives =
-      let (page, is) = reads_half sim (first_byte CGlobalStatus) (byte_count CGlobalStatus) has in
-      ap (judgement tasks.FindReady) (gives ∙ is) ∙ find_judged (map (shown_byte sim page) (range_with_len (first_byte CGlobalStatus) (byte_count CGlobalStatus))) ∙ ap judged_module (read_state sim page)
+      let (page, is) = reads_half sim (first_byte registers.GlobalStatus) (byte_count registers.GlobalStatus) has in
+      ap (judgement tasks.FindReady) (gives ∙ is) ∙ find_judged (map (shown_byte sim page) (range_with_len (first_byte registers.GlobalStatus) (byte_count registers.GlobalStatus))) ∙ ap judged_module (read_state sim page)
 
-  pub paths_told : (task : Task) (told : List ℕ → ReplyJudgement) → operation task ≡ Fetch A0 (first_byte CPathStates) (byte_count CPathStates) → ((bytes : List ℕ) → judgement task (Bytes (record { items = bytes })) ≡ told bytes) → Shows 0x11 sim
+  pub paths_told : (task : Task) (told : List ℕ → ReplyJudgement) → operation task ≡ Fetch A0 (first_byte registers.PathStates) (byte_count registers.PathStates) → ((bytes : List ℕ) → judgement task (Bytes (record { items = bytes })) ≡ told bytes) → Shows 0x11 sim
       → (reply : Reply) → reply ≡ reply_of sim (operation task) → judgement task reply ≡ told (pairs (path_code sim))
   paths_told task told is judges shows reply gives =
-      let (page, reads) = reads_half sim (first_byte CPathStates) (byte_count CPathStates) has in
-      ap (judgement task) (gives ∙ ap (reply_of sim) is ∙ reads) ∙ judges (map (shown_byte sim page) (range_with_len (first_byte CPathStates) (byte_count CPathStates))) ∙ ap told (shown_paths sim page shows)
+      let (page, reads) = reads_half sim (first_byte registers.PathStates) (byte_count registers.PathStates) has in
+      ap (judgement task) (gives ∙ ap (reply_of sim) is ∙ reads) ∙ judges (map (shown_byte sim page) (range_with_len (first_byte registers.PathStates) (byte_count registers.PathStates))) ∙ ap told (shown_paths sim page shows)
 
   pub statuses_told : (lanes : Lanes) → Shows 0x11 sim → (reply : Reply) → reply ≡ reply_of sim (operation (tasks.AwaitApplied lanes)) → judgement (tasks.AwaitApplied lanes) reply ≡ judged_statuses lanes (codes_in (pairs (status_code sim)) 8)
   statuses_told lanes shows reply gives =
-      let (page, reads) = reads_half sim (first_byte CConfigStatus) (byte_count CConfigStatus) has in
-      ap (judgement (tasks.AwaitApplied lanes)) (gives ∙ reads) ∙ statuses_judged lanes (map (shown_byte sim page) (range_with_len (first_byte CConfigStatus) (byte_count CConfigStatus)))
+      let (page, reads) = reads_half sim (first_byte registers.ConfigStatus) (byte_count registers.ConfigStatus) has in
+      ap (judgement (tasks.AwaitApplied lanes)) (gives ∙ reads) ∙ statuses_judged lanes (map (shown_byte sim page) (range_with_len (first_byte registers.ConfigStatus) (byte_count registers.ConfigStatus)))
       ∙ ap (λ (bytes : List ℕ). judged_statuses lanes (codes_in bytes 8)) (shown_statuses sim page shows)
 
   pub done : (address : ℕ) (bytes : List ℕ) (reply : Reply) → reply ≡ reply_of sim (Store A0 address (record { items = bytes })) → reply ≡ Done
@@ -376,7 +376,7 @@ module _ (most : ℕ) (sim : SimModule) (has : HasHalves sim) where
     ProvisionTells met task = OnItsPage task sim → (reply : Reply) → reply ≡ reply_of sim (operation task) → (judged : ReplyJudgement) → judgement task reply ≡ judged → ProvisionTold met judged (module_after sim (operation task))
 
     find_tells : IsSteady most sim → until_deactivated most + (until_applied most + until_activated most) ≤ left → ProvisionTells 0 tasks.FindReady
-    find_tells steady few page reply gives Met j = (steady_read (first_byte CGlobalStatus) (byte_count CGlobalStatus) steady, few)
+    find_tells steady few page reply gives Met j = (steady_read (first_byte registers.GlobalStatus) (byte_count registers.GlobalStatus) steady, few)
     find_tells steady few page reply gives NotYet j = absurd (ready_settles sim.state (sym (ready_told reply gives) ∙ j))
     find_tells steady few page reply gives (Fails fault) j = tt
 
@@ -384,21 +384,21 @@ module _ (most : ℕ) (sim : SimModule) (has : HasHalves sim) where
     deinit_tells steady few page reply gives judged j =
         let bits = byte_of lanes in
         let op = operation (tasks.Deinitialize bits) in
-        let met : Met ≡ judged = sym (ap (judgement (tasks.Deinitialize bits)) (done (first_byte CDPDeinit) (bits ∷ []) reply gives)) ∙ j in
-        let set_to : (passed_on conduct op sim).1 ≡ record sim { deinit = lanes_in bits } = after_store sim (first_byte CDPDeinit) (bits ∷ []) (record sim { deinit = lanes_in bits }) has (deinit_stored sim bits (page 0x10 refl)) in
-        let bytes : stored_bytes sim (first_byte CDPDeinit) (bits ∷ []) ≡ record sim { deinit = lanes_in bits } = deinit_stored sim bits (page 0x10 refl) in
+        let met : Met ≡ judged = sym (ap (judgement (tasks.Deinitialize bits)) (done (first_byte registers.DPDeinit) (bits ∷ []) reply gives)) ∙ j in
+        let set_to : (passed_on conduct op sim).1 ≡ record sim { deinit = lanes_in bits } = after_store sim (first_byte registers.DPDeinit) (bits ∷ []) (record sim { deinit = lanes_in bits }) has (deinit_stored sim bits (page 0x10 refl)) in
+        let bytes : stored_bytes sim (first_byte registers.DPDeinit) (bits ∷ []) ≡ record sim { deinit = lanes_in bits } = deinit_stored sim bits (page 0x10 refl) in
         let down : GoDown lanes (until_deactivated most) (record sim { deinit = lanes_in bits }) = record {
           bits = λ lane within inside. in_byte_of lanes lane within ∙ inside;
           near = λ lane within inside. longest_down most sim.delays (lane_at sim lane).path (lane_at sim lane).ticks_left steady.counters.time (steady.counters.lanes lane within);
         } in
         let mid : GoDown lanes (until_deactivated most) (passed_on conduct op sim).1 = subst (GoDown lanes (until_deactivated most)) (sym set_to) down in
         subst (λ (judged : ReplyJudgement). ProvisionTold 1 judged (module_after sim op)) met (
-          steady_stored (first_byte CDPDeinit) (bits ∷ []) (subst (Leaves sim) (sym bytes) (leaves_deinit sim (lanes_in bits))) steady,
+          steady_stored (first_byte registers.DPDeinit) (bits ∷ []) (subst (Leaves sim) (sym bytes) (leaves_deinit sim (lanes_in bits))) steady,
           (until_deactivated most - 1, down_tick most lanes (until_deactivated most) (passed_on conduct op sim).1 (run_after op steady.counters) mid, omega (arith, few)),
         )
 
     down_tells : IsSteady most sim → (ticks : ℕ) → GoDown lanes ticks sim → ticks + (until_applied most + until_activated most) ≤ left → ProvisionTells 2 (tasks.AwaitDeactivated lanes)
-    down_tells steady ticks down few page reply gives Met j = (steady_read (first_byte CPathStates) (byte_count CPathStates) steady, omega (arith, few))
+    down_tells steady ticks down few page reply gives Met j = (steady_read (first_byte registers.PathStates) (byte_count registers.PathStates) steady, omega (arith, few))
     down_tells steady zero down few page reply gives NotYet j =
         let met = states_met sim lanes lanes Deactivated
         (λ lane within inside. none_left most sim.delays (lane_at sim lane).path (lane_at sim lane).ticks_left (steady.counters.lanes lane within) (down.near lane within inside)) in
@@ -409,8 +409,8 @@ module _ (most : ℕ) (sim : SimModule) (has : HasHalves sim) where
         let mid = (passed_on conduct op sim).1 in (
           ticks + (until_applied most + until_activated most),
           (
-            steady_read (first_byte CPathStates) (byte_count CPathStates) steady,
-            (ticks, subst (λ (n : ℕ). GoDown lanes n (ticked mid)) (omega arith) (down_tick most lanes (suc ticks) mid (run_after op steady.counters) (down_left lanes (suc ticks) sim mid (leaves sim A0 (first_byte CPathStates) (byte_count CPathStates)) down)), omega arith),
+            steady_read (first_byte registers.PathStates) (byte_count registers.PathStates) steady,
+            (ticks, subst (λ (n : ℕ). GoDown lanes n (ticked mid)) (omega arith) (down_tick most lanes (suc ticks) mid (run_after op steady.counters) (down_left lanes (suc ticks) sim mid (leaves sim A0 (first_byte registers.PathStates) (byte_count registers.PathStates)) down)), omega arith),
           ),
           omega (arith, few),
         )
@@ -418,14 +418,14 @@ module _ (most : ℕ) (sim : SimModule) (has : HasHalves sim) where
 
     stage_tells : IsSteady most sim → until_applied most + until_activated most ≤ left → ProvisionTells 3 (tasks.Stage control)
     stage_tells steady few page reply gives judged j =
-        let met : Met ≡ judged = sym (ap (judgement (tasks.Stage control)) (done (first_byte CStagedControl) control reply gives)) ∙ j in
-        subst (λ (judged : ReplyJudgement). ProvisionTold 3 judged (module_after sim (operation (tasks.Stage control)))) met (steady_stored (first_byte CStagedControl) control (leaves_stage sim control) steady, few)
+        let met : Met ≡ judged = sym (ap (judgement (tasks.Stage control)) (done (first_byte registers.StagedControl) control reply gives)) ∙ j in
+        subst (λ (judged : ReplyJudgement). ProvisionTold 3 judged (module_after sim (operation (tasks.Stage control)))) met (steady_stored (first_byte registers.StagedControl) control (leaves_stage sim control) steady, few)
 
     staged_tells : IsSteady most sim → until_applied most + until_activated most ≤ left → ProvisionTells 4 (tasks.CheckStaged control)
-    staged_tells steady few page reply gives Met j = (steady_read (first_byte CStagedControl) (byte_count CStagedControl) steady, few)
+    staged_tells steady few page reply gives Met j = (steady_read (first_byte registers.StagedControl) (byte_count registers.StagedControl) steady, few)
     staged_tells steady few page reply gives NotYet j =
-        let (half, is) = reads_half sim (first_byte CStagedControl) (byte_count CStagedControl) has in
-        let bytes = map (shown_byte sim half) (range_with_len (first_byte CStagedControl) (byte_count CStagedControl)) in
+        let (half, is) = reads_half sim (first_byte registers.StagedControl) (byte_count registers.StagedControl) has in
+        let bytes = map (shown_byte sim half) (range_with_len (first_byte registers.StagedControl) (byte_count registers.StagedControl)) in
         absurd (differs_settles StagedDiffers (differing_lane bytes control) (sym (ap (judgement (tasks.CheckStaged control)) (gives ∙ is) ∙ staged_judged control bytes) ∙ j))
     staged_tells steady few page reply gives (Fails fault) j = tt
 
@@ -433,8 +433,8 @@ module _ (most : ℕ) (sim : SimModule) (has : HasHalves sim) where
     apply_tells steady few page reply gives judged j =
         let bits = byte_of lanes in
         let op = operation (tasks.Apply bits) in
-        let met : Met ≡ judged = sym (ap (judgement (tasks.Apply bits)) (done (first_byte CApplyDPInit) (bits ∷ []) reply gives)) ∙ j in
-        let set_to : (passed_on conduct op sim).1 ≡ applied sim (lanes_in bits) = after_store sim (first_byte CApplyDPInit) (bits ∷ []) (applied sim (lanes_in bits)) has (apply_stored sim bits (page 0x10 refl)) in
+        let met : Met ≡ judged = sym (ap (judgement (tasks.Apply bits)) (done (first_byte registers.ApplyDPInit) (bits ∷ []) reply gives)) ∙ j in
+        let set_to : (passed_on conduct op sim).1 ≡ applied sim (lanes_in bits) = after_store sim (first_byte registers.ApplyDPInit) (bits ∷ []) (applied sim (lanes_in bits)) has (apply_stored sim bits (page 0x10 refl)) in
         let mid : AreApplied most lanes most (passed_on conduct op sim).1 =
         subst (AreApplied most lanes most) (sym set_to) (are_applied most lanes sim steady (subst (CountersRun most) set_to (run_after op steady.counters))) in
         subst (λ (judged : ReplyJudgement). ProvisionTold 5 judged (module_after sim op)) met (most - 1, applied_tick most lanes most (passed_on conduct op sim).1 mid, omega (arith, few))
@@ -442,7 +442,7 @@ module _ (most : ℕ) (sim : SimModule) (has : HasHalves sim) where
     applied_tells : (ticks : ℕ) → AreApplied most lanes ticks sim → ticks + until_activated most ≤ left → ProvisionTells 6 (tasks.AwaitApplied lanes)
     applied_tells ticks are few page reply gives Met j =
         let ended = sym (statuses_told lanes (page 0x11 refl) reply gives) ∙ j in
-        (steady_read (first_byte CConfigStatus) (byte_count CConfigStatus) (steady_applied most lanes ticks sim are (λ lane within inside on. statuses_end sim lanes lane within inside ended on)), omega (arith, few))
+        (steady_read (first_byte registers.ConfigStatus) (byte_count registers.ConfigStatus) (steady_applied most lanes ticks sim are (λ lane within inside on. statuses_end sim lanes lane within inside ended on)), omega (arith, few))
     applied_tells zero are few page reply gives NotYet j =
         absurd (statuses_settle sim lanes (decided_at_once most lanes sim are) (sym (statuses_told lanes (page 0x11 refl) reply gives) ∙ j))
     applied_tells (suc ticks) are few page reply gives NotYet j =
@@ -452,7 +452,7 @@ module _ (most : ℕ) (sim : SimModule) (has : HasHalves sim) where
           (
             ticks,
             subst (λ (n : ℕ). AreApplied most lanes n (ticked mid)) (omega arith)
-                (applied_tick most lanes (suc ticks) mid (applied_left most lanes (suc ticks) sim mid (leaves sim A0 (first_byte CConfigStatus) (byte_count CConfigStatus)) (run_after op are.counters) are)),
+                (applied_tick most lanes (suc ticks) mid (applied_left most lanes (suc ticks) sim mid (leaves sim A0 (first_byte registers.ConfigStatus) (byte_count registers.ConfigStatus)) (run_after op are.counters) are)),
             omega arith,
           ),
           omega (arith, few),
@@ -460,10 +460,10 @@ module _ (most : ℕ) (sim : SimModule) (has : HasHalves sim) where
     applied_tells ticks are few page reply gives (Fails fault) j = tt
 
     check_tells : IsSteady most sim → until_activated most ≤ left → ProvisionTells 7 (tasks.CheckActive control)
-    check_tells steady few page reply gives Met j = (steady_read (first_byte CActiveControl) (byte_count CActiveControl) steady, few)
+    check_tells steady few page reply gives Met j = (steady_read (first_byte registers.ActiveControl) (byte_count registers.ActiveControl) steady, few)
     check_tells steady few page reply gives NotYet j =
-        let (half, is) = reads_half sim (first_byte CActiveControl) (byte_count CActiveControl) has in
-        let bytes = map (shown_byte sim half) (range_with_len (first_byte CActiveControl) (byte_count CActiveControl)) in
+        let (half, is) = reads_half sim (first_byte registers.ActiveControl) (byte_count registers.ActiveControl) has in
+        let bytes = map (shown_byte sim half) (range_with_len (first_byte registers.ActiveControl) (byte_count registers.ActiveControl)) in
         absurd (differs_settles ActiveDiffers (differing_lane bytes control) (sym (ap (judgement (tasks.CheckActive control)) (gives ∙ is) ∙ active_judged control bytes) ∙ j))
     check_tells steady few page reply gives (Fails fault) j = tt
 
@@ -499,7 +499,7 @@ module _ (most : ℕ) (sim : SimModule) (has : HasHalves sim) where
     ready_tells : IsSteady most sim → until_activated most ≤ left → ActivationTells 0 tasks.FindReady
     ready_tells steady few page reply gives Met j =
         let ready = ready_met sim.state (sym (ready_told reply gives) ∙ j) in
-        (steady_read (first_byte CGlobalStatus) (byte_count CGlobalStatus) steady, awake_read (first_byte CGlobalStatus) (byte_count CGlobalStatus) (is_awake steady ready), few)
+        (steady_read (first_byte registers.GlobalStatus) (byte_count registers.GlobalStatus) steady, awake_read (first_byte registers.GlobalStatus) (byte_count registers.GlobalStatus) (is_awake steady ready), few)
     ready_tells steady few page reply gives NotYet j = absurd (ready_settles sim.state (sym (ready_told reply gives) ∙ j))
     ready_tells steady few page reply gives (Fails fault) j = tt
 
@@ -517,25 +517,25 @@ module _ (most : ℕ) (sim : SimModule) (has : HasHalves sim) where
 
     active_told : IsSteady most sim → Shows 0x11 sim → (reply : Reply) → reply ≡ reply_of sim (operation (tasks.CheckActive control)) → judgement (tasks.CheckActive control) reply ≡ Met → active_bytes sim ≡ control
     active_told steady shows reply gives j =
-        let (half, is) = reads_half sim (first_byte CActiveControl) (byte_count CActiveControl) has in
-        let bytes = map (shown_byte sim half) (range_with_len (first_byte CActiveControl) (byte_count CActiveControl)) in
+        let (half, is) = reads_half sim (first_byte registers.ActiveControl) (byte_count registers.ActiveControl) has in
+        let bytes = map (shown_byte sim half) (range_with_len (first_byte registers.ActiveControl) (byte_count registers.ActiveControl)) in
         let none = differs_met ActiveDiffers (differing_lane bytes control) (sym (ap (judgement (tasks.CheckActive control)) (gives ∙ is) ∙ active_judged control bytes) ∙ j) in
-        active_is sim half shows steady.eight ∙ same_bytes bytes (length-map-range_with_len (shown_byte sim half) (first_byte CActiveControl) (byte_count CActiveControl)) none
+        active_is sim half shows steady.eight ∙ same_bytes bytes (length-map-range_with_len (shown_byte sim half) (first_byte registers.ActiveControl) (byte_count registers.ActiveControl)) none
 
     active_tells : IsSteady most sim → IsAwake sim → until_activated most ≤ left → ActivationTells 1 (tasks.CheckActive control)
     active_tells steady awake few page reply gives Met j =
         let mid = (passed_on conduct (operation (tasks.CheckActive control)) sim).1 in
         let is = active_told steady (page 0x11 refl) reply gives j in
-        let kept : active_bytes mid ≡ control = ap (λ (lanes : List Lane). map (λ (lane : Lane). lane.active) lanes) (leaves sim A0 (first_byte CActiveControl) (byte_count CActiveControl)).lanes ∙ is in
-        let steady_mid : IsSteady most mid = steady_left most sim mid (leaves_all sim mid (leaves sim A0 (first_byte CActiveControl) (byte_count CActiveControl))) (run_after (operation (tasks.CheckActive control)) steady.counters) steady in (
+        let kept : active_bytes mid ≡ control = ap (λ (lanes : List Lane). map (λ (lane : Lane). lane.active) lanes) (leaves sim A0 (first_byte registers.ActiveControl) (byte_count registers.ActiveControl)).lanes ∙ is in
+        let steady_mid : IsSteady most mid = steady_left most sim mid (leaves_all sim mid (leaves sim A0 (first_byte registers.ActiveControl) (byte_count registers.ActiveControl))) (run_after (operation (tasks.CheckActive control)) steady.counters) steady in (
           steady_tick most mid steady_mid,
-          awake_read (first_byte CActiveControl) (byte_count CActiveControl) awake,
+          awake_read (first_byte registers.ActiveControl) (byte_count registers.ActiveControl) awake,
           (rest_tick control mid (record { eight = steady_mid.eight; none = steady_mid.none; active = kept })).active,
           few,
         )
     active_tells steady awake few page reply gives NotYet j =
-        let (half, is) = reads_half sim (first_byte CActiveControl) (byte_count CActiveControl) has in
-        let bytes = map (shown_byte sim half) (range_with_len (first_byte CActiveControl) (byte_count CActiveControl)) in
+        let (half, is) = reads_half sim (first_byte registers.ActiveControl) (byte_count registers.ActiveControl) has in
+        let bytes = map (shown_byte sim half) (range_with_len (first_byte registers.ActiveControl) (byte_count registers.ActiveControl)) in
         absurd (differs_settles ActiveDiffers (differing_lane bytes control) (sym (ap (judgement (tasks.CheckActive control)) (gives ∙ is) ∙ active_judged control bytes) ∙ j))
     active_tells steady awake few page reply gives (Fails fault) j = tt
 
@@ -543,8 +543,8 @@ module _ (most : ℕ) (sim : SimModule) (has : HasHalves sim) where
     release_tells steady awake is few page reply gives judged j =
         let bits = 255 - byte_of lanes in
         let op = operation (tasks.Deinitialize bits) in
-        let met : Met ≡ judged = sym (ap (judgement (tasks.Deinitialize bits)) (done (first_byte CDPDeinit) (bits ∷ []) reply gives)) ∙ j in
-        let set_to : (passed_on conduct op sim).1 ≡ record sim { deinit = lanes_in bits } = after_store sim (first_byte CDPDeinit) (bits ∷ []) (record sim { deinit = lanes_in bits }) has (deinit_stored sim bits (page 0x10 refl)) in
+        let met : Met ≡ judged = sym (ap (judgement (tasks.Deinitialize bits)) (done (first_byte registers.DPDeinit) (bits ∷ []) reply gives)) ∙ j in
+        let set_to : (passed_on conduct op sim).1 ≡ record sim { deinit = lanes_in bits } = after_store sim (first_byte registers.DPDeinit) (bits ∷ []) (record sim { deinit = lanes_in bits }) has (deinit_stored sim bits (page 0x10 refl)) in
         let run = subst (CountersRun most) set_to (run_after op steady.counters) in
         let up : ComeUp most control lanes (until_activated most) (record sim { deinit = lanes_in bits }) = record {
           counters = run;
@@ -570,7 +570,7 @@ module _ (most : ℕ) (sim : SimModule) (has : HasHalves sim) where
           free = up.free;
           near = λ lane within inside. subst (λ (path : PathState). until_up sim.delays path (lane_at sim lane).ticks_left ≤ 0) (sym (found_up sim every_lane lanes lane within inside (sym told ∙ j))) (omega arith);
         } in
-        let up_mid = up_left most control lanes 0 sim mid (leaves sim A0 (first_byte CPathStates) (byte_count CPathStates)) (run_after op up.counters) up_now in
+        let up_mid = up_left most control lanes 0 sim mid (leaves sim A0 (first_byte registers.PathStates) (byte_count registers.PathStates)) (run_after op up.counters) up_now in
         subst (λ (n : ℕ). ComeUp most control lanes n (ticked mid)) (omega arith) (up_tick most control lanes 0 mid used up_mid)
     up_tells zero up few page reply gives NotYet j =
         let met = states_met sim every_lane lanes Activated
@@ -580,7 +580,7 @@ module _ (most : ℕ) (sim : SimModule) (has : HasHalves sim) where
     up_tells (suc ticks) up few page reply gives NotYet j =
         let op = operation (tasks.AwaitActivated lanes) in
         let mid = (passed_on conduct op sim).1 in
-        let up_mid = up_left most control lanes (suc ticks) sim mid (leaves sim A0 (first_byte CPathStates) (byte_count CPathStates)) (run_after op up.counters) up in
+        let up_mid = up_left most control lanes (suc ticks) sim mid (leaves sim A0 (first_byte registers.PathStates) (byte_count registers.PathStates)) (run_after op up.counters) up in
         (ticks, (ticks, subst (λ (n : ℕ). ComeUp most control lanes n (ticked mid)) (omega arith) (up_tick most control lanes (suc ticks) mid used up_mid), omega arith), omega (arith, few))
     up_tells ticks up few page reply gives (Fails fault) j = tt
 

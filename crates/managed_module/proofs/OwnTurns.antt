@@ -20,6 +20,7 @@ use Rattle.std.specs.FinMap as finmap
 use Rattle.bus_model.specs.ScriptedBus.{ticked_times}
 use Rattle.conversations.specs.declared.pausing.Patience.{Patience}
 use Rattle.field_tables.specs.declared.field.Field.TheVariants as fields
+use Rattle.field_tables.specs.declared.table.cmis.CmisField.TheVariants as cmis
 use Rattle.paged_memory.specs.declared.page_addressing.KnownPage.TheVariants.{Unknown, Page as Known}
 use Rattle.paged_memory.specs.Images.{Memory}
 use Rattle.paged_memory.specs.KeyOrder.{key_cmp}
@@ -99,12 +100,12 @@ left_at_first = left_to_read (begun_with (doubting (reader.begun everything)) (p
 
 nothing_lasts : states_of finmap.empty ≡ 1 ∷ 1 ∷ 1 ∷ 1 ∷ 1 ∷ 1 ∷ []
 nothing_lasts =
-    let up = number_of_nothing fields.CMaxDurationModulePwrUp in
-    let down = number_of_nothing fields.CMaxDurationModulePwrDn in
-    let init = number_of_nothing fields.CMaxDurationDPInit in
-    let deinit = number_of_nothing fields.CMaxDurationDPDeinit in
-    let on = number_of_nothing fields.CMaxDurationDPTxTurnOn in
-    let off = number_of_nothing fields.CMaxDurationDPTxTurnOff in
+    let up = number_of_nothing (fields.Cmis cmis.MaxDurationModulePwrUp) in
+    let down = number_of_nothing (fields.Cmis cmis.MaxDurationModulePwrDn) in
+    let init = number_of_nothing (fields.Cmis cmis.MaxDurationDPInit) in
+    let deinit = number_of_nothing (fields.Cmis cmis.MaxDurationDPDeinit) in
+    let on = number_of_nothing (fields.Cmis cmis.MaxDurationDPTxTurnOn) in
+    let off = number_of_nothing (fields.Cmis cmis.MaxDurationDPTxTurnOff) in
     λ i. lasts (up i) ∷ lasts (down i) ∷ lasts (init i) ∷ lasts (deinit i) ∷ lasts (on i) ∷ lasts (off i) ∷ []
 
 pub first_patience : patience_for finmap.empty ≡ record { pause = 100; limit = 10000 }
@@ -140,7 +141,7 @@ pub suits_now : (first sim : SimModule) (wanted : Wanted) → sim.image ≡ firs
 suits_now first sim wanted same keeps suits = record {
   awake = suits.awake;
   read = ap (advert_fault_under (conventions_of wanted)) same ∙ suits.read;
-  power = omega (arith, ap (λ (m : Memory). number m fields.CMaxPower) same, suits.power);
+  power = omega (arith, ap (λ (m : Memory). number m (fields.Cmis cmis.MaxPower)) same, suits.power);
   plan = plan_now suits.plan;
   may = λ lane within. by lane within (suits.may lane within);
 } where

@@ -16,7 +16,7 @@ use Rattle.conversations.specs.declared.pausing.Timed.TheVariants.{InTime}
 use Rattle.conversations.specs.declared.within.Spent.{Spent}
 use Rattle.conversations.specs.Wanted.{op_of}
 use Rattle.field_tables.specs.Registers.{byte_count, first_byte}
-use Rattle.field_tables.specs.declared.field.Register.TheVariants.{CGlobalControls, CGlobalStatus}
+use Rattle.field_tables.specs.declared.field.Register.TheVariants as registers
 use Rattle.module_states.specs.Codes as module_codes
 use Rattle.module_states.specs.declared.state.ModuleState.{ModuleState}
 use Rattle.module_states.specs.declared.state.ModuleState.TheVariants as module_is
@@ -119,7 +119,7 @@ module _ (most : ℕ) (sim : SimModule) (has : HasHalves sim) (steady : IsSteady
   awake_read : sim.state ≡ module_is.Ready → has_low_power sim ≡ false → IsAwake (module_after sim read_module_state)
   awake_read ready low =
       let mid = (passed_on conduct read_module_state sim).1 in
-      awake_tick most mid (awake_left most sim mid (leaves sim A0 (first_byte CGlobalStatus) (byte_count CGlobalStatus)) (ready, low))
+      awake_tick most mid (awake_left most sim mid (leaves sim A0 (first_byte registers.GlobalStatus) (byte_count registers.GlobalStatus)) (ready, low))
 
   state_told : (state : ModuleState) → sim.state ≡ state → has_low_power sim ≡ false → Told read_module_state (after_state state)
   state_told module_is.LowPwr e low = (refl, λ met. absurd (let wrong : stage.Stored ≡ stage.Met = met in cc))
@@ -130,8 +130,8 @@ module _ (most : ℕ) (sim : SimModule) (has : HasHalves sim) (steady : IsSteady
 
   stored_told : (reply : Reply) → reply ≡ reply_of sim read_module_state → has_low_power sim ≡ false → Told read_module_state (change_after stored reply)
   stored_told reply gives low =
-      let (page, reads) = reads_half sim (first_byte CGlobalStatus) (byte_count CGlobalStatus) has in
-      let code : module_code (map (shown_byte sim page) (range_with_len (first_byte CGlobalStatus) (byte_count CGlobalStatus))) ≡ module_codes.code_of sim.state = read_state sim page in
+      let (page, reads) = reads_half sim (first_byte registers.GlobalStatus) (byte_count registers.GlobalStatus) has in
+      let code : module_code (map (shown_byte sim page) (range_with_len (first_byte registers.GlobalStatus) (byte_count registers.GlobalStatus))) ≡ module_codes.code_of sim.state = read_state sim page in
       let is : change_after stored reply ≡ after_state sim.state =
       ap (change_after stored) (gives ∙ reads) ∙ ap (λ (code : ℕ). moved_to stored (stage_judged (judged_power Awake code))) code in
       subst (Told read_module_state) (sym is) (state_told sim.state refl low)
@@ -193,14 +193,14 @@ module _ (most : ℕ) (sim : SimModule) (has : HasHalves sim) (job : PatientPowe
   power_lanes power at (Some fault) wants = absurd cc
   power_lanes power stage.Unread None wants =
       let same : read_controls ≡ op = cc in
-      subst (λ (op : Op). (passed_on conduct op sim).1.lanes ≡ sim.lanes) same (leaves sim A0 (first_byte CGlobalControls) (byte_count CGlobalControls)).lanes
+      subst (λ (op : Op). (passed_on conduct op sim).1.lanes ≡ sim.lanes) same (leaves sim A0 (first_byte registers.GlobalControls) (byte_count registers.GlobalControls)).lanes
   power_lanes power (stage.Found byte) None wants =
       let same : set_controls (wanted_controls power byte) ≡ op = cc in
       subst (λ (op : Op). (passed_on conduct op sim).1.lanes ≡ sim.lanes) same
-      (ap (λ (s : SimModule). s.lanes) (stores_half sim (first_byte CGlobalControls) (wanted_controls power byte ∷ []) has ∙ controls_stored sim (wanted_controls power byte)))
+      (ap (λ (s : SimModule). s.lanes) (stores_half sim (first_byte registers.GlobalControls) (wanted_controls power byte ∷ []) has ∙ controls_stored sim (wanted_controls power byte)))
   power_lanes power stage.Stored None wants =
       let same : read_module_state ≡ op = cc in
-      subst (λ (op : Op). (passed_on conduct op sim).1.lanes ≡ sim.lanes) same (leaves sim A0 (first_byte CGlobalStatus) (byte_count CGlobalStatus)).lanes
+      subst (λ (op : Op). (passed_on conduct op sim).1.lanes ≡ sim.lanes) same (leaves sim A0 (first_byte registers.GlobalStatus) (byte_count registers.GlobalStatus)).lanes
   power_lanes power stage.Met None wants = absurd cc
 
   pub waking_lanes : (first : SimModule) → KeepsLanes first sim → KeepsLanes first after

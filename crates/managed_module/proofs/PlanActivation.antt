@@ -6,7 +6,7 @@ use Rattle.bus_model.specs.declared.operation.Op.TheVariants.{Fetch}
 use Rattle.bus_model.specs.declared.operation.Reply.{Reply}
 use Rattle.field_tables.specs.LaneSets.{Lanes, byte_of, every_lane}
 use Rattle.field_tables.specs.Registers.{byte_count, first_byte}
-use Rattle.field_tables.specs.declared.field.Register.TheVariants.{CActiveControl, CDPDeinit, CGlobalStatus}
+use Rattle.field_tables.specs.declared.field.Register.TheVariants as registers
 use Rattle.paged_memory.specs.Images.{Memory}
 use Rattle.datapath_states.specs.Lanes.{codes_in}
 use Rattle.datapath_states.specs.StateCodes.{code_of}
@@ -38,17 +38,17 @@ module _ (most : ℕ) (memory : Memory) (control active : List ℕ) (outside lan
 
   ready_well : Rests most memory control sim → Does 0 tasks.FindReady
   ready_well rests page reply gives judged j =
-      subst (λ (judged : ReplyJudgement). Well Fine 0 judged (module_after sim (operation tasks.FindReady))) (sym (ready_is most sim has reply gives rests.awake.0) ∙ j) (after_read 1 (first_byte CGlobalStatus) (byte_count CGlobalStatus) rests)
+      subst (λ (judged : ReplyJudgement). Well Fine 0 judged (module_after sim (operation tasks.FindReady))) (sym (ready_is most sim has reply gives rests.awake.0) ∙ j) (after_read 1 (first_byte registers.GlobalStatus) (byte_count registers.GlobalStatus) rests)
 
   active_well : Rests most memory control sim → Does 1 (tasks.CheckActive control)
   active_well rests page reply gives judged j =
       subst (λ (judged : ReplyJudgement). Well Fine 1 judged (module_after sim (operation (tasks.CheckActive control)))) (sym (active_met most memory control sim has rests (page 0x11 refl) reply gives) ∙ j)
-      (after_read 2 (first_byte CActiveControl) (byte_count CActiveControl) rests)
+      (after_read 2 (first_byte registers.ActiveControl) (byte_count registers.ActiveControl) rests)
 
   release_well : Does 2 (tasks.Deinitialize (255 - byte_of lanes))
   release_well page reply gives judged j =
       let bits = 255 - byte_of lanes in
-      subst (λ (judged : ReplyJudgement). Well Fine 2 judged (module_after sim (operation (tasks.Deinitialize bits)))) (sym (ap (judgement (tasks.Deinitialize bits)) (done most sim has (first_byte CDPDeinit) (bits ∷ []) reply gives)) ∙ j) tt
+      subst (λ (judged : ReplyJudgement). Well Fine 2 judged (module_after sim (operation (tasks.Deinitialize bits)))) (sym (ap (judgement (tasks.Deinitialize bits)) (done most sim has (first_byte registers.DPDeinit) (bits ∷ []) reply gives)) ∙ j) tt
 
   up_well : Does 3 (tasks.AwaitActivated lanes)
   up_well page reply gives Met j = tt

@@ -10,7 +10,7 @@ use Rattle.bus_model.specs.declared.operation.Reply.{Reply}
 use Rattle.bus_model.specs.ScriptedBus.{passed_on}
 use Rattle.field_tables.specs.LaneSets.{IsLane, Lanes, byte_of, is_empty, lanes_in}
 use Rattle.field_tables.specs.Registers.{byte_count, first_byte}
-use Rattle.field_tables.specs.declared.field.Register.TheVariants.{CActiveControl, CApplyDPInit, CConfigStatus}
+use Rattle.field_tables.specs.declared.field.Register.TheVariants as registers
 use Rattle.paged_memory.specs.Images.{Memory}
 use Rattle.datapath_states.specs.StatusCodes.{status_code_of}
 use Rattle.datapath_states.specs.declared.status.ConfigStatus.{ConfigStatus}
@@ -58,8 +58,8 @@ use Rattle.managed_module.proofs.SteadyModules.{apply_stored, counters_passed}
 -- a read of the Active Control Set that is the plan's
 pub active_met : (most : ℕ) (memory : Memory) (control : List ℕ) (sim : SimModule) (has : HasHalves sim) → Rests most memory control sim → Shows 0x11 sim → (reply : Reply) → reply ≡ reply_of sim (operation (tasks.CheckActive control)) → judgement (tasks.CheckActive control) reply ≡ Met
 active_met most memory control sim has rests shows reply gives =
-    let (half, reads) = reads_half sim (first_byte CActiveControl) (byte_count CActiveControl) has in
-    let bytes = map (shown_byte sim half) (range_with_len (first_byte CActiveControl) (byte_count CActiveControl)) in
+    let (half, reads) = reads_half sim (first_byte registers.ActiveControl) (byte_count registers.ActiveControl) has in
+    let bytes = map (shown_byte sim half) (range_with_len (first_byte registers.ActiveControl) (byte_count registers.ActiveControl)) in
     let are : bytes ≡ control = sym (active_is sim half shows rests.steady.eight) ∙ rests.active in
     ap (judgement (tasks.CheckActive control)) (gives ∙ reads) ∙ active_judged control bytes ∙ ap (λ (bytes : List ℕ). met_unless ActiveDiffers (differing_lane bytes control)) are ∙ ap (met_unless ActiveDiffers) (same_differs control)
 
@@ -153,8 +153,8 @@ module _ (most : ℕ) (conventions : Conventions) (memory : Memory) (paths kept 
         let op = operation (tasks.Apply bits) in
         let mid = (passed_on conduct op sim).1 in
         let next = applied sim mask in
-        let met : Met ≡ judged = sym (ap (judgement (tasks.Apply bits)) (done most sim has (first_byte CApplyDPInit) (bits ∷ []) reply gives)) ∙ j in
-        let set_to : mid ≡ next = after_store sim (first_byte CApplyDPInit) (bits ∷ []) next has (apply_stored sim bits (page 0x10 refl)) in
+        let met : Met ≡ judged = sym (ap (judgement (tasks.Apply bits)) (done most sim has (first_byte registers.ApplyDPInit) (bits ∷ []) reply gives)) ∙ j in
+        let set_to : mid ≡ next = after_store sim (first_byte registers.ApplyDPInit) (bits ∷ []) next has (apply_stored sim bits (page 0x10 refl)) in
         let applies : Applies most memory goal.control goal.outside next = record {
           ticks = most;
           are = are_applied most goal.outside sim is.rests.steady (subst (CountersRun most) set_to (counters_passed most op sim is.rests.steady.counters));
@@ -191,15 +191,15 @@ module _ (most : ℕ) (conventions : Conventions) (memory : Memory) (paths kept 
         }
 
     pub await_well : Does 6 (tasks.AwaitApplied goal.outside)
-    await_well page reply gives Met j = after_read 7 (first_byte CConfigStatus) (byte_count CConfigStatus) (rests_now (sym (all_told page reply gives) ∙ j))
-    await_well page reply gives NotYet j = after_read 6 (first_byte CConfigStatus) (byte_count CConfigStatus) applies
+    await_well page reply gives Met j = after_read 7 (first_byte registers.ConfigStatus) (byte_count registers.ConfigStatus) (rests_now (sym (all_told page reply gives) ∙ j))
+    await_well page reply gives NotYet j = after_read 6 (first_byte registers.ConfigStatus) (byte_count registers.ConfigStatus) applies
     await_well page reply gives (Fails fault) j =
         never_fails (all_lanes_have 1 goal.outside (status_codes sim)) fault (sym (statuses_fine sim goal.outside (at_lane goal.control) inside_each) ∙ sym (all_told page reply gives) ∙ j)
 
   pub active_well : Rests most memory goal.control sim → Does 7 (tasks.CheckActive goal.control)
   active_well rests page reply gives judged j =
       subst (λ (judged : ReplyJudgement). Well Fine 7 judged (module_after sim (operation (tasks.CheckActive goal.control)))) (sym (active_met most memory goal.control sim has rests (page 0x11 refl) reply gives) ∙ j)
-      (after_read 8 (first_byte CActiveControl) (byte_count CActiveControl) rests)
+      (after_read 8 (first_byte registers.ActiveControl) (byte_count registers.ActiveControl) rests)
 
   -- ---- whichever task
 

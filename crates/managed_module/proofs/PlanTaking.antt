@@ -8,7 +8,7 @@ use Rattle.bus_model.specs.declared.operation.Reply.{Reply}
 use Rattle.bus_model.specs.ScriptedBus.{passed_on}
 use Rattle.field_tables.specs.LaneSets.{Lanes, byte_of, lanes_in}
 use Rattle.field_tables.specs.Registers.{byte_count, first_byte}
-use Rattle.field_tables.specs.declared.field.Register.TheVariants.{CDPDeinit, CGlobalStatus, CPathStates, CStagedControl}
+use Rattle.field_tables.specs.declared.field.Register.TheVariants as registers
 use Rattle.paged_memory.specs.Images.{Memory}
 use Rattle.module_states.specs.Codes as module_codes
 use Rattle.module_states.specs.declared.state.ModuleState.{ModuleState}
@@ -80,7 +80,7 @@ module _ (most : ℕ) (conventions : Conventions) (memory : Memory) (paths kept 
   pub find_well : Rests most memory active sim → Tells 0 tasks.FindReady
   find_well rests page reply gives judged j =
       let met : Met ≡ judged = sym (ready_is most sim has reply gives rests.awake.0) ∙ j in
-      subst (λ (judged : ReplyJudgement). Well Phase 0 judged (module_after sim (operation tasks.FindReady))) met (read_well 1 (first_byte CGlobalStatus) (byte_count CGlobalStatus) rests)
+      subst (λ (judged : ReplyJudgement). Well Phase 0 judged (module_after sim (operation tasks.FindReady))) met (read_well 1 (first_byte registers.GlobalStatus) (byte_count registers.GlobalStatus) rests)
 
   -- ---- lanes are taken down
 
@@ -90,8 +90,8 @@ module _ (most : ℕ) (conventions : Conventions) (memory : Memory) (paths kept 
       let op = operation (tasks.Deinitialize bits) in
       let next = record sim { deinit = lanes_in bits } in
       let mid = (passed_on conduct op sim).1 in
-      let met : Met ≡ judged = sym (ap (judgement (tasks.Deinitialize bits)) (done most sim has (first_byte CDPDeinit) (bits ∷ []) reply gives)) ∙ j in
-      let set_to : mid ≡ next = after_store sim (first_byte CDPDeinit) (bits ∷ []) next has (deinit_stored sim bits (page 0x10 refl)) in
+      let met : Met ≡ judged = sym (ap (judgement (tasks.Deinitialize bits)) (done most sim has (first_byte registers.DPDeinit) (bits ∷ []) reply gives)) ∙ j in
+      let set_to : mid ≡ next = after_store sim (first_byte registers.DPDeinit) (bits ∷ []) next has (deinit_stored sim bits (page 0x10 refl)) in
       let run : CountersRun most next = subst (CountersRun most) set_to (counters_passed most op sim rests.steady.counters) in
       let rests_next : Rests most memory active next = record {
         steady = steady_left most sim next (leaves_deinit sim (lanes_in bits)) run rests.steady;
@@ -116,8 +116,8 @@ module _ (most : ℕ) (conventions : Conventions) (memory : Memory) (paths kept 
         bits = bits;
         near = λ lane within inside. subst (λ (path : PathState). until_down sim.delays path (lane_at sim lane).ticks_left ≤ 0) (sym (found_down sim goal.outside lane within inside all)) (omega arith);
       } in
-      read_well 3 (first_byte CPathStates) (byte_count CPathStates) (record { rests = rests; down = down })
-  down_well rests bits page reply gives NotYet j = read_well 2 (first_byte CPathStates) (byte_count CPathStates) (rests, bits)
+      read_well 3 (first_byte registers.PathStates) (byte_count registers.PathStates) (record { rests = rests; down = down })
+  down_well rests bits page reply gives NotYet j = read_well 2 (first_byte registers.PathStates) (byte_count registers.PathStates) (rests, bits)
   down_well rests bits page reply gives (Fails fault) j = never_fails (all_lanes_have (code_of Deactivated) goal.outside (shown_codes sim)) fault (sym (states_told page reply gives) ∙ j)
 
   -- ---- control bytes are staged
@@ -125,10 +125,10 @@ module _ (most : ℕ) (conventions : Conventions) (memory : Memory) (paths kept 
   pub stage_well : IsDown most memory active goal.outside sim → Tells 3 (tasks.Stage goal.control)
   stage_well is page reply gives judged j =
       let op = operation (tasks.Stage goal.control) in
-      let next = stored_bytes sim (first_byte CStagedControl) goal.control in
+      let next = stored_bytes sim (first_byte registers.StagedControl) goal.control in
       let mid = (passed_on conduct op sim).1 in
-      let met : Met ≡ judged = sym (ap (judgement (tasks.Stage goal.control)) (done most sim has (first_byte CStagedControl) goal.control reply gives)) ∙ j in
-      let set_to : mid ≡ next = stores_half sim (first_byte CStagedControl) goal.control has in
+      let met : Met ≡ judged = sym (ap (judgement (tasks.Stage goal.control)) (done most sim has (first_byte registers.StagedControl) goal.control reply gives)) ∙ j in
+      let set_to : mid ≡ next = stores_half sim (first_byte registers.StagedControl) goal.control has in
       let run : CountersRun most next = subst (CountersRun most) set_to (counters_passed most op sim is.rests.steady.counters) in
       let same = leaves_stage sim goal.control in
       let rest = leaves_rest sim goal.control in
@@ -144,9 +144,9 @@ module _ (most : ℕ) (conventions : Conventions) (memory : Memory) (paths kept 
 
   pub check_well : IsDown most memory active goal.outside sim → staged_bytes sim ≡ goal.control → Tells 4 (tasks.CheckStaged goal.control)
   check_well is staged page reply gives judged j =
-      let (half, reads) = reads_half sim (first_byte CStagedControl) (byte_count CStagedControl) has in
-      let bytes = map (shown_byte sim half) (range_with_len (first_byte CStagedControl) (byte_count CStagedControl)) in
+      let (half, reads) = reads_half sim (first_byte registers.StagedControl) (byte_count registers.StagedControl) has in
+      let bytes = map (shown_byte sim half) (range_with_len (first_byte registers.StagedControl) (byte_count registers.StagedControl)) in
       let are : bytes ≡ goal.control = staged_is_read sim half (page 0x10 refl) is.rests.steady.eight ∙ staged in
       let met : Met ≡ judged =
       sym (ap (judgement (tasks.CheckStaged goal.control)) (gives ∙ reads) ∙ staged_judged goal.control bytes ∙ ap (λ (bytes : List ℕ). met_unless StagedDiffers (differing_lane bytes goal.control)) are ∙ ap (met_unless StagedDiffers) (same_differs goal.control)) ∙ j in
-      subst (λ (judged : ReplyJudgement). Well Phase 4 judged (module_after sim (operation (tasks.CheckStaged goal.control)))) met (read_well 5 (first_byte CStagedControl) (byte_count CStagedControl) (is, staged))
+      subst (λ (judged : ReplyJudgement). Well Phase 4 judged (module_after sim (operation (tasks.CheckStaged goal.control)))) met (read_well 5 (first_byte registers.StagedControl) (byte_count registers.StagedControl) (is, staged))

@@ -7,7 +7,7 @@ use Rattle.std.proofs.lemmas.Bool.{and_from, le-leb, lt-ltb}
 use Rattle.std.proofs.lemmas.List.{ext_get_or, get_or-map, get_or-set_other, get_or-set_same, length-map}
 use Rattle.field_tables.specs.LaneSets.{IsLane, lanes_in}
 use Rattle.field_tables.specs.Registers.{byte_count, first_byte}
-use Rattle.field_tables.specs.declared.field.Register.TheVariants.{CApplyDPInit, CStagedControl}
+use Rattle.field_tables.specs.declared.field.Register.TheVariants as registers
 use Rattle.control_sets.specs.Judgements.{at_lane, differing_lane}
 use Rattle.control_sets.proofs.Finding.{none_found}
 use Rattle.paged_memory.specs.Images.{place_in_half}
@@ -44,16 +44,16 @@ same_differs bytes = none_found (λ lane. not (at_lane bytes lane == at_lane byt
 
 -- ---- the store
 
-in_staged : (address : ℕ) → first_byte CStagedControl ≤ address → address < first_byte CStagedControl + byte_count CStagedControl → is_in CStagedControl address ≡ true
-in_staged address from to = and_from _ _ (le-leb (first_byte CStagedControl) address from) (lt-ltb address (first_byte CStagedControl + byte_count CStagedControl) to)
+in_staged : (address : ℕ) → first_byte registers.StagedControl ≤ address → address < first_byte registers.StagedControl + byte_count registers.StagedControl → is_in registers.StagedControl address ≡ true
+in_staged address from to = and_from _ _ (le-leb (first_byte registers.StagedControl) address from) (lt-ltb address (first_byte registers.StagedControl + byte_count registers.StagedControl) to)
 
-byte_is : (sim : SimModule) (address byte : ℕ) → Shows 0x10 sim → first_byte CStagedControl ≤ address → address < first_byte CStagedControl + byte_count CStagedControl → stored_byte sim address byte ≡ staged_at sim (address - first_byte CStagedControl + 1) byte
+byte_is : (sim : SimModule) (address byte : ℕ) → Shows 0x10 sim → first_byte registers.StagedControl ≤ address → address < first_byte registers.StagedControl + byte_count registers.StagedControl → stored_byte sim address byte ≡ staged_at sim (address - first_byte registers.StagedControl + 1) byte
 unfolding stored_byte
 byte_is sim address byte shows from to =
     let upper : 128 ≤ address = omega (arith, from) in
-    let staged = staged_at sim (address - first_byte CStagedControl + 1) byte in
-    let rest = if is_in CStagedControl address then staged else sim in
-    let applies = if address == first_byte CApplyDPInit then applied sim (lanes_in byte) else rest in
+    let staged = staged_at sim (address - first_byte registers.StagedControl + 1) byte in
+    let rest = if is_in registers.StagedControl address then staged else sim in
+    let applies = if address == first_byte registers.ApplyDPInit then applied sim (lanes_in byte) else rest in
     ap (λ (low : Bool). if low then stored_low sim address byte else if is_mapped sim 0x10 then stored_high sim address byte else sim) (high_test address upper)
     ∙ ap (λ (on : Bool). if on then stored_high sim address byte else sim) (controls_mapped sim shows)
     ∙ ap (λ (t : Bool). if t then record sim { deinit = lanes_in byte } else applies) (not_128 address from)
@@ -88,22 +88,22 @@ staged_more sim after place byte bytes within rest = record {
       let there : place + suc k ≡ place + 1 + k = omega arith in
       ap (λ (n : ℕ). (get_or after.lanes n no_lane).staged) there ∙ rest.new k (omega (arith, below))
 
-staged_from : (sim : SimModule) (place : ℕ) (bytes : List ℕ) → Shows 0x10 sim → length sim.lanes ≡ 8 → place + length bytes ≤ 8 → IsStagedFrom sim (stored_bytes sim (first_byte CStagedControl + place) bytes) place bytes
+staged_from : (sim : SimModule) (place : ℕ) (bytes : List ℕ) → Shows 0x10 sim → length sim.lanes ≡ 8 → place + length bytes ≤ 8 → IsStagedFrom sim (stored_bytes sim (first_byte registers.StagedControl + place) bytes) place bytes
 staged_from sim place [] shows eight few = record { eight = refl; new = λ k below. absurd (omega (arith, below)); old = λ k below. refl }
 staged_from sim place (byte ∷ bytes) shows eight few =
-    let address = first_byte CStagedControl + place in
+    let address = first_byte registers.StagedControl + place in
     let next = staged_in sim place byte in
-    let index : address - first_byte CStagedControl + 1 - 1 ≡ place = omega arith in
+    let index : address - first_byte registers.StagedControl + 1 - 1 ≡ place = omega arith in
     let is : stored_byte sim address byte ≡ next = byte_is sim address byte shows (omega arith) (omega (arith, few)) ∙ ap (λ (n : ℕ). staged_in sim n byte) index in
     let shown : Shows 0x10 next = record { bank = shows.bank; number = shows.number } in
     let rest = staged_from next (place + 1) bytes shown (length-set sim.lanes place (staged_lane sim place byte) ∙ eight) (omega (arith, few)) in
-    let address_more : first_byte CStagedControl + (place + 1) ≡ address + 1 = omega arith in
+    let address_more : first_byte registers.StagedControl + (place + 1) ≡ address + 1 = omega arith in
     subst (λ (s : SimModule). IsStagedFrom sim (stored_bytes s (address + 1) bytes) place (byte ∷ bytes)) (sym is)
     (staged_more sim (stored_bytes next (address + 1) bytes) place byte bytes (omega (arith, few, eight)) (subst (λ (n : ℕ). IsStagedFrom next (stored_bytes next n bytes) (place + 1) bytes) address_more rest))
 
-pub stages_all : (sim : SimModule) (control : List ℕ) → Shows 0x10 sim → length sim.lanes ≡ 8 → length control ≡ 8 → staged_bytes (stored_bytes sim (first_byte CStagedControl) control) ≡ control
+pub stages_all : (sim : SimModule) (control : List ℕ) → Shows 0x10 sim → length sim.lanes ≡ 8 → length control ≡ 8 → staged_bytes (stored_bytes sim (first_byte registers.StagedControl) control) ≡ control
 stages_all sim control shows eight len =
-    let after = stored_bytes sim (first_byte CStagedControl) control in
+    let after = stored_bytes sim (first_byte registers.StagedControl) control in
     let from : IsStagedFrom sim after 0 control = staged_from sim 0 control shows eight (omega (arith, len)) in
     let after_eight : length after.lanes ≡ 8 = from.eight ∙ eight in
     lanes_are (λ (l : Lane). l.staged) after control after_eight len
@@ -117,7 +117,7 @@ pub record LeavesRest (sim after : SimModule) : Type 0 where
   pub delays : after.delays ≡ sim.delays
   pub active : active_bytes after ≡ active_bytes sim
 
-pub leaves_rest : (sim : SimModule) (bytes : List ℕ) → LeavesRest sim (stored_bytes sim (first_byte CStagedControl) bytes)
+pub leaves_rest : (sim : SimModule) (bytes : List ℕ) → LeavesRest sim (stored_bytes sim (first_byte registers.StagedControl) bytes)
 leaves_rest sim bytes =
     stage_bytes (LeavesRest sim)
     (λ between lane byte same. record {
@@ -125,7 +125,7 @@ leaves_rest sim bytes =
       delays = same.delays;
       active = map-set_same (λ (l : Lane). l.active) between.lanes (lane - 1) (record (lane_at between lane) { staged = byte }) no_lane refl ∙ same.active;
     })
-    sim (first_byte CStagedControl) bytes (omega arith) (record { deinit = refl; delays = refl; active = refl })
+    sim (first_byte registers.StagedControl) bytes (omega arith) (record { deinit = refl; delays = refl; active = refl })
 
 -- ---- the read
 
@@ -137,15 +137,15 @@ on_controls sim page address high shows =
     ap (λ (low : Bool). first_shown (if low then lower_bytes sim byte address else if is_mapped sim 0x10 then configuration_bytes sim address else rest) byte) (high_test address high)
     ∙ ap (λ (on : Bool). first_shown (if on then configuration_bytes sim address else rest) byte) (controls_mapped sim shows)
 
-shown_staged : (sim : SimModule) (page : List ℕ) → Shows 0x10 sim → map (shown_byte sim page) (range_with_len (first_byte CStagedControl) (byte_count CStagedControl)) ≡ map (λ lane. (lane_at sim lane).staged) (range_with_len 1 8)
+shown_staged : (sim : SimModule) (page : List ℕ) → Shows 0x10 sim → map (shown_byte sim page) (range_with_len (first_byte registers.StagedControl) (byte_count registers.StagedControl)) ≡ map (λ lane. (lane_at sim lane).staged) (range_with_len 1 8)
 shown_staged sim page shows = λ i.
-    on_controls sim page (first_byte CStagedControl) (omega arith) shows i ∷ on_controls sim page (first_byte CStagedControl + 1) (omega arith) shows i
-    ∷ on_controls sim page (first_byte CStagedControl + 2) (omega arith) shows i ∷ on_controls sim page (first_byte CStagedControl + 3) (omega arith) shows i
-    ∷ on_controls sim page (first_byte CStagedControl + 4) (omega arith) shows i ∷ on_controls sim page (first_byte CStagedControl + 5) (omega arith) shows i
-    ∷ on_controls sim page (first_byte CStagedControl + 6) (omega arith) shows i ∷ on_controls sim page (first_byte CStagedControl + 7) (omega arith) shows i ∷ []
+    on_controls sim page (first_byte registers.StagedControl) (omega arith) shows i ∷ on_controls sim page (first_byte registers.StagedControl + 1) (omega arith) shows i
+    ∷ on_controls sim page (first_byte registers.StagedControl + 2) (omega arith) shows i ∷ on_controls sim page (first_byte registers.StagedControl + 3) (omega arith) shows i
+    ∷ on_controls sim page (first_byte registers.StagedControl + 4) (omega arith) shows i ∷ on_controls sim page (first_byte registers.StagedControl + 5) (omega arith) shows i
+    ∷ on_controls sim page (first_byte registers.StagedControl + 6) (omega arith) shows i ∷ on_controls sim page (first_byte registers.StagedControl + 7) (omega arith) shows i ∷ []
 
 -- what is read is what is staged
-pub staged_is_read : (sim : SimModule) (page : List ℕ) → Shows 0x10 sim → length sim.lanes ≡ 8 → map (shown_byte sim page) (range_with_len (first_byte CStagedControl) (byte_count CStagedControl)) ≡ staged_bytes sim
+pub staged_is_read : (sim : SimModule) (page : List ℕ) → Shows 0x10 sim → length sim.lanes ≡ 8 → map (shown_byte sim page) (range_with_len (first_byte registers.StagedControl) (byte_count registers.StagedControl)) ≡ staged_bytes sim
 staged_is_read sim page shows eight =
     let staged = λ (lane : Lane). lane.staged in
     let len : length (staged_bytes sim) ≡ 8 = length-map sim.lanes staged ∙ eight in

@@ -8,7 +8,7 @@ use Rattle.bus_model.specs.declared.operation.Op.TheVariants.{Fetch, Store}
 use Rattle.bus_model.specs.ScriptedBus.{passed_on, ticked_times}
 use Rattle.field_tables.specs.LaneSets.{Lanes, lanes_in}
 use Rattle.field_tables.specs.Registers.{first_byte}
-use Rattle.field_tables.specs.declared.field.Register.TheVariants.{CApplyDPInit, CDPDeinit, CGlobalControls, CStagedControl}
+use Rattle.field_tables.specs.declared.field.Register.TheVariants as registers
 use Rattle.module_states.specs.declared.state.ModuleState.{ModuleState}
 use Rattle.module_states.specs.declared.state.ModuleState.TheVariants as module_is
 use Rattle.module_states.specs.Transitions as module_table
@@ -137,39 +137,39 @@ module _ (most : ℕ) where
 
 -- ---- the stores
 
-pub deinit_stored : (sim : SimModule) (bits : ℕ) → Shows 0x10 sim → stored_bytes sim (first_byte CDPDeinit) (bits ∷ []) ≡ record sim { deinit = lanes_in bits }
+pub deinit_stored : (sim : SimModule) (bits : ℕ) → Shows 0x10 sim → stored_bytes sim (first_byte registers.DPDeinit) (bits ∷ []) ≡ record sim { deinit = lanes_in bits }
 unfolding stored_byte
 deinit_stored sim bits shows = ap (λ (on : Bool). if on then record sim { deinit = lanes_in bits } else sim) (controls_mapped sim shows)
 
 pub leaves_deinit : (sim : SimModule) (deinit : Lanes) → Leaves sim (record sim { deinit = deinit })
 leaves_deinit sim deinit = record { eight = refl; lanes = λ lane. same_itself (lane_at sim lane); state = refl; power = refl }
 
-pub apply_stored : (sim : SimModule) (bits : ℕ) → Shows 0x10 sim → stored_bytes sim (first_byte CApplyDPInit) (bits ∷ []) ≡ applied sim (lanes_in bits)
+pub apply_stored : (sim : SimModule) (bits : ℕ) → Shows 0x10 sim → stored_bytes sim (first_byte registers.ApplyDPInit) (bits ∷ []) ≡ applied sim (lanes_in bits)
 unfolding stored_byte
 apply_stored sim bits shows = ap (λ (on : Bool). if on then applied sim (lanes_in bits) else sim) (controls_mapped sim shows)
 
-pub not_128 : (address : ℕ) → first_byte CStagedControl ≤ address → (address == 128) ≡ false
+pub not_128 : (address : ℕ) → first_byte registers.StagedControl ≤ address → (address == 128) ≡ false
 not_128 address high = grind (arith, nat_tests)
 
-pub not_at_apply : (address : ℕ) → first_byte CStagedControl ≤ address → (address == first_byte CApplyDPInit) ≡ false
+pub not_at_apply : (address : ℕ) → first_byte registers.StagedControl ≤ address → (address == first_byte registers.ApplyDPInit) ≡ false
 not_at_apply address high = grind (arith, nat_tests)
 
 module _ (P : SimModule → Type 0) (stages : (sim : SimModule) (lane byte : ℕ) → P sim → P (staged_at sim lane byte)) where
-  stage_byte : (sim : SimModule) (address byte : ℕ) → first_byte CStagedControl ≤ address → P sim → P (stored_byte sim address byte)
+  stage_byte : (sim : SimModule) (address byte : ℕ) → first_byte registers.StagedControl ≤ address → P sim → P (stored_byte sim address byte)
   unfolding stored_byte
   stage_byte sim address byte high p =
       let upper : 128 ≤ address = omega (arith, high) in
-      let staged = staged_at sim (address - first_byte CStagedControl + 1) byte in
-      let rest = if is_in CStagedControl address then staged else sim in
-      let applies = if address == first_byte CApplyDPInit then applied sim (lanes_in byte) else rest in
+      let staged = staged_at sim (address - first_byte registers.StagedControl + 1) byte in
+      let rest = if is_in registers.StagedControl address then staged else sim in
+      let applies = if address == first_byte registers.ApplyDPInit then applied sim (lanes_in byte) else rest in
       let control : P (stored_high sim address byte) =
       subst (λ (t : Bool). P (if t then record sim { deinit = lanes_in byte } else applies)) (sym (not_128 address high))
       (subst (λ (t : Bool). P (if t then applied sim (lanes_in byte) else rest)) (sym (not_at_apply address high))
-      (either P (is_in CStagedControl address) staged sim (stages sim (address - first_byte CStagedControl + 1) byte p) p)) in
+      (either P (is_in registers.StagedControl address) staged sim (stages sim (address - first_byte registers.StagedControl + 1) byte p) p)) in
       subst (λ (low : Bool). P (if low then stored_low sim address byte else if is_mapped sim 0x10 then stored_high sim address byte else sim)) (sym (high_test address upper))
       (either P (is_mapped sim 0x10) (stored_high sim address byte) sim control p)
 
-  pub stage_bytes : (sim : SimModule) (address : ℕ) (bytes : List ℕ) → first_byte CStagedControl ≤ address → P sim → P (stored_bytes sim address bytes)
+  pub stage_bytes : (sim : SimModule) (address : ℕ) (bytes : List ℕ) → first_byte registers.StagedControl ≤ address → P sim → P (stored_bytes sim address bytes)
   stage_bytes sim address [] high p = p
   stage_bytes sim address (byte ∷ bytes) high p = stage_bytes (stored_byte sim address byte) (address + 1) bytes (omega (arith, high)) (stage_byte sim address byte high p)
 
@@ -187,10 +187,10 @@ leaves_staged first sim lane byte same = record {
   power = same.power;
 }
 
-pub leaves_stage : (sim : SimModule) (bytes : List ℕ) → Leaves sim (stored_bytes sim (first_byte CStagedControl) bytes)
-leaves_stage sim bytes = stage_bytes (Leaves sim) (leaves_staged sim) sim (first_byte CStagedControl) bytes (omega arith) (leaves_itself sim)
+pub leaves_stage : (sim : SimModule) (bytes : List ℕ) → Leaves sim (stored_bytes sim (first_byte registers.StagedControl) bytes)
+leaves_stage sim bytes = stage_bytes (Leaves sim) (leaves_staged sim) sim (first_byte registers.StagedControl) bytes (omega arith) (leaves_itself sim)
 
 -- the byte of global controls
-pub controls_stored : (sim : SimModule) (byte : ℕ) → stored_bytes sim (first_byte CGlobalControls) (byte ∷ []) ≡ record sim { control = byte }
+pub controls_stored : (sim : SimModule) (byte : ℕ) → stored_bytes sim (first_byte registers.GlobalControls) (byte ∷ []) ≡ record sim { control = byte }
 unfolding stored_byte
 controls_stored sim byte = refl

@@ -32,7 +32,8 @@ use Rattle.control_sets.specs.PowerProgress.{PatientPower, change_after, moved_t
 use Rattle.control_sets.specs.Progress.{PatientProcedure, after_reply, hand, judged_at, list_at, task_at, tasks_of, told_at}
 use Rattle.control_sets.specs.Progress as progress
 use Rattle.control_sets.specs.Tasks.{operation, page_of}
-use Rattle.field_tables.specs.declared.field.Field.TheVariants.{CModuleState}
+use Rattle.field_tables.specs.declared.field.Field.TheVariants as fields
+use Rattle.field_tables.specs.declared.table.cmis.CmisField.TheVariants as cmis_fields
 use Rattle.field_tables.specs.FieldValues.{number_in_byte}
 use Rattle.module_reading.specs.declared.halves.Halves.{Halves}
 use Rattle.module_reading.specs.declared.region.Region.{Region}
@@ -335,7 +336,7 @@ below_moves false e = absurd cc
 
 -- a half that was read is in hand no more
 look_moves : (goal : Goal) (at : LookStage) (op : Op) (reply : Reply) → looks.wants_at at ≡ Do op → Answers op reply → (reply ≡ Refused → ⊥) → looks.stage_after goal at reply ≡ at → ⊥
-look_moves goal looking.Lower op (Bytes bytes) wants answers answered same = below_moves (number_in_byte CModuleState (slice_index bytes.items 3) == 3) same
+look_moves goal looking.Lower op (Bytes bytes) wants answers answered same = below_moves (number_in_byte (fields.Cmis cmis_fields.ModuleState) (slice_index bytes.items 3) == 3) same
 look_moves goal looking.Lower op Done wants answers answered same = let is : op ≡ looks.fetch_half 0 = cc in subst (λ (o : Op). Answers o Done) is answers
 look_moves goal looking.Lanes op (Bytes bytes) wants answers answered same = absurd cc
 look_moves goal looking.Lanes op Done wants answers answered same = let is : op ≡ looks.fetch_half 128 = cc in subst (λ (o : Op). Answers o Done) is answers

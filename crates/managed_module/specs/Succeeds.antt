@@ -3,7 +3,8 @@
 use Rattle.std.specs.Prelude.{◌≡◌, ◌⊎◌, ℕ, ◌+◌, ◌*◌, ◌<◌, ◌≤◌, true, false, List, [], ◌∷◌, Some, None, length}
 use Rattle.std.specs.FinMap as map
 use Rattle.std.specs.FinSet as set
-use Rattle.field_tables.specs.declared.field.Field.TheVariants.{CMaxPower}
+use Rattle.field_tables.specs.declared.field.Field.TheVariants as fields
+use Rattle.field_tables.specs.declared.table.cmis.CmisField.TheVariants as cmis
 use Rattle.field_tables.specs.LaneSets.{IsLane, is_empty}
 use Rattle.field_tables.specs.Readings.{number}
 use Rattle.paged_memory.specs.declared.key.Key.{Key}
@@ -62,7 +63,7 @@ pub record HasPath (sim : SimModule) (wanted : Wanted) : Type 0 where
 pub record Suits (sim : SimModule) (wanted : Wanted) : Type 0 where
   pub awake : wanted.asleep ≡ false
   pub read : advert_fault_under (conventions_of wanted) sim.image ≡ None
-  pub power : number sim.image CMaxPower ≤ wanted.max_power
+  pub power : number sim.image (fields.Cmis cmis.MaxPower) ≤ wanted.max_power
   pub plan : HasPath sim wanted ⊎ (is_empty wanted.down ≡ false)
   pub may : (lane : ℕ) → IsLane lane → (set.contains wanted.may_take_down lane ≡ true) ⊎ IsSpare sim lane
 

@@ -5,13 +5,14 @@ use Rattle.bus_model.specs.declared.device.Dev.TheVariants.{A0}
 use Rattle.paged_memory.specs.declared.key.Key.{Key}
 use Rattle.paged_memory.specs.Images.{Memory}
 use Rattle.paged_memory.specs.Keys.{upper_key}
-use Rattle.field_tables.specs.declared.field.Field.TheVariants.{CFlatMemory}
+use Rattle.field_tables.specs.declared.field.Field.TheVariants as fields
+use Rattle.field_tables.specs.declared.table.cmis.CmisField.TheVariants as cmis
 use Rattle.field_tables.specs.Halves.{is_absent}
 use Rattle.field_tables.specs.Readings.{bit}
 
 -- it has no pages but 00h
 abbrev pub is_flat : Memory → Bool
-is_flat memory = bit memory CFlatMemory
+is_flat memory = bit memory (fields.Cmis cmis.FlatMemory)
 
 -- those that are needed of a module that has more
 abbrev pub unless_flat : Bool → List ℕ → List ℕ

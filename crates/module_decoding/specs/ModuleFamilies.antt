@@ -7,7 +7,8 @@ use Rattle.paged_memory.specs.declared.family.Family.TheVariants.{Cmis}
 use Rattle.paged_memory.specs.Families.{family_by, is_family, managed_by}
 use Rattle.paged_memory.specs.Images.{Memory}
 use Rattle.paged_memory.specs.Keys.{lower_key}
-use Rattle.field_tables.specs.declared.field.Field.TheVariants.{CIdentifier, CRevision}
+use Rattle.field_tables.specs.declared.field.Field.TheVariants as fields
+use Rattle.field_tables.specs.declared.table.cmis.CmisField.TheVariants as cmis
 use Rattle.module_decoding.specs.declared.module_family.ModuleFault.{ModuleFault}
 use Rattle.module_decoding.specs.declared.module_family.ModuleFault.TheVariants.{Absent, Unknown, Revision}
 use Rattle.field_tables.specs.FirstFault.{first_fault}
@@ -17,7 +18,7 @@ use Rattle.applications.specs.Refusals.{is_read_revision}
 
 -- all families have the identifier in the same byte
 abbrev pub identifier : Memory → ℕ
-identifier memory = number memory CIdentifier
+identifier memory = number memory (fields.Cmis cmis.Identifier)
 
 -- if one was found
 abbrev pub known : Option Family → Family
@@ -28,7 +29,7 @@ abbrev pub faults_in : Option Family → Bool → Memory → List (Bool × Modul
 faults_in family is_read memory =
     (is_absent memory (lower_key A0), Absent (lower_key A0))
     ∷ (not (is_some family), Unknown (identifier memory))
-    ∷ (is_family Cmis family && not is_read, Revision (number memory CRevision))
+    ∷ (is_family Cmis family && not is_read, Revision (number memory (fields.Cmis cmis.Revision)))
     ∷ []
 
 unfoldable pub fault_in : Option Family → Bool → Memory → Option ModuleFault
@@ -40,7 +41,7 @@ unfoldable pub family_of : Memory → Family
 family_of memory = known (family_by (identifier memory))
 
 unfoldable pub module_fault : Memory → Option ModuleFault
-module_fault memory = fault_in (family_by (identifier memory)) (is_read_revision (number memory CRevision)) memory
+module_fault memory = fault_in (family_by (identifier memory)) (is_read_revision (number memory (fields.Cmis cmis.Revision))) memory
 
 -- ---- of details
 
@@ -52,4 +53,4 @@ unfoldable pub detail_family_of : Memory → Family
 detail_family_of memory = known (managed_by (identifier memory))
 
 unfoldable pub detail_fault : Memory → Option ModuleFault
-detail_fault memory = fault_in (managed_by (identifier memory)) (is_detail_revision (number memory CRevision)) memory
+detail_fault memory = fault_in (managed_by (identifier memory)) (is_detail_revision (number memory (fields.Cmis cmis.Revision))) memory

@@ -4,14 +4,14 @@ ghost use Rattle.module_decoding.specs.CmisPages as spec;
 ghost use Rattle.module_decoding.specs.CmisPages.{absent_page, detail_pages, is_flat};
 
 use bus_model::Dev;
-use field_tables::{Field, bit};
+use field_tables::{bit, field};
 use paged_memory::{Image, Key};
 
 /// Whether a CMIS module has no pages but 00h.
 pub fn is_flat(image: &Image) -> bool
     ensures { result ≡ is_flat image.now }
 {
-    bit(image, Field::CFlatMemory)
+    bit(image, field!(Cmis FlatMemory))
 }
 
 /// The first page that the image lacks of those that have all that the module says of itself.

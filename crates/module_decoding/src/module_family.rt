@@ -4,7 +4,7 @@ ghost use Rattle.module_decoding.specs.ModuleFamilies.{detail_fault, fault_in, m
 
 use applications::is_read_revision;
 use bus_model::Dev;
-use field_tables::{Field, number};
+use field_tables::{field, number};
 use paged_memory::{Family, Image, Key};
 use thiserror::Error;
 
@@ -25,8 +25,8 @@ pub enum ModuleFault {
 pub fn family_of(image: &Image) -> Result<Family, ModuleFault>
     ensures { MatchOption (module_fault image.now) (result ≡ Ok (spec.family_of image.now)) (λ fault. result ≡ Err fault) }
 {
-    let family = Family::of(number(image, Field::CIdentifier));
-    let is_read = is_read_revision(number(image, Field::CRevision));
+    let family = Family::of(number(image, field!(Cmis Identifier)));
+    let is_read = is_read_revision(number(image, field!(Cmis Revision)));
     judged(image, family, is_read)
 }
 
@@ -35,8 +35,8 @@ pub fn family_of(image: &Image) -> Result<Family, ModuleFault>
 pub fn detail_family_of(image: &Image) -> Result<Family, ModuleFault>
     ensures { MatchOption (detail_fault image.now) (result ≡ Ok (spec.detail_family_of image.now)) (λ fault. result ≡ Err fault) }
 {
-    let family = Family::managing(number(image, Field::CIdentifier));
-    let is_read = is_detail_revision(number(image, Field::CRevision));
+    let family = Family::managing(number(image, field!(Cmis Identifier)));
+    let is_read = is_detail_revision(number(image, field!(Cmis Revision)));
     judged(image, family, is_read)
 }
 
@@ -50,10 +50,10 @@ fn judged(image: &Image, family: Option<Family>, is_read: bool) -> Result<Family
         return Err(ModuleFault::Absent(lower));
     }
     let Some(family) = family else {
-        return Err(ModuleFault::Unknown(number(image, Field::CIdentifier)));
+        return Err(ModuleFault::Unknown(number(image, field!(Cmis Identifier))));
     };
     if family == Family::Cmis && !is_read {
-        return Err(ModuleFault::Revision(number(image, Field::CRevision)));
+        return Err(ModuleFault::Revision(number(image, field!(Cmis Revision))));
     }
     Ok(family)
 }

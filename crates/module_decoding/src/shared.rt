@@ -1,7 +1,7 @@
 ghost use Rattle.std.specs.Prelude.{◌≡◌};
 ghost use Rattle.module_decoding.specs.SharedFields.{SharedFieldsFit, shared_fields};
 
-use field_tables::{Field, Sum, TextField};
+use field_tables::{Field, Sum, TextField, field, sum_of, text_of};
 use paged_memory::Family;
 
 /// Where a family keeps what modules of every family say of themselves.
@@ -21,30 +21,29 @@ pub struct SharedFields {
     pub date: TextField,
 }
 
-macro_rules! sum {
-    () => {
+macro_rules! sum_after {
+    ($name:ident) => {
         None
     };
-    ($sum:ident) => {
-        Some(Sum::$sum)
+    ($name:ident $sum:ident) => {
+        Some(sum_of!($name $sum))
     };
 }
 
 macro_rules! shared {
-    ($family:ident; $($name:ident: $identifier:ident $connector:ident $oui:ident, $base:ident $($ext:ident)?,
-        $vendor:ident $part:ident $revision:ident $serial:ident $date:ident;)*) => {
+    ($family:ident; $($name:ident: $base:ident $($ext:ident)?;)*) => {
         match $family {
             $(Family::$name => SharedFields {
-                identifier: Field::$identifier,
-                connector: Field::$connector,
-                oui: Field::$oui,
-                sum_base: Sum::$base,
-                sum_ext: sum!($($ext)?),
-                vendor: TextField::$vendor,
-                part: TextField::$part,
-                part_revision: TextField::$revision,
-                serial: TextField::$serial,
-                date: TextField::$date,
+                identifier: field!($name Identifier),
+                connector: field!($name Connector),
+                oui: field!($name Oui),
+                sum_base: sum_of!($name $base),
+                sum_ext: sum_after!($name $($ext)?),
+                vendor: text_of!($name Vendor),
+                part: text_of!($name Part),
+                part_revision: text_of!($name PartRevision),
+                serial: text_of!($name Serial),
+                date: text_of!($name Date),
             },)*
         }
     };
@@ -55,10 +54,10 @@ pub fn shared_fields(family: Family) -> SharedFields
     ensures fields { result ≡ shared_fields family }
     ensures fit { SharedFieldsFit result }
 {
-    // identifier, connector, OUI; sums; vendor, part, its revision, serial number, date
+    // the sum of the base fields, and of those after them
     shared! { family;
-        Cmis: CIdentifier CConnector COui, CSum00, CVendor CPart CPartRevision CSerial CDate;
-        Sff8636: QIdentifier QConnector QOui, QSumBase QSumExt, QVendor QPart QPartRevision QSerial QDate;
-        Sff8472: SIdentifier SConnector SOui, SSumBase SSumExt, SVendor SPart SPartRevision SSerial SDate;
+        Cmis: Sum00;
+        Sff8636: SumBase SumExt;
+        Sff8472: SumBase SumExt;
     }
 }

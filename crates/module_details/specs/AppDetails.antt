@@ -8,7 +8,8 @@ use Rattle.applications.specs.declared.app.App.{App}
 use Rattle.code_names.specs.MediaInterfaces.{media_interface_name}
 use Rattle.code_names.specs.Rows.{text_of}
 use Rattle.code_names.specs.declared.table.Table.TheVariants.{HostInterfaces}
-use Rattle.field_tables.specs.declared.field.Field.TheVariants.{CMediaType}
+use Rattle.field_tables.specs.declared.field.Field.TheVariants as fields
+use Rattle.field_tables.specs.declared.table.cmis.CmisField.TheVariants as cmis
 use Rattle.field_tables.specs.Readings.{number}
 use Rattle.module_decoding.specs.CmisPages.{is_flat}
 use Rattle.paged_memory.specs.Images.{Memory}
@@ -58,4 +59,4 @@ are_unread memory = not (is_flat memory) && is_some (page_fault memory)
 
 unfoldable pub apps_entries : Memory → List Entry
 apps_entries memory =
-    if are_unread memory then [] else flat_map (app_entries (is_flat memory) (number memory CMediaType)) (apps_of memory)
+    if are_unread memory then [] else flat_map (app_entries (is_flat memory) (number memory (fields.Cmis cmis.MediaType))) (apps_of memory)

@@ -6,7 +6,8 @@ use Rattle.code_names.specs.Names.{name_in}
 use Rattle.code_names.specs.Rows.{text_of}
 use Rattle.code_names.specs.declared.table.Table.{Table}
 use Rattle.field_tables.specs.declared.field.Field.{Field}
-use Rattle.field_tables.specs.declared.field.Field.TheVariants.{CIdentifier}
+use Rattle.field_tables.specs.declared.field.Field.TheVariants as fields
+use Rattle.field_tables.specs.declared.table.cmis.CmisField.TheVariants as cmis
 use Rattle.field_tables.specs.declared.units.Unit.TheVariants as steps
 use Rattle.field_tables.specs.FieldRows.{row_of}
 use Rattle.field_tables.specs.Readings as readings
@@ -175,7 +176,7 @@ bank_entries identifier name item n bank lanes = flat_map (lane_entries identifi
 -- of these values, with the lanes of bank 0 and of these further banks
 abbrev pub values_entries : Memory → List ℕ → List ℕ → Item → Values → List Entry
 values_entries memory banks name item (One i) = fact_entries name Module (fact_at memory 0 item i)
-values_entries memory banks name item (Lanes n) = over_banks memory banks (bank_entries (number memory CIdentifier) name item n)
+values_entries memory banks name item (Lanes n) = over_banks memory banks (bank_entries (number memory (fields.Cmis cmis.Identifier)) name item n)
 
 abbrev pub is_within : ℕ → ℕ → ℕ → Bool
 is_within low high n = nat_le low n && nat_le n high

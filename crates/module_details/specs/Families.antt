@@ -1,7 +1,8 @@
 -- The details of modules, by their families. (docs/formats.md, "details"; this project's own)
 use Rattle.std.specs.Prelude.{◌++◌, ◌&&◌, not, ℕ, Bool, false, List, []}
 use Rattle.std.specs.List.{flat_map}
-use Rattle.field_tables.specs.declared.field.Field.TheVariants.{SAddressChange, SDiagPresent}
+use Rattle.field_tables.specs.declared.field.Field.TheVariants as fields
+use Rattle.field_tables.specs.declared.table.sff8472.Sff8472Field.TheVariants as sff8472
 use Rattle.field_tables.specs.Readings.{bit}
 use Rattle.module_decoding.specs.CmisPages.{is_flat}
 use Rattle.paged_memory.specs.Images.{Memory}
@@ -26,7 +27,7 @@ qsfp_entries memory = tables_entries memory [] false qsfp.tables_of_rows
 
 -- there are no diagnostics, or not without an address change
 abbrev pub lacks_diagnostics : Memory → Bool
-lacks_diagnostics memory = not (bit memory SDiagPresent && not (bit memory SAddressChange))
+lacks_diagnostics memory = not (bit memory (fields.Sff8472 sff8472.DiagPresent) && not (bit memory (fields.Sff8472 sff8472.AddressChange)))
 
 -- rows for a module with paged memory are here those for one with diagnostics
 unfoldable pub sfp_entries : Memory → List Entry

@@ -7,7 +7,8 @@ use Rattle.external_calibration.specs.Constants.{constants_of}
 use Rattle.external_calibration.specs.Refusals.{refusal_by}
 use Rattle.external_calibration.specs.declared.monitor.Monitor.{Monitor}
 use Rattle.field_tables.specs.declared.field.Field.{Field}
-use Rattle.field_tables.specs.declared.field.Field.TheVariants.{SExternal}
+use Rattle.field_tables.specs.declared.field.Field.TheVariants as fields
+use Rattle.field_tables.specs.declared.table.sff8472.Sff8472Field.TheVariants as sff8472
 use Rattle.field_tables.specs.Readings.{bit, reading_at}
 use Rattle.module_decoding.specs.Amounts.{amount_at, unit_of}
 use Rattle.paged_memory.specs.Images.{Memory}
@@ -31,7 +32,7 @@ amount_fact (Some millis) monitor = Some (facts.amount millis (printed_in (amoun
 -- value i of a field that a monitor fills
 unfoldable pub measured_fact : Memory → Monitor → Field → ℕ → Option Fact
 measured_fact memory monitor field i =
-    if bit memory SExternal then amount_fact (calibrated memory monitor field i) monitor
+    if bit memory (fields.Sff8472 sff8472.External) then amount_fact (calibrated memory monitor field i) monitor
     else Some (facts.amount (amount_at memory field None i) (printed_in (unit_of field)))
 
 -- the standard has powers from 0 to 65,535 tenths of a microwatt
@@ -46,4 +47,4 @@ power_in (Some millis) = if is_power millis then Some (unsigned_abs millis / 100
 -- the same value of a power, in tenths of a microwatt
 unfoldable pub measured_power : Memory → Monitor → Field → ℕ → Option ℕ
 measured_power memory monitor field i =
-    if bit memory SExternal then power_in (calibrated memory monitor field i) else Some (unsigned_abs (reading_at memory field i))
+    if bit memory (fields.Sff8472 sff8472.External) then power_in (calibrated memory monitor field i) else Some (unsigned_abs (reading_at memory field i))

@@ -2,14 +2,15 @@
 -- Power Consumption of power class 8)
 use Rattle.std.specs.Prelude.{ℕ, ◌+◌, ◌*◌, ◌==◌, nat_lt, if◌then◌else◌}
 use Rattle.paged_memory.specs.Images.{Memory}
-use Rattle.field_tables.specs.declared.field.Field.TheVariants.{QPowerClass, QPowerClass8, QPowerClassHigh, QMaxPower}
+use Rattle.field_tables.specs.declared.field.Field.TheVariants as fields
+use Rattle.field_tables.specs.declared.table.sff8636.Sff8636Field.TheVariants as sff8636
 use Rattle.field_tables.specs.Readings.{bit, number}
 
 unfoldable pub power_class : Memory → ℕ
 power_class memory =
-    if bit memory QPowerClass8 then 8
-    else if nat_lt 0 (number memory QPowerClassHigh) then number memory QPowerClassHigh + 4
-    else number memory QPowerClass + 1
+    if bit memory (fields.Sff8636 sff8636.PowerClass8) then 8
+    else if nat_lt 0 (number memory (fields.Sff8636 sff8636.PowerClassHigh)) then number memory (fields.Sff8636 sff8636.PowerClassHigh) + 4
+    else number memory (fields.Sff8636 sff8636.PowerClass) + 1
 
 -- of classes 1 to 7
 abbrev pub power_of : ℕ → ℕ
@@ -23,4 +24,4 @@ power_of class =
     else 5000
 
 unfoldable pub class_power : Memory → ℕ
-class_power memory = if bit memory QPowerClass8 then number memory QMaxPower * 100 else power_of (power_class memory)
+class_power memory = if bit memory (fields.Sff8636 sff8636.PowerClass8) then number memory (fields.Sff8636 sff8636.MaxPower) * 100 else power_of (power_class memory)

@@ -9,7 +9,7 @@ ghost use Rattle.module_details.specs.AppDetails.{app_entries, app_entry, apps_e
 use crate::facts::named;
 use applications::{App, apps_in, page_refusal};
 use code_names::{Table, media_interface_name};
-use field_tables::{Field, number};
+use field_tables::{field, number};
 use module_decoding::is_flat;
 use paged_memory::Image;
 use report_entries::{Content, Entry, Fact, Place, add_entry};
@@ -24,7 +24,7 @@ pub fn add_apps(entries: &mut Vec<Entry>, image: &Image) -> Result<(), AllocErro
     if !flat && page_refusal(image).is_some() {
         return Ok(());
     }
-    let media = number(image, Field::CMediaType);
+    let media = number(image, field!(Cmis MediaType));
     let apps = apps_in(image);
     add_each_app(entries, flat, media, apps.as_slice())
 }

@@ -6,7 +6,7 @@ ghost use Rattle.module_details.specs.Families.{cmis_entries, lacks_diagnostics,
 use crate::apps::add_apps;
 use crate::read_rows::add_rows;
 use crate::tables::{cmis_table, qsfp_table, sfp_table};
-use field_tables::{Field, bit};
+use field_tables::{bit, field};
 use module_decoding::is_flat;
 use paged_memory::Image;
 use report_entries::{Entry, further_banks};
@@ -79,5 +79,5 @@ pub fn sfp_details(alloc: Global, image: &Image) -> Result<Vec<Entry>, AllocErro
 pub fn lacks_diagnostics(image: &Image) -> bool
     ensures { result ≡ lacks_diagnostics image.now }
 {
-    !(bit(image, Field::SDiagPresent) && !bit(image, Field::SAddressChange))
+    !(bit(image, field!(Sff8472 DiagPresent)) && !bit(image, field!(Sff8472 AddressChange)))
 }

@@ -6,7 +6,7 @@ ghost use Rattle.report_entries.specs.Facts.{fact_of};
 ghost use Rattle.module_details.specs.Measured as spec;
 
 use external_calibration::{Constants, Monitor};
-use field_tables::{Field, bit, reading_at};
+use field_tables::{Field, bit, field, reading_at};
 use module_decoding::{amount_at, unit_of};
 use paged_memory::Image;
 use report_entries::{Fact, PrintedUnit};
@@ -18,7 +18,7 @@ pub fn measured(image: &Image, monitor: Monitor, field: Field, index: u8) -> Opt
     requires last { index ≤ (row_of field).count }
     ensures { option_map fact_of result ≡ spec.measured_fact image.now monitor field index }
 {
-    if bit(image, Field::SExternal) {
+    if bit(image, field!(Sff8472 External)) {
         amount_if_any(calibrated(image, monitor, field, index), monitor)
     } else {
         let amount = amount_at(image, field, None, index);
@@ -33,7 +33,7 @@ pub fn measured_power(image: &Image, monitor: Monitor, field: Field, index: u8) 
     requires last { index ≤ (row_of field).count }
     ensures { result ≡ spec.measured_power image.now monitor field index }
 {
-    if bit(image, Field::SExternal) {
+    if bit(image, field!(Sff8472 External)) {
         power_if_any(calibrated(image, monitor, field, index))
     } else {
         Some(power(reading_at(image, field, index)))

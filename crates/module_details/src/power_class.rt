@@ -2,7 +2,7 @@
 ghost use Rattle.std.specs.Prelude.{◌≡◌, ◌≤◌};
 ghost use Rattle.module_details.specs.PowerClasses as spec;
 
-use field_tables::{Field, bit, number};
+use field_tables::{bit, field, number};
 use paged_memory::Image;
 
 /// The class, 1 to 8.
@@ -10,11 +10,11 @@ use paged_memory::Image;
 pub fn power_class(image: &Image) -> u8
     ensures { result ≡ spec.power_class image.now }
 {
-    if bit(image, Field::QPowerClass8) {
+    if bit(image, field!(Sff8636 PowerClass8)) {
         return 8;
     }
-    match number(image, Field::QPowerClassHigh) {
-        0 => number(image, Field::QPowerClass) + 1,
+    match number(image, field!(Sff8636 PowerClassHigh)) {
+        0 => number(image, field!(Sff8636 PowerClass)) + 1,
         high => high + 4,
     }
 }
@@ -24,8 +24,8 @@ pub fn power_class(image: &Image) -> u8
 pub fn class_power(image: &Image) -> u16
     ensures { result ≡ spec.class_power image.now }
 {
-    if bit(image, Field::QPowerClass8) {
-        return u16::from(number(image, Field::QMaxPower)) * 100;
+    if bit(image, field!(Sff8636 PowerClass8)) {
+        return u16::from(number(image, field!(Sff8636 MaxPower))) * 100;
     }
     power_of(power_class(image))
 }

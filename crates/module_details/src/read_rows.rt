@@ -5,7 +5,8 @@ ghost use Rattle.report_entries.specs.Banks.{are_banks, over_banks};
 ghost use Rattle.report_entries.specs.Entries.{as_entries};
 ghost use Rattle.report_entries.specs.Facts.{fact_of};
 ghost use Rattle.field_tables.specs.Readings.{number};
-ghost use Rattle.field_tables.specs.declared.field.Field.TheVariants.{CIdentifier};
+ghost use Rattle.field_tables.specs.declared.field.Field.TheVariants as fields;
+ghost use Rattle.field_tables.specs.declared.table.cmis.CmisField.TheVariants as cmis;
 ghost use Rattle.module_details.specs.Details as spec;
 ghost use Rattle.module_details.specs.Details.{bank_entries, fact_entries, row_entries, rows_entries, values_entries};
 ghost use Rattle.module_details.specs.Fits.{case_fits, item_fits, row_fits, values_fit};
@@ -13,7 +14,7 @@ ghost use Rattle.module_details.specs.RowTables.{item_in, row_in, rows_in};
 
 use crate::facts::fact_at;
 use crate::item::{Case, Item, Line, Values};
-use field_tables::{Field, bit_at, number, number_at};
+use field_tables::{CmisField, bit_at, field, number, number_at};
 use observables::lanes_of_bank;
 use paged_memory::Image;
 use report_entries::{Content, Entry, Fact, Place, add_entry};
@@ -98,9 +99,9 @@ fn add_lanes(
     requires fits { IsTrue (list_all (item_fits (item_in row.now.item.now)) (range_with_len 1 row.now.count)) }
     requires count { row.now.count ≤ 8 }
     ensures { OnOk result (as_entries entries.new
-        ≡ as_entries entries.old ++ over_banks image.now banks.now (bank_entries (number image.now CIdentifier) row.now.name.now (item_in row.now.item.now) row.now.count)) }
+        ≡ as_entries entries.old ++ over_banks image.now banks.now (bank_entries (number image.now (fields.Cmis cmis.Identifier)) row.now.name.now (item_in row.now.item.now) row.now.count)) }
 {
-    let identifier = number(image, Field::CIdentifier);
+    let identifier = number(image, field!(Cmis Identifier));
     add_bank(entries, identifier, 0, image, row)?;
     for bank in banks {
         let lanes = lanes_of_bank(image, *bank);

@@ -21,7 +21,10 @@ use Rattle.paged_memory.specs.Keys.{lower_key}
 use Rattle.paged_memory.proofs.KeyLaws.{keys_apart, keys_total}
 use Rattle.paged_memory.proofs.WindowHistories.{IsSelectable}
 use Rattle.field_tables.specs.declared.field.Field.{Field}
-use Rattle.field_tables.specs.declared.field.Field.TheVariants.{CIdentifier, CFlatMemory, QFlatMemory, SAddressChange, SDiagPresent}
+use Rattle.field_tables.specs.declared.field.Field.TheVariants as fields
+use Rattle.field_tables.specs.declared.table.cmis.CmisField.TheVariants as cmis
+use Rattle.field_tables.specs.declared.table.sff8636.Sff8636Field.TheVariants as sff8636
+use Rattle.field_tables.specs.declared.table.sff8472.Sff8472Field.TheVariants as sff8472
 use Rattle.field_tables.specs.FieldValues.{field_key, value_in}
 use Rattle.field_tables.specs.Readings.{number, reading_at}
 use Rattle.field_tables.proofs.SameValues.{Agree, plain, same_number}
@@ -230,12 +233,12 @@ can_be_selected request (Some family) memory =
 
 module _ (memory other : Memory) (low : Agree memory other (lower_key A0)) where
   pub same_identifier : identifier memory ≡ identifier other
-  same_identifier = same_number memory other CIdentifier low refl refl
+  same_identifier = same_number memory other (fields.Cmis cmis.Identifier) low refl refl
 
   pub same_decides : (family : Family) → decides family memory ≡ decides family other
-  same_decides families.Cmis = ap (λ (flat : ℕ). flat == 1) (same_number memory other CFlatMemory low refl refl)
-  same_decides families.Sff8636 = ap (λ (flat : ℕ). flat == 1) (same_number memory other QFlatMemory low refl refl)
-  same_decides families.Sff8472 = λ i. (same_number memory other SDiagPresent low refl refl i == 1) && not (same_number memory other SAddressChange low refl refl i == 1)
+  same_decides families.Cmis = ap (λ (flat : ℕ). flat == 1) (same_number memory other (fields.Cmis cmis.FlatMemory) low refl refl)
+  same_decides families.Sff8636 = ap (λ (flat : ℕ). flat == 1) (same_number memory other (fields.Sff8636 sff8636.FlatMemory) low refl refl)
+  same_decides families.Sff8472 = λ i. (same_number memory other (fields.Sff8472 sff8472.DiagPresent) low refl refl i == 1) && not (same_number memory other (fields.Sff8472 sff8472.AddressChange) low refl refl i == 1)
 
 pub same_half : (memory other : Memory) (key : Key) → finmap.get memory key ≡ finmap.get other key → Agree memory other key
 same_half memory other key same = ap (option_map (take (plain key))) same
@@ -265,7 +268,7 @@ unfolding managed_by
 no_family = refl
 
 family_of_nothing : managed_by (identifier finmap.empty) ≡ None
-family_of_nothing = ap managed_by (number_of_nothing CIdentifier) ∙ no_family
+family_of_nothing = ap managed_by (number_of_nothing (fields.Cmis cmis.Identifier)) ∙ no_family
 
 pub asked_of_nothing : (request : Request) → regions_of request finmap.empty ≡ lower_alone
 asked_of_nothing request = ap (λ (family : Option Family). regions_in request family finmap.empty) family_of_nothing

@@ -15,7 +15,10 @@ use Rattle.paged_memory.specs.Families.{managed_by}
 use Rattle.paged_memory.specs.Images.{Memory}
 use Rattle.paged_memory.specs.Keys.{lower_key, page_key, upper_key}
 use Rattle.paged_memory.specs.MappedPages.{selecting_in}
-use Rattle.field_tables.specs.declared.field.Field.TheVariants.{CFlatMemory, CIdentifier, QFlatMemory, SAddressChange, SDiagPresent}
+use Rattle.field_tables.specs.declared.field.Field.TheVariants as fields
+use Rattle.field_tables.specs.declared.table.cmis.CmisField.TheVariants as cmis
+use Rattle.field_tables.specs.declared.table.sff8636.Sff8636Field.TheVariants as sff8636
+use Rattle.field_tables.specs.declared.table.sff8472.Sff8472Field.TheVariants as sff8472
 use Rattle.field_tables.specs.Readings.{bit, number}
 use Rattle.module_reading.specs.declared.region.Region.{Region}
 use Rattle.module_reading.specs.declared.request.Request.{Request}
@@ -39,11 +42,11 @@ key_of (Page page) = page_key page
 
 -- all families have the identifier in the same byte
 abbrev pub identifier : Memory → ℕ
-identifier memory = number memory CIdentifier
+identifier memory = number memory (fields.Cmis cmis.Identifier)
 
 -- a CMIS module that has no pages but 00h
 abbrev pub is_flat : Memory → Bool
-is_flat memory = number memory CFlatMemory == 1
+is_flat memory = number memory (fields.Cmis cmis.FlatMemory) == 1
 
 abbrev pub has_bit : ℕ → ℕ → Bool
 has_bit byte number = bit_at byte number == 1
@@ -104,12 +107,12 @@ of_banks count = record { halves = if nat_lt 3 count then 0x87 else if nat_lt 2 
 
 -- device A2 has diagnostics, and they can be read without an address change
 abbrev pub has_diagnostics : Memory → Bool
-has_diagnostics memory = bit memory SDiagPresent && not (bit memory SAddressChange)
+has_diagnostics memory = bit memory (fields.Sff8472 sff8472.DiagPresent) && not (bit memory (fields.Sff8472 sff8472.AddressChange))
 
 -- what decides which halves a module of a family has: of CMIS and SFF-8636 that its memory is flat, of SFF-8472 that it has diagnostics
 abbrev pub decides : Family → Memory → Bool
 decides families.Cmis memory = is_flat memory
-decides families.Sff8636 memory = bit memory QFlatMemory
+decides families.Sff8636 memory = bit memory (fields.Sff8636 sff8636.FlatMemory)
 decides families.Sff8472 memory = has_diagnostics memory
 
 -- of a module of this family

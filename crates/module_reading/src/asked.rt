@@ -7,7 +7,7 @@ ghost use Rattle.module_reading.specs.Regions as spec;
 use crate::region::Region;
 use crate::request::Request;
 use arrayvec::ArrayVec;
-use field_tables::{Field, bit, number};
+use field_tables::{bit, field, number};
 use paged_memory::{Dev, Family, Image, PageAddressing};
 
 // The most halves that are read of a module.
@@ -23,7 +23,7 @@ pub fn region(request: Request, image: &Image, index: usize) -> Option<Region>
 fn regions(request: Request, image: &Image) -> ArrayVec<Region, MOST>
     ensures { result.items ≡ spec.regions_of request image.now }
 {
-    match Family::managing(number(image, Field::CIdentifier)) {
+    match Family::managing(number(image, field!(Cmis Identifier))) {
         Some(family) => requested(request, halves(request, family, decides(family, image))),
         None => requested(request, &[]),
     }
@@ -34,8 +34,8 @@ fn decides(family: Family, image: &Image) -> bool
     ensures { result ≡ spec.decides family image.now }
 {
     match family {
-        Family::Cmis => number(image, Field::CFlatMemory) == 1,
-        Family::Sff8636 => bit(image, Field::QFlatMemory),
+        Family::Cmis => number(image, field!(Cmis FlatMemory)) == 1,
+        Family::Sff8636 => bit(image, field!(Sff8636 FlatMemory)),
         Family::Sff8472 => has_diagnostics(image),
     }
 }
@@ -84,12 +84,14 @@ fn requested(request: Request, halves: &[(u8, Region)]) -> ArrayVec<Region, MOST
 fn has_diagnostics(image: &Image) -> bool
     ensures { result ≡ spec.has_diagnostics image.now }
 {
-    bit(image, Field::SDiagPresent) && !bit(image, Field::SAddressChange)
+    bit(image, field!(Sff8472 DiagPresent)) && !bit(image, field!(Sff8472 AddressChange))
 }
 
 /// How pages are selected.
 pub fn addressing(image: &Image) -> PageAddressing
     ensures { result ≡ spec.addressing_of image.now }
 {
-    PageAddressing::by(number(image, Field::CIdentifier)).unwrap_or(PageAddressing::BankAndPage)
+    PageAddressing::by(number(image, field!(Cmis Identifier))).unwrap_or(
+        PageAddressing::BankAndPage,
+    )
 }

@@ -8,7 +8,8 @@ use Rattle.std.proofs.lemmas.Str.Parse.{digit_at}
 use Rattle.std.specs.List.{AllByRecursion, AllPairs, flat_map}
 use Rattle.applications.specs.Descriptors.{apps_of}
 use Rattle.applications.specs.declared.app.App.{App}
-use Rattle.field_tables.specs.declared.field.Field.TheVariants.{CMediaType}
+use Rattle.field_tables.specs.declared.field.Field.TheVariants as fields
+use Rattle.field_tables.specs.declared.table.cmis.CmisField.TheVariants as cmis_fields
 use Rattle.field_tables.specs.Readings.{number}
 use Rattle.module_decoding.specs.CmisPages.{is_flat}
 use Rattle.module_decoding.specs.ModuleFamilies.{detail_family_of}
@@ -194,8 +195,8 @@ family_apart families.Cmis memory =
     let flat = is_flat memory in
     let found = numbered true flat memory in
     let rows = subst (λ (banks : List ℕ). AreApart (tables_entries memory banks flat cmis.tables_of_rows)) found.1 (banks_apart found.0 memory flat) in
-    let apps = flat_map (app_entries flat (number memory CMediaType)) (apps_of memory) in
-    apart_append _ _ rows (read_apart (are_unread memory) apps (apps_apart flat (number memory CMediaType) (apps_of memory)))
+    let apps = flat_map (app_entries flat (number memory (fields.Cmis cmis_fields.MediaType))) (apps_of memory) in
+    apart_append _ _ rows (read_apart (are_unread memory) apps (apps_apart flat (number memory (fields.Cmis cmis_fields.MediaType)) (apps_of memory)))
 family_apart families.Sff8636 memory = each_passes is_apart [] refl qsfp.tables_of_rows refl refl memory false
 family_apart families.Sff8472 memory = each_passes is_apart [] refl sfp.tables_of_rows refl refl memory (lacks_diagnostics memory)
 

@@ -6,7 +6,8 @@ use Rattle.std.specs.FinMap as map
 use Rattle.bus_model.specs.declared.device.Dev.TheVariants.{A0}
 use Rattle.bus_model.specs.declared.script.Directive.{Directive}
 use Rattle.bus_model.specs.ScriptedBus.{script_rules}
-use Rattle.field_tables.specs.declared.field.Field.TheVariants.{CFlatMemory, CIdentifier}
+use Rattle.field_tables.specs.declared.field.Field.TheVariants as fields
+use Rattle.field_tables.specs.declared.table.cmis.CmisField.TheVariants as cmis_fields
 use Rattle.field_tables.specs.FieldValues.{value_in}
 use Rattle.field_tables.specs.Readings.{number, reading_at}
 use Rattle.field_tables.proofs.SameValues.{same_number}
@@ -84,13 +85,13 @@ no_family : managed_by 0 ≡ Some Cmis → ⊥
 unfolding managed_by
 no_family e = absurd (let clash : None ≡ Some Cmis = e in cc)
 
-lower_there : (memory : Memory) → managed_by (number memory CIdentifier) ≡ Some Cmis → map.contains_key memory (lower_key A0) ≡ true
+lower_there : (memory : Memory) → managed_by (number memory (fields.Cmis cmis_fields.Identifier)) ≡ Some Cmis → map.contains_key memory (lower_key A0) ≡ true
 unfolding reading_at
 lower_there memory managed = by (map.get memory (lower_key A0)) refl where
   by : (half : Option (List ℕ)) → map.get memory (lower_key A0) ≡ half → is_some (map.get memory (lower_key A0)) ≡ true
   by (Some half) e = ap is_some e
   by None e =
-      let zero_is : number memory CIdentifier ≡ 0 = ap (λ (half : Option (List ℕ)). unsigned_abs (unwrap_or (option_map (λ (bytes : List ℕ). value_in bytes CIdentifier 1) half) (pos 0))) e in
+      let zero_is : number memory (fields.Cmis cmis_fields.Identifier) ≡ 0 = ap (λ (half : Option (List ℕ)). unsigned_abs (unwrap_or (option_map (λ (bytes : List ℕ). value_in bytes (fields.Cmis cmis_fields.Identifier) 1) half) (pos 0))) e in
       absurd (no_family (ap managed_by (sym zero_is) ∙ managed))
 
 -- ---- what a module lists itself
@@ -128,18 +129,18 @@ no_instance memory bank n none =
 
 module _ (memory before all : Memory) (own : HasOwnStatistics memory) (lanes : LanesAgree before memory) (all_lanes : LanesAgree all memory) (read : IsWhole memory before all)
     (within : (page : ℕ) (bytes : List ℕ) → 0x20 ≤ page → map.get all (key_of page) ≡ Some bytes → map.get memory (key_of page) ≡ Some bytes)
-    (managed : managed_by (number memory CIdentifier) ≡ Some Cmis) where
-  id_before : managed_by (number before CIdentifier) ≡ Some Cmis
-  id_before = ap managed_by (same_number before memory CIdentifier (low_agrees before memory lanes.all) refl refl) ∙ managed
+    (managed : managed_by (number memory (fields.Cmis cmis_fields.Identifier)) ≡ Some Cmis) where
+  id_before : managed_by (number before (fields.Cmis cmis_fields.Identifier)) ≡ Some Cmis
+  id_before = ap managed_by (same_number before memory (fields.Cmis cmis_fields.Identifier) (low_agrees before memory lanes.all) refl refl) ∙ managed
 
-  id_all : managed_by (number all CIdentifier) ≡ Some Cmis
-  id_all = ap managed_by (same_number all memory CIdentifier (low_agrees all memory all_lanes.all) refl refl) ∙ managed
+  id_all : managed_by (number all (fields.Cmis cmis_fields.Identifier)) ≡ Some Cmis
+  id_all = ap managed_by (same_number all memory (fields.Cmis cmis_fields.Identifier) (low_agrees all memory all_lanes.all) refl refl) ∙ managed
 
   flat_before : is_flat memory ≡ false → is_flat before ≡ false
-  flat_before flat = ap (λ (n : ℕ). n == 1) (same_number before memory CFlatMemory (low_agrees before memory lanes.all) refl refl) ∙ flat
+  flat_before flat = ap (λ (n : ℕ). n == 1) (same_number before memory (fields.Cmis cmis_fields.FlatMemory) (low_agrees before memory lanes.all) refl refl) ∙ flat
 
   flat_all : is_flat memory ≡ false → is_flat all ≡ false
-  flat_all flat = ap (λ (n : ℕ). n == 1) (same_number all memory CFlatMemory (low_agrees all memory all_lanes.all) refl refl) ∙ flat
+  flat_all flat = ap (λ (n : ℕ). n == 1) (same_number all memory (fields.Cmis cmis_fields.FlatMemory) (low_agrees all memory all_lanes.all) refl refl) ∙ flat
 
   advertised : (page : ℕ) (bytes : List ℕ) → IsStatistics page → map.get memory (key_of page) ≡ Some bytes → IsAdvertised memory page
   advertised page bytes is there = own (ap (is_family Cmis) managed) page bytes is there
@@ -198,11 +199,11 @@ module _ (memory before all : Memory) (own : HasOwnStatistics memory) (lanes : L
     (within : (page : ℕ) (bytes : List ℕ) → 0x20 ≤ page → map.get all (key_of page) ≡ Some bytes → map.get memory (key_of page) ≡ Some bytes) where
   observed_same : (bank n : ℕ) → n < 256 → observed all bank n ≡ observed memory bank n
   observed_same bank n few =
-      ap (λ (id : ℕ). if is_family Cmis (managed_by id) then decoded all bank n else None) (same_number all memory CIdentifier (low_agrees all memory all_lanes.all) refl refl)
-      ∙ by (is_family Cmis (managed_by (number memory CIdentifier))) refl
+      ap (λ (id : ℕ). if is_family Cmis (managed_by id) then decoded all bank n else None) (same_number all memory (fields.Cmis cmis_fields.Identifier) (low_agrees all memory all_lanes.all) refl refl)
+      ∙ by (is_family Cmis (managed_by (number memory (fields.Cmis cmis_fields.Identifier)))) refl
     where
-      by : (cmis : Bool) → is_family Cmis (managed_by (number memory CIdentifier)) ≡ cmis → (if cmis then decoded all bank n else None) ≡ (if cmis then decoded memory bank n else None)
-      by true e = decoded_same memory before all own lanes all_lanes read within (cmis_is (managed_by (number memory CIdentifier)) e) bank n few
+      by : (cmis : Bool) → is_family Cmis (managed_by (number memory (fields.Cmis cmis_fields.Identifier))) ≡ cmis → (if cmis then decoded all bank n else None) ≡ (if cmis then decoded memory bank n else None)
+      by true e = decoded_same memory before all own lanes all_lanes read within (cmis_is (managed_by (number memory (fields.Cmis cmis_fields.Identifier))) e) bank n few
       by false e = refl
 
   listed_same : (place : ℕ) → monitor_places ≤ place → observation_at all place ≡ observation_at memory place

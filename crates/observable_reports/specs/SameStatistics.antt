@@ -6,7 +6,8 @@ use Rattle.std.specs.FinMap as map
 use Rattle.bus_model.specs.declared.script.Directive.{Directive}
 use Rattle.bus_model.specs.Runs.{Seen}
 use Rattle.bus_model.specs.ScriptedBus.{script_rules}
-use Rattle.field_tables.specs.declared.field.Field.TheVariants.{CIdentifier}
+use Rattle.field_tables.specs.declared.field.Field.TheVariants as fields
+use Rattle.field_tables.specs.declared.table.cmis.CmisField.TheVariants as cmis
 use Rattle.field_tables.specs.Readings.{number}
 use Rattle.module_decoding.specs.CmisPages.{is_flat}
 use Rattle.observable_reports.specs.FetchedObservables.{IsObserving}
@@ -53,7 +54,7 @@ pub record IsAdvertised (memory : Memory) (page : ℕ) : Type 0 where
 -- a CMIS module has no other statistics than those that its banks advertise
 abbrev pub HasOwnStatistics : Memory → Type 0
 HasOwnStatistics memory =
-    is_family Cmis (managed_by (number memory CIdentifier)) ≡ true
+    is_family Cmis (managed_by (number memory (fields.Cmis cmis.Identifier))) ≡ true
     → (page : ℕ) (bytes : List ℕ) → IsStatistics page → map.get memory (key_of page) ≡ Some bytes → IsAdvertised memory page
 
 -- without a script, all that the module lists itself is read as it is in the image

@@ -3,7 +3,8 @@ use Rattle.std.proofs.Common.{◌≡◌, ◌<◌, ◌≤◌, ◌∙◌, ℕ, ◌
 use Rattle.std.specs.Prelude.{option_and_then}
 use Rattle.paged_memory.specs.Images.{Memory}
 use Rattle.paged_memory.specs.declared.family.Family.TheVariants.{Cmis}
-use Rattle.field_tables.specs.declared.field.Field.TheVariants.{CIdentifier}
+use Rattle.field_tables.specs.declared.field.Field.TheVariants as fields
+use Rattle.field_tables.specs.declared.table.cmis.CmisField.TheVariants as cmis
 use Rattle.field_tables.specs.Readings.{number}
 use Rattle.paged_memory.specs.Families.{is_family, managed_by}
 use Rattle.observables.specs.declared.descriptor.Descriptor.{Descriptor}
@@ -26,7 +27,7 @@ not_decoded memory bank n unused =
     (option_map (instance_with memory bank n) found)) unused
 
 not_observed : (memory : Memory) (bank n : ℕ) → descriptor_at memory bank n ≡ None → observed memory bank n ≡ None
-not_observed memory bank n unused = by (is_family Cmis (managed_by (number memory CIdentifier))) where
+not_observed memory bank n unused = by (is_family Cmis (managed_by (number memory (fields.Cmis cmis.Identifier)))) where
   by : (listed : Bool) → (if listed then decoded memory bank n else None) ≡ None
   by true = not_decoded memory bank n unused
   by false = refl

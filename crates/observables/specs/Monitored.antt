@@ -10,6 +10,8 @@ use Rattle.external_calibration.specs.declared.monitor.Monitor as calibration
 use Rattle.external_calibration.specs.declared.monitor.Monitor.TheVariants as sources
 use Rattle.field_tables.specs.declared.field.Field.{Field}
 use Rattle.field_tables.specs.declared.field.Field.TheVariants as fields
+use Rattle.field_tables.specs.declared.table.cmis.CmisField.TheVariants as cmis
+use Rattle.field_tables.specs.declared.table.sff8472.Sff8472Field.TheVariants as sff8472
 use Rattle.field_tables.specs.declared.readings.PerLimit.{PerLimit}
 use Rattle.field_tables.specs.FieldValues.{field_key}
 use Rattle.field_tables.specs.Readings.{bit, bit_at, number, reading_at}
@@ -41,9 +43,9 @@ word_at memory field i = if is_present memory field then Some (bits_of (reading_
 -- words of bias count once, twice or four times; another code is reserved
 abbrev pub multiplier : Memory → Option ℕ
 multiplier memory =
-    if number memory fields.CBiasMultiplier == 0 then Some 1
-    else if number memory fields.CBiasMultiplier == 1 then Some 2
-    else if number memory fields.CBiasMultiplier == 2 then Some 4
+    if number memory (fields.Cmis cmis.BiasMultiplier) == 0 then Some 1
+    else if number memory (fields.Cmis cmis.BiasMultiplier) == 1 then Some 2
+    else if number memory (fields.Cmis cmis.BiasMultiplier) == 2 then Some 4
     else None
 
 -- a thousandth of a degree Celsius, of a millivolt, of a milliampere and of a microwatt, as a power of ten of the quantity's unit
@@ -68,7 +70,7 @@ abbrev pub corrected : Memory → Correction → Quantity → ℕ → Option Amo
 corrected memory Plain quantity word = Some (amount_of quantity word)
 corrected memory Multiplied quantity word = option_map (λ factor. amount_times quantity factor word) (multiplier memory)
 corrected memory (Calibrated monitor) quantity word =
-    if bit memory fields.SExternal then calibrated (constants_of memory) monitor quantity word else Some (amount_of quantity word)
+    if bit memory (fields.Sff8472 sff8472.External) then calibrated (constants_of memory) monitor quantity word else Some (amount_of quantity word)
 
 unfoldable pub amount_at : Memory → Monitor → Field → ℕ → Option Amount
 amount_at memory monitor field i = option_and_then (corrected memory monitor.correction monitor.quantity) (word_at memory field i)

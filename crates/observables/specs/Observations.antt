@@ -2,7 +2,8 @@
 -- (OIF-CMIS-05.0, "Versatile Diagnostics Monitoring" and "Management Memory Map": bank b has lanes 8 * b + 1 and on; this project's own
 -- order)
 use Rattle.std.specs.Prelude.{◌≡◌, ℕ, zero, suc, ◌+◌, ◌-◌, ◌*◌, ◌/◌, ◌%◌, ◌<◌, ◌≤◌, ◌==◌, ◌&&◌, nat_le, nat_lt, Bool, false, if◌then◌else◌, List, [], ◌++◌, Option, Some, None, option_map, option_and_then, option_to_list}
-use Rattle.field_tables.specs.declared.field.Field.TheVariants.{CIdentifier}
+use Rattle.field_tables.specs.declared.field.Field.TheVariants as fields
+use Rattle.field_tables.specs.declared.table.cmis.CmisField.TheVariants as cmis
 use Rattle.field_tables.specs.declared.readings.PerLimit.{PerLimit}
 use Rattle.field_tables.specs.FieldRows.{row_of}
 use Rattle.field_tables.specs.Readings.{number}
@@ -51,7 +52,7 @@ monitor_by memory n families.Sff8472 = sfp_monitor n
 
 -- monitor n of the module's family
 abbrev pub monitor_of : Memory → ℕ → Option Monitor
-monitor_of memory n = option_and_then (monitor_by memory n) (managed_by (number memory CIdentifier))
+monitor_of memory n = option_and_then (monitor_by memory n) (managed_by (number memory (fields.Cmis cmis.Identifier)))
 
 abbrev pub monitor_observation : Memory → Monitor → ℕ → ℕ → Observation
 monitor_observation memory monitor bank lane = record {

@@ -8,14 +8,15 @@ use Rattle.paged_memory.specs.declared.key.Key.{Key}
 use Rattle.paged_memory.specs.Families.{is_family, managed_by}
 use Rattle.paged_memory.specs.Images.{Memory}
 use Rattle.paged_memory.specs.Keys.{upper_key}
-use Rattle.field_tables.specs.declared.field.Field.TheVariants.{CIdentifier}
+use Rattle.field_tables.specs.declared.field.Field.TheVariants as fields
+use Rattle.field_tables.specs.declared.table.cmis.CmisField.TheVariants as cmis
 use Rattle.field_tables.specs.Halves.{is_absent}
 use Rattle.field_tables.specs.Readings.{number}
 use Rattle.observables.specs.Words.{page_of, byte_in}
 
 -- modules of other families have other things on these pages
 abbrev pub is_cmis : Memory → Bool
-is_cmis memory = is_family Cmis (managed_by (number memory CIdentifier))
+is_cmis memory = is_family Cmis (managed_by (number memory (fields.Cmis cmis.Identifier)))
 
 abbrev pub has_observables : Memory → Bool
 has_observables memory = option_map_or (λ bytes. byte_in bytes 142 / 64 % 2 == 1) (page_of memory 0 0x01) false

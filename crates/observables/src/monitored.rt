@@ -10,7 +10,7 @@ use crate::amount::{Amount, steps};
 use crate::monitor::{BitPlace, Bounds, Correction, Monitor};
 use crate::quantity::{Quantity, quantity_row};
 use external_calibration::{Constants, Monitor as Calibrated};
-use field_tables::{Field, PerLimit, bit, bit_at, number, reading_at, row};
+use field_tables::{Field, PerLimit, bit, bit_at, field, number, reading_at, row};
 use paged_memory::{Half, Image, Key};
 
 /// What value `index` of a field amounts to, of those that a monitor has; none if its half is absent, or if that can't be computed.
@@ -151,7 +151,7 @@ fn amount_of(image: &Image, correction: Correction, quantity: Quantity, word: u1
             Some(Amount::times(quantity, factor, word))
         }
         Correction::Calibrated(monitor) => {
-            if bit(image, Field::SExternal) {
+            if bit(image, field!(Sff8472 External)) {
                 calibrated(&Constants::of(image), monitor, quantity, word)
             } else {
                 Some(Amount::of(quantity, word))
@@ -164,7 +164,7 @@ fn amount_of(image: &Image, correction: Correction, quantity: Quantity, word: u1
 fn multiplier(image: &Image) -> Option<u8>
     ensures { result ≡ spec.multiplier image.now }
 {
-    match number(image, Field::CBiasMultiplier) {
+    match number(image, field!(Cmis BiasMultiplier)) {
         0 => Some(1),
         1 => Some(2),
         2 => Some(4),

@@ -12,7 +12,7 @@ use crate::observable::{Figure, Observable, Side, observable_of};
 use crate::pages::{has_observables, is_cmis};
 use crate::quantity::{Quantity, Scope, Unit, quantity_row};
 use crate::tables::{cmis_monitor, qsfp_monitor, sfp_monitor};
-use field_tables::{Field, PerLimit, number, row};
+use field_tables::{PerLimit, field, number, row};
 use paged_memory::{Family, Image};
 
 /// How many places of the list are of monitors, sixteen of 32 lanes. Those of four banks of instances follow.
@@ -77,7 +77,7 @@ pub(crate) fn monitor_of(image: &Image, monitor: u8) -> Option<Monitor>
     ensures row { result ≡ spec.monitor_of image.now monitor }
     ensures fits { IfSome result MonitorFits }
 {
-    match Family::managing(number(image, Field::CIdentifier))? {
+    match Family::managing(number(image, field!(Cmis Identifier)))? {
         Family::Cmis => cmis_monitor(image, monitor),
         Family::Sff8636 => qsfp_monitor(monitor),
         Family::Sff8472 => sfp_monitor(monitor),

@@ -4,14 +4,14 @@ ghost use Rattle.observables.specs.Pages as spec;
 
 use crate::words::{byte_in, page_of};
 use bus_model::Dev;
-use field_tables::{Field, number};
+use field_tables::{field, number};
 use paged_memory::{Family, Image, Key};
 
 /// Whether the module is managed by CMIS: those of other families have other things on pages 01h and 20h to 2Fh.
 pub fn is_cmis(image: &Image) -> bool
     ensures { result ≡ spec.is_cmis image.now }
 {
-    Family::managing(number(image, Field::CIdentifier)) == Some(Family::Cmis)
+    Family::managing(number(image, field!(Cmis Identifier))) == Some(Family::Cmis)
 }
 
 /// The first page of a bank that the image of a CMIS module lacks of those that have observables: byte 142 of page 01h has

@@ -11,40 +11,40 @@ use crate::monitor::{
 };
 use crate::quantity::{Quantity, Scope};
 use external_calibration::Monitor as Calibrated;
-use field_tables::{Field, bit_at};
+use field_tables::{Field, bit_at, field};
 use paged_memory::Image;
 
 // The flags of the limits: bits of a field in a row, or of alarms and of warnings, or the bits of lanes of a field for each limit.
 macro_rules! flags {
-    (row $field:ident $first:literal) => { bits_in_row(Field::$field, $first) };
-    (pairs $alarms:ident $warnings:ident $first:literal) => { bits_in_pairs(Field::$alarms, Field::$warnings, $first) };
-    (lanes $high_alarm:ident $low_alarm:ident $high_warning:ident $low_warning:ident) => {
-        bits_of_lanes(Field::$high_alarm, Field::$low_alarm, Field::$high_warning, Field::$low_warning)
+    ($of:ident row $field:ident $first:literal) => { bits_in_row(field!($of $field), $first) };
+    ($of:ident pairs $alarms:ident $warnings:ident $first:literal) => { bits_in_pairs(field!($of $alarms), field!($of $warnings), $first) };
+    ($of:ident lanes $high_alarm:ident $low_alarm:ident $high_warning:ident $low_warning:ident) => {
+        bits_of_lanes(field!($of $high_alarm), field!($of $low_alarm), field!($of $high_warning), field!($of $low_warning))
     };
 }
 
 macro_rules! bounds {
-    () => { None };
-    ($limits:ident: $($flags:tt)*) => { Some(Bounds { limits: Field::$limits, flags: flags!($($flags)*) }) };
+    ($of:ident) => { None };
+    ($of:ident $limits:ident: $($flags:tt)*) => { Some(Bounds { limits: field!($of $limits), flags: flags!($of $($flags)*) }) };
 }
 
 macro_rules! advert {
-    () => { None };
-    ($field:ident $first:literal) => { Some(bits_at(Field::$field, $first)) };
+    ($of:ident) => { None };
+    ($of:ident $field:ident $first:literal) => { Some(bits_at(field!($of $field), $first)) };
 }
 
 // A row: what is measured, of the module or of each lane, and its values; limits and flags; advert; correction.
 macro_rules! monitors {
-    ($number:ident;
+    ($of:ident $number:ident;
         $($n:literal: $quantity:ident $scope:ident $values:ident [$($bounds:tt)*] [$($advert:tt)*] $correction:ident $(($calibrated:ident))?;)*
         $(others { $($others:tt)* })?) => {
         match $number {
             $($n => Some(Monitor {
                 quantity: Quantity::$quantity,
                 scope: Scope::$scope,
-                values: Field::$values,
-                bounds: bounds!($($bounds)*),
-                advert: advert!($($advert)*),
+                values: field!($of $values),
+                bounds: bounds!($of $($bounds)*),
+                advert: advert!($of $($advert)*),
                 correction: Correction::$correction $((Calibrated::$calibrated))?,
             }),)*
             $($($others)*)?
@@ -58,19 +58,19 @@ pub fn cmis_monitor(image: &Image, number: u8) -> Option<Monitor>
     ensures row { result ≡ cmis_monitor image.now number }
     ensures fits { IfSome result MonitorFits }
 {
-    monitors! { number;
-        0: Temperature Module CTemperature [CTempLimits: row CModuleFlag 1] [CModuleMonitors 1] Plain;
-        1: SupplyVoltage Module CVcc [CVccLimits: row CModuleFlag 5] [CModuleMonitors 2] Plain;
-        5: TransmittedPower Lane CTxPower
-            [CTxPowerLimits: lanes CTxPowerHighAlarm CTxPowerLowAlarm CTxPowerHighWarning CTxPowerLowWarning] [CTxPowerMonitor 1] Plain;
-        6: LaserBias Lane CTxBias
-            [CTxBiasLimits: lanes CTxBiasHighAlarm CTxBiasLowAlarm CTxBiasHighWarning CTxBiasLowWarning] [CTxBiasMonitor 1] Multiplied;
-        7: ReceivedPower Lane CRxPower
-            [CRxPowerLimits: lanes CRxPowerHighAlarm CRxPowerLowAlarm CRxPowerHighWarning CRxPowerLowWarning] [CRxPowerMonitor 1] Plain;
+    monitors! { Cmis number;
+        0: Temperature Module Temperature [TempLimits: row ModuleFlag 1] [ModuleMonitors 1] Plain;
+        1: SupplyVoltage Module Vcc [VccLimits: row ModuleFlag 5] [ModuleMonitors 2] Plain;
+        5: TransmittedPower Lane TxPower
+            [TxPowerLimits: lanes TxPowerHighAlarm TxPowerLowAlarm TxPowerHighWarning TxPowerLowWarning] [TxPowerMonitor 1] Plain;
+        6: LaserBias Lane TxBias
+            [TxBiasLimits: lanes TxBiasHighAlarm TxBiasLowAlarm TxBiasHighWarning TxBiasLowWarning] [TxBiasMonitor 1] Multiplied;
+        7: ReceivedPower Lane RxPower
+            [RxPowerLimits: lanes RxPowerHighAlarm RxPowerLowAlarm RxPowerHighWarning RxPowerLowWarning] [RxPowerMonitor 1] Plain;
         others {
-            2 => auxiliary(image, 1, Field::CAux1, None, Some(Quantity::TecCurrentShare)),
-            3 => auxiliary(image, 2, Field::CAux2, Some(Quantity::LaserTemperature), Some(Quantity::TecCurrentShare)),
-            4 => auxiliary(image, 3, Field::CAux3, Some(Quantity::LaserTemperature), Some(Quantity::SecondSupplyVoltage)),
+            2 => auxiliary(image, 1, field!(Cmis Aux1), None, Some(Quantity::TecCurrentShare)),
+            3 => auxiliary(image, 2, field!(Cmis Aux2), Some(Quantity::LaserTemperature), Some(Quantity::TecCurrentShare)),
+            4 => auxiliary(image, 3, field!(Cmis Aux3), Some(Quantity::LaserTemperature), Some(Quantity::SecondSupplyVoltage)),
         }
     }
 }
@@ -89,17 +89,17 @@ fn auxiliary(
     ensures row { result ≡ auxiliary image.now number values at_0 at_1 }
     ensures fits { IfSome result MonitorFits }
 {
-    if !bit_at(image, Field::CModuleMonitors, number + 2) {
+    if !bit_at(image, field!(Cmis ModuleMonitors), number + 2) {
         return None;
     }
-    let kind = bit_at(image, Field::CAuxKinds, number);
+    let kind = bit_at(image, field!(Cmis AuxKinds), number);
     let quantity = if kind { at_1? } else { at_0? };
     Some(Monitor {
         quantity,
         scope: Scope::Module,
         values,
         bounds: None,
-        advert: Some(bits_at(Field::CModuleMonitors, number + 2)),
+        advert: Some(bits_at(field!(Cmis ModuleMonitors), number + 2)),
         correction: Correction::Plain,
     })
 }
@@ -109,15 +109,15 @@ pub fn qsfp_monitor(number: u8) -> Option<Monitor>
     ensures row { result ≡ qsfp_monitor number }
     ensures fits { IfSome result MonitorFits }
 {
-    monitors! { number;
-        0: Temperature Module QTemperature [QTempLimits: row QTempFlag 1] [QMonitors 4] Plain;
-        1: SupplyVoltage Module QVcc [QVccLimits: row QVccFlag 1] [QMonitors 3] Plain;
-        2: TransmittedPower Lane QTxPower
-            [QTxPowerLimits: lanes QTxPowerHighAlarm QTxPowerLowAlarm QTxPowerHighWarning QTxPowerLowWarning] [QMonitors 1] Plain;
-        3: LaserBias Lane QTxBias
-            [QTxBiasLimits: lanes QTxBiasHighAlarm QTxBiasLowAlarm QTxBiasHighWarning QTxBiasLowWarning] [] Plain;
-        4: ReceivedPower Lane QRxPower
-            [QRxPowerLimits: lanes QRxPowerHighAlarm QRxPowerLowAlarm QRxPowerHighWarning QRxPowerLowWarning] [] Plain;
+    monitors! { Sff8636 number;
+        0: Temperature Module Temperature [TempLimits: row TempFlag 1] [Monitors 4] Plain;
+        1: SupplyVoltage Module Vcc [VccLimits: row VccFlag 1] [Monitors 3] Plain;
+        2: TransmittedPower Lane TxPower
+            [TxPowerLimits: lanes TxPowerHighAlarm TxPowerLowAlarm TxPowerHighWarning TxPowerLowWarning] [Monitors 1] Plain;
+        3: LaserBias Lane TxBias
+            [TxBiasLimits: lanes TxBiasHighAlarm TxBiasLowAlarm TxBiasHighWarning TxBiasLowWarning] [] Plain;
+        4: ReceivedPower Lane RxPower
+            [RxPowerLimits: lanes RxPowerHighAlarm RxPowerLowAlarm RxPowerHighWarning RxPowerLowWarning] [] Plain;
     }
 }
 
@@ -126,13 +126,13 @@ pub fn sfp_monitor(number: u8) -> Option<Monitor>
     ensures row { result ≡ sfp_monitor number }
     ensures fits { IfSome result MonitorFits }
 {
-    monitors! { number;
-        0: Temperature Module STemperature [STempLimits: pairs SAlarms SWarnings 1] [SDiagPresent 1] Calibrated(Temperature);
-        1: SupplyVoltage Module SVcc [SVccLimits: pairs SAlarms SWarnings 3] [SDiagPresent 1] Calibrated(Vcc);
-        2: TransmittedPower Lane STxPower [STxPowerLimits: pairs SAlarms SWarnings 7] [SDiagPresent 1] Calibrated(TxPower);
-        3: LaserBias Lane STxBias [STxBiasLimits: pairs SAlarms SWarnings 5] [SDiagPresent 1] Calibrated(TxBias);
-        4: ReceivedPower Lane SRxPower [SRxPowerLimits: pairs SRxAlarms SRxWarnings 1] [SDiagPresent 1] Calibrated(RxPower);
-        5: LaserTemperature Module SLaserTemperature [] [SOptions 3] Plain;
-        6: TecCurrent Module STecCurrent [] [SOptions 3] Plain;
+    monitors! { Sff8472 number;
+        0: Temperature Module Temperature [TempLimits: pairs Alarms Warnings 1] [DiagPresent 1] Calibrated(Temperature);
+        1: SupplyVoltage Module Vcc [VccLimits: pairs Alarms Warnings 3] [DiagPresent 1] Calibrated(Vcc);
+        2: TransmittedPower Lane TxPower [TxPowerLimits: pairs Alarms Warnings 7] [DiagPresent 1] Calibrated(TxPower);
+        3: LaserBias Lane TxBias [TxBiasLimits: pairs Alarms Warnings 5] [DiagPresent 1] Calibrated(TxBias);
+        4: ReceivedPower Lane RxPower [RxPowerLimits: pairs RxAlarms RxWarnings 1] [DiagPresent 1] Calibrated(RxPower);
+        5: LaserTemperature Module LaserTemperature [] [Options 3] Plain;
+        6: TecCurrent Module TecCurrent [] [Options 3] Plain;
     }
 }

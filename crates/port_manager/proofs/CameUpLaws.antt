@@ -18,7 +18,8 @@ use Rattle.conversations.specs.declared.within.Spent.{Spent}
 use Rattle.conversations.specs.Pauses.{is_refused, next_pausing}
 use Rattle.conversations.specs.Selecting.{after_missing, lacked, told_lacked}
 use Rattle.conversations.specs.Wanted.{op_of}
-use Rattle.field_tables.specs.declared.field.Field.TheVariants.{CModuleState}
+use Rattle.field_tables.specs.declared.field.Field.TheVariants as fields
+use Rattle.field_tables.specs.declared.table.cmis.CmisField.TheVariants as cmis
 use Rattle.field_tables.specs.FieldValues.{number_in_byte}
 use Rattle.field_tables.specs.Readings.{number}
 use Rattle.paged_memory.specs.Images.{Memory}
@@ -98,7 +99,7 @@ not_seen false e = cc
 -- a look ends so by page 11h alone
 seen_by : (goal : Goal) (at : LookStage) (op : Op) (reply : Reply) (before : History) → ((page : ℕ) → looks.page_at at ≡ Some page → is_page_confirmed BankAndPage page before ≡ true) → looks.wants_at at ≡ Do op
     → looks.stage_after goal at reply ≡ looking.Seen true → IsLookedAt goal op reply before
-seen_by goal looking.Lower op (Bytes bytes) before confirmed wants e = absurd (not_seen (number_in_byte CModuleState (slice_index bytes.items 3) == 3) e)
+seen_by goal looking.Lower op (Bytes bytes) before confirmed wants e = absurd (not_seen (number_in_byte (fields.Cmis cmis.ModuleState) (slice_index bytes.items 3) == 3) e)
 seen_by goal looking.Lower op Done before confirmed wants e = absurd cc
 seen_by goal looking.Lower op Refused before confirmed wants e = absurd cc
 seen_by goal looking.Lanes op (Bytes bytes) before confirmed wants e =
@@ -187,8 +188,8 @@ module _ (wanted : Wanted) (image : Memory) where
   shown_in true decision is = shown_judged (page_of_lanes image) decision refl is
   shown_in false decision is = subst Shown (sym is) (shown_waking _)
 
-  shown_unless : (decision : Decision) (fault : Option AdvertFault) → MatchOption fault (IsDecisionIn wanted image (number image CModuleState == 3) decision) (λ fault. decision ≡ Leave (left.Advert fault)) → Shown decision
-  shown_unless decision None is = shown_in (number image CModuleState == 3) decision is
+  shown_unless : (decision : Decision) (fault : Option AdvertFault) → MatchOption fault (IsDecisionIn wanted image (number image (fields.Cmis cmis.ModuleState) == 3) decision) (λ fault. decision ≡ Leave (left.Advert fault)) → Shown decision
+  shown_unless decision None is = shown_in (number image (fields.Cmis cmis.ModuleState) == 3) decision is
   shown_unless decision (Some fault) is = subst Shown (sym is) tt
 
   shown_sleep : (found : Option (List ℕ)) → Shown (sleep_in wanted.may_take_down found)
@@ -200,7 +201,7 @@ module _ (wanted : Wanted) (image : Memory) where
   shown_within false = shown_sleep (page_of_lanes image)
 
   shown_asleep : (decision : Decision) (fault : Option AdvertFault) → MatchOption fault (decision ≡ sleep_within wanted.may_take_down image) (λ fault. decision ≡ Leave (left.Advert fault)) → Shown decision
-  shown_asleep decision None is = subst Shown (sym is) (shown_within (number image CModuleState == 1))
+  shown_asleep decision None is = subst Shown (sym is) (shown_within (number image (fields.Cmis cmis.ModuleState) == 1))
   shown_asleep decision (Some fault) is = subst Shown (sym is) tt
 
   shown_for : (asleep : Bool) (decision : Decision) → IsDecisionFor asleep wanted image decision → Shown decision

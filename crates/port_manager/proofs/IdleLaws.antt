@@ -9,7 +9,8 @@ use Rattle.conversations.specs.declared.pausing.Patience.{Patience}
 use Rattle.conversations.specs.declared.pausing.Timed.{Timed}
 use Rattle.conversations.specs.declared.within.Spent.{Spent}
 use Rattle.control_sets.specs.Durations.{patience_for}
-use Rattle.field_tables.specs.declared.field.Field.TheVariants.{CModuleState}
+use Rattle.field_tables.specs.declared.field.Field.TheVariants as fields
+use Rattle.field_tables.specs.declared.table.cmis.CmisField.TheVariants as cmis
 use Rattle.field_tables.specs.Readings.{number}
 use Rattle.paged_memory.specs.Images.{Memory}
 use Rattle.module_reading.specs.declared.halves.Halves.{Halves}
@@ -60,7 +61,7 @@ judged_holds wanted image decision up (goal, has, is) =
     let shows = up.each goal has in
     (goal, is ∙ held_by goal (if_permitted (may_activate up.page goal.lanes wanted.may_take_down) (Activate goal)) (if_permitted (may_provision up.page goal.outside wanted.may_take_down) (Provision goal)) (has_no_plan wanted goal) (has_all up.page goal.control) (are_up up.page goal.control goal.lanes) shows.some shows.has shows.up)
 
-in_holds : (wanted : Wanted) (image : Memory) (decision : Decision) (up : IsUp wanted image) → IsDecisionIn wanted image (number image CModuleState == 3) decision → IsHolding decision
+in_holds : (wanted : Wanted) (image : Memory) (decision : Decision) (up : IsUp wanted image) → IsDecisionIn wanted image (number image (fields.Cmis cmis.ModuleState) == 3) decision → IsHolding decision
 in_holds wanted image decision up is =
     judged_holds wanted image decision up
     (subst (λ (found : Option (List ℕ)). IsJudged wanted image found decision) up.there
@@ -69,7 +70,7 @@ in_holds wanted image decision up is =
 holds : (wanted : Wanted) (image : Memory) (decision : Decision) → IsUp wanted image → IsDecision wanted image decision → IsHolding decision
 holds wanted image decision up is =
     in_holds wanted image decision up
-    (subst (λ (fault : Option AdvertFault). MatchOption fault (IsDecisionIn wanted image (number image CModuleState == 3) decision) (λ fault. decision ≡ Leave (Advert fault))) up.advertised
+    (subst (λ (fault : Option AdvertFault). MatchOption fault (IsDecisionIn wanted image (number image (fields.Cmis cmis.ModuleState) == 3) decision) (λ fault. decision ≡ Leave (Advert fault))) up.advertised
     (subst (λ (asleep : Bool). IsDecisionFor asleep wanted image decision) up.awake is))
 
 abbrev Watches : Turn → Type 0

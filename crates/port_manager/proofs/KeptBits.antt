@@ -2,7 +2,7 @@
 use Rattle.std.proofs.Common.{◌≡◌, ◌-◌, inl, inr, ℕ, Some, None, List, [], ◌∷◌, Bool, true, false, not, ◌&&◌, refl, sym, ap, ◌∙◌}
 use Rattle.std.specs.FinSet as set
 use Rattle.bus_model.specs.declared.operation.Op.{Op}
-use Rattle.field_tables.specs.declared.field.Register.TheVariants.{CApplyDPInit, CDPDeinit, CStagedControl}
+use Rattle.field_tables.specs.declared.field.Register.TheVariants as registers
 use Rattle.field_tables.specs.Registers.{first_byte}
 use Rattle.field_tables.specs.LaneSets.{IsLane, Lanes, byte_of, every_lane, lanes_in}
 use Rattle.control_sets.specs.RegisterOperations.{store_to}
@@ -24,17 +24,17 @@ Clear goal op bits lane = set.contains (lanes_in bits) lane ≡ false
 clear_by : (goal : Goal) (op : Op) (bits lane : ℕ) → bits ≡ byte_of goal.outside → IsLane lane → set.contains goal.outside lane ≡ false → Clear goal op bits lane
 clear_by goal op bits lane is within out = ap (λ (byte : ℕ). set.contains (lanes_in byte) lane) is ∙ in_byte_of goal.outside lane within ∙ out
 
-pub deinit_bits : (op : Op) (bits mask : ℕ) → op ≡ store_to CDPDeinit (mask ∷ []) → Sets bits op → bits ≡ mask
-deinit_bits op bits mask is (inl sets) = let same : Some mask ≡ Some bits = ap (byte_for (first_byte CDPDeinit)) (sym is) ∙ sets in cc
-deinit_bits op bits mask is (inr sets) = let none : None ≡ Some bits = ap (byte_for (first_byte CApplyDPInit)) (sym is) ∙ sets in cc
+pub deinit_bits : (op : Op) (bits mask : ℕ) → op ≡ store_to registers.DPDeinit (mask ∷ []) → Sets bits op → bits ≡ mask
+deinit_bits op bits mask is (inl sets) = let same : Some mask ≡ Some bits = ap (byte_for (first_byte registers.DPDeinit)) (sym is) ∙ sets in cc
+deinit_bits op bits mask is (inr sets) = let none : None ≡ Some bits = ap (byte_for (first_byte registers.ApplyDPInit)) (sym is) ∙ sets in cc
 
-pub apply_bits : (op : Op) (bits mask : ℕ) → op ≡ store_to CApplyDPInit (mask ∷ []) → Sets bits op → bits ≡ mask
-apply_bits op bits mask is (inl sets) = let none : None ≡ Some bits = ap (byte_for (first_byte CDPDeinit)) (sym is) ∙ sets in cc
-apply_bits op bits mask is (inr sets) = let same : Some mask ≡ Some bits = ap (byte_for (first_byte CApplyDPInit)) (sym is) ∙ sets in cc
+pub apply_bits : (op : Op) (bits mask : ℕ) → op ≡ store_to registers.ApplyDPInit (mask ∷ []) → Sets bits op → bits ≡ mask
+apply_bits op bits mask is (inl sets) = let none : None ≡ Some bits = ap (byte_for (first_byte registers.DPDeinit)) (sym is) ∙ sets in cc
+apply_bits op bits mask is (inr sets) = let same : Some mask ≡ Some bits = ap (byte_for (first_byte registers.ApplyDPInit)) (sym is) ∙ sets in cc
 
-pub staged_bits : (op : Op) (bits : ℕ) (control : List ℕ) → op ≡ store_to CStagedControl control → Sets bits op → ⊥
-staged_bits op bits control is (inl sets) = let none : None ≡ Some bits = ap (byte_for (first_byte CDPDeinit)) (sym is) ∙ sets in cc
-staged_bits op bits control is (inr sets) = let none : None ≡ Some bits = ap (byte_for (first_byte CApplyDPInit)) (sym is) ∙ sets in cc
+pub staged_bits : (op : Op) (bits : ℕ) (control : List ℕ) → op ≡ store_to registers.StagedControl control → Sets bits op → ⊥
+staged_bits op bits control is (inl sets) = let none : None ≡ Some bits = ap (byte_for (first_byte registers.DPDeinit)) (sym is) ∙ sets in cc
+staged_bits op bits control is (inr sets) = let none : None ≡ Some bits = ap (byte_for (first_byte registers.ApplyDPInit)) (sym is) ∙ sets in cc
 
 and_false : (one : Bool) → (one && false) ≡ false
 and_false true = refl

@@ -29,7 +29,8 @@ use Rattle.control_sets.specs.PowerProgress.{PatientPower, change_after, judged_
 use Rattle.control_sets.specs.Progress.{hand, judged_at, list_at, task_at, tasks_of, told_at}
 use Rattle.control_sets.specs.Progress as progress
 use Rattle.control_sets.specs.Tasks.{operation}
-use Rattle.field_tables.specs.declared.field.Field.TheVariants.{CModuleState}
+use Rattle.field_tables.specs.declared.field.Field.TheVariants as fields
+use Rattle.field_tables.specs.declared.table.cmis.CmisField.TheVariants as cmis
 use Rattle.field_tables.specs.FieldValues.{number_in_byte}
 use Rattle.module_reading.specs.declared.halves.Halves.{Halves}
 use Rattle.module_reading.specs.declared.region.Region.{Region}
@@ -176,7 +177,7 @@ ready_or_not true = omega arith
 ready_or_not false = omega arith
 
 look_own : (goal : Goal) (at : LookStage) (op : Op) (reply : Reply) → looks.wants_at at ≡ Do op → OwnStep left_of_look (look_of goal at) (look_of goal (looks.stage_after goal at reply)) op reply
-look_own goal looking.Lower op (Bytes bytes) wants = inl (ready_or_not (number_in_byte CModuleState (slice_index bytes.items 3) == 3))
+look_own goal looking.Lower op (Bytes bytes) wants = inl (ready_or_not (number_in_byte (fields.Cmis cmis.ModuleState) (slice_index bytes.items 3) == 3))
 look_own goal looking.Lower op Done wants = let same : looks.fetch_half 0 ≡ op = cc in inr (refl, inl (subst IsFetch same tt))
 look_own goal looking.Lower op Refused wants = inr (refl, inr refl)
 look_own goal looking.Lanes op (Bytes bytes) wants = inl (omega arith)

@@ -7,7 +7,8 @@ use Rattle.applications.specs.Weights.{weights_of_hosts}
 use Rattle.applications.specs.declared.fault.AdvertFault.{AdvertFault}
 use Rattle.applications.specs.Refusals.{advert_fault_under}
 use Rattle.control_sets.specs.PlanLanes.{lanes_outside}
-use Rattle.field_tables.specs.declared.field.Field.TheVariants.{CModuleState}
+use Rattle.field_tables.specs.declared.field.Field.TheVariants as fields
+use Rattle.field_tables.specs.declared.table.cmis.CmisField.TheVariants as cmis
 use Rattle.field_tables.specs.Readings.{number}
 use Rattle.paged_memory.specs.Images.{Memory}
 use Rattle.plan_certificate.specs.declared.path.Path.{Path}
@@ -50,9 +51,9 @@ one_in wanted image true one other is too = one_judged wanted image (page_of_lan
 one_in wanted image false one other is too = is ∙ sym too
 
 one_unless : (wanted : Wanted) (image : Memory) (found : Option AdvertFault) (one other : Decision)
-    → MatchOption found (IsDecisionIn wanted image (number image CModuleState == 3) one) (λ fault. one ≡ Leave (Advert fault))
-    → MatchOption found (IsDecisionIn wanted image (number image CModuleState == 3) other) (λ fault. other ≡ Leave (Advert fault)) → one ≡ other
-one_unless wanted image None one other is too = one_in wanted image (number image CModuleState == 3) one other is too
+    → MatchOption found (IsDecisionIn wanted image (number image (fields.Cmis cmis.ModuleState) == 3) one) (λ fault. one ≡ Leave (Advert fault))
+    → MatchOption found (IsDecisionIn wanted image (number image (fields.Cmis cmis.ModuleState) == 3) other) (λ fault. other ≡ Leave (Advert fault)) → one ≡ other
+one_unless wanted image None one other is too = one_in wanted image (number image (fields.Cmis cmis.ModuleState) == 3) one other is too
 one_unless wanted image (Some fault) one other is too = is ∙ sym too
 
 one_asleep : (wanted : Wanted) (image : Memory) (found : Option AdvertFault) (one other : Decision) → MatchOption found (one ≡ sleep_within wanted.may_take_down image) (λ fault. one ≡ Leave (Advert fault))

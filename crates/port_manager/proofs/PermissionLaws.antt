@@ -9,7 +9,7 @@ use Rattle.bus_model.specs.declared.operation.Op.{Op}
 use Rattle.bus_model.specs.declared.device.Dev.TheVariants.{A0}
 use Rattle.bus_model.specs.declared.operation.Op.TheVariants.{Fetch, Store}
 use Rattle.conversations.specs.Selecting.{IsFetch}
-use Rattle.field_tables.specs.declared.field.Register.TheVariants.{CDPDeinit}
+use Rattle.field_tables.specs.declared.field.Register.TheVariants as registers
 use Rattle.field_tables.specs.LaneSets.{IsLane, Lanes, byte_of, lanes_in}
 use Rattle.paged_memory.specs.declared.page_addressing.PageAddressing.{PageAddressing}
 use Rattle.paged_memory.specs.declared.page_addressing.PageAddressing.TheVariants.{BankAndPage, PageAlone}
@@ -113,10 +113,10 @@ provisioning_takes story goal op since (inr (inr (inr release))) = λ bits lane 
     since_map (GivesProvisioning goal) (GivesPermission lane)
     (λ history wanted gives. permits_other goal lane within (not_in_plan goal bits lane (deinit_bits op bits (255 - byte_of goal.lanes) release sets) within inside) history wanted (gives.0, gives.1, gives.2, inl gives.3)) story since
 
-activation_takes : (story : Story) (goal : Goal) → SinceRead (GivesActivation goal) story → TakesPermitted story (store_to CDPDeinit ((255 - byte_of goal.lanes) ∷ []))
+activation_takes : (story : Story) (goal : Goal) → SinceRead (GivesActivation goal) story → TakesPermitted story (store_to registers.DPDeinit ((255 - byte_of goal.lanes) ∷ []))
 activation_takes story goal since = λ bits lane sets within inside.
     since_map (GivesActivation goal) (GivesPermission lane)
-    (permits_other goal lane within (not_in_plan goal bits lane (deinit_bits (store_to CDPDeinit ((255 - byte_of goal.lanes) ∷ [])) bits (255 - byte_of goal.lanes) refl sets) within inside)) story since
+    (permits_other goal lane within (not_in_plan goal bits lane (deinit_bits (store_to registers.DPDeinit ((255 - byte_of goal.lanes) ∷ [])) bits (255 - byte_of goal.lanes) refl sets) within inside)) story since
 
 power_sets : (power : Power) (byte bits : ℕ) → Sets bits (set_controls (wanted_controls power byte)) → ⊥
 power_sets power byte bits (inl sets) = let none : None ≡ Some bits = sets in cc

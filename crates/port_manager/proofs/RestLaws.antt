@@ -6,7 +6,8 @@ use Rattle.applications.specs.declared.fault.AdvertFault.{AdvertFault}
 use Rattle.applications.specs.Refusals.{advert_fault_under}
 use Rattle.bus_model.specs.declared.operation.Reply.{Reply}
 use Rattle.conversations.specs.declared.pausing.Patience.{Patience}
-use Rattle.field_tables.specs.declared.field.Field.TheVariants.{CModuleState}
+use Rattle.field_tables.specs.declared.field.Field.TheVariants as fields
+use Rattle.field_tables.specs.declared.table.cmis.CmisField.TheVariants as cmis
 use Rattle.field_tables.specs.LaneSets.{Lanes}
 use Rattle.field_tables.specs.Readings.{number}
 use Rattle.paged_memory.specs.Images.{Memory}
@@ -66,7 +67,7 @@ within_rests false decision rests = rests
 
 asleep_rests : (wanted : Wanted) (image : Memory) (decision : Decision) (fault : Option AdvertFault) → MatchOption fault (decision ≡ sleep_within wanted.may_take_down image) (λ fault. decision ≡ Leave (left.Advert fault)) → Rests decision
 asleep_rests wanted image decision None is =
-    subst Rests (sym is) (within_rests (number image CModuleState == 1) (sleep_in wanted.may_take_down (page_of_lanes image)) (page_rests wanted.may_take_down (page_of_lanes image)))
+    subst Rests (sym is) (within_rests (number image (fields.Cmis cmis.ModuleState) == 1) (sleep_in wanted.may_take_down (page_of_lanes image)) (page_rests wanted.may_take_down (page_of_lanes image)))
 asleep_rests wanted image decision (Some fault) is = subst Rests (sym is) tt
 
 decision_rests : (wanted : Wanted) (image : Memory) (decision : Decision) → wanted.asleep ≡ true → IsDecision wanted image decision → Rests decision

@@ -29,7 +29,7 @@ use Rattle.control_sets.specs.Progress as tasks
 use Rattle.control_sets.specs.RegisterOperations.{store_to}
 use Rattle.control_sets.specs.Tasks.{operation}
 use Rattle.field_tables.specs.LaneSets.{byte_of}
-use Rattle.field_tables.specs.declared.field.Register.TheVariants.{CDPDeinit}
+use Rattle.field_tables.specs.declared.field.Register.TheVariants as registers
 use Rattle.module_reading.specs.declared.halves.Halves.{Halves}
 use Rattle.module_reading.specs.declared.region.Region.{Region}
 use Rattle.module_reading.specs.declared.region.Region.TheVariants.{Lower, FirstPage, Page}
@@ -140,7 +140,7 @@ module _ (W G : Op → Type 0) where
   provisioning_may goal stores =
       (inl tt, (goal_may goal _ stores (inl refl), (inl tt, (goal_may goal _ stores (inr (inl refl)), (inl tt, (goal_may goal _ stores (inr (inr (inl refl))), (inl tt, (inl tt, tt))))))))
 
-  pub activation_may : (goal : Goal) → G (store_to CDPDeinit ((255 - byte_of goal.lanes) ∷ [])) → AllByRecursion (λ task. May W G (operation task)) (tasks_of (activation_of goal))
+  pub activation_may : (goal : Goal) → G (store_to registers.DPDeinit ((255 - byte_of goal.lanes) ∷ [])) → AllByRecursion (λ task. May W G (operation task)) (tasks_of (activation_of goal))
   activation_may goal release = (inl tt, (inl tt, (inr (inr (inr release)), (inl tt, tt))))
 
 -- ---- after a story

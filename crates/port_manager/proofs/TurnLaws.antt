@@ -10,7 +10,8 @@ use Rattle.conversations.specs.declared.pausing.Patience.{Patience}
 use Rattle.conversations.specs.Wanted.{op_of}
 use Rattle.applications.specs.declared.fault.AdvertFault.{AdvertFault}
 use Rattle.applications.specs.Refusals.{advert_fault_under}
-use Rattle.field_tables.specs.declared.field.Field.TheVariants.{CMaxPower, CModuleState}
+use Rattle.field_tables.specs.declared.field.Field.TheVariants as fields
+use Rattle.field_tables.specs.declared.table.cmis.CmisField.TheVariants as cmis
 use Rattle.std.specs.FinSet as set
 use Rattle.field_tables.specs.Readings.{number}
 use Rattle.paged_memory.specs.Images.{Memory}
@@ -297,17 +298,17 @@ module _ (story : Story) (op : Op) (reply : Reply) (wanted : Wanted) (now : ℕ)
       (judged_gives goal (if_permitted activates (Activate goal)) (if_permitted provisions (Provision goal)) (has_no_plan wishes goal) (has_all page goal.control) (are_up page goal.control goal.lanes) (image, was, of)
       (permits activates (Activate goal) (λ may. (image, was, of, inr may))) (permits provisions (Provision goal) (λ may. (image, was, of, may))))
 
-  gives_waking : (image : Memory) (within : Bool) → nat_le (number image CMaxPower) wishes.max_power ≡ within → IsJustRead history image → Given (if within then Wake else Leave NeedsPower)
+  gives_waking : (image : Memory) (within : Bool) → nat_le (number image (fields.Cmis cmis.MaxPower)) wishes.max_power ≡ within → IsJustRead history image → Given (if within then Wake else Leave NeedsPower)
   gives_waking image true e was = (image, was, grind (arith, e))
   gives_waking image false e was = tt
 
   gives_in : (image : Memory) (ready : Bool) (decision : Decision) → IsJustRead history image → IsDecisionIn wishes image ready decision → Given decision
   gives_in image true decision was is = gives_judged image (page_of_lanes image) decision was refl is
-  gives_in image false decision was is = subst Given (sym is) (gives_waking image (nat_le (number image CMaxPower) wishes.max_power) refl was)
+  gives_in image false decision was is = subst Given (sym is) (gives_waking image (nat_le (number image (fields.Cmis cmis.MaxPower)) wishes.max_power) refl was)
 
   gives_unless : (image : Memory) (decision : Decision) (fault : Option AdvertFault) → IsJustRead history image
-      → MatchOption fault (IsDecisionIn wishes image (number image CModuleState == 3) decision) (λ fault. decision ≡ Leave (Advert fault)) → Given decision
-  gives_unless image decision None was is = gives_in image (number image CModuleState == 3) decision was is
+      → MatchOption fault (IsDecisionIn wishes image (number image (fields.Cmis cmis.ModuleState) == 3) decision) (λ fault. decision ≡ Leave (Advert fault)) → Given decision
+  gives_unless image decision None was is = gives_in image (number image (fields.Cmis cmis.ModuleState) == 3) decision was is
   gives_unless image decision (Some fault) was is = subst Given (sym is) tt
 
   gives_sleep : (image : Memory) (found : Option (List ℕ)) → wishes.asleep ≡ true → IsJustRead history image → page_of_lanes image ≡ found → Given (sleep_in wishes.may_take_down found)
@@ -320,7 +321,7 @@ module _ (story : Story) (op : Op) (reply : Reply) (wanted : Wanted) (now : ℕ)
 
   gives_asleep : (image : Memory) (decision : Decision) (fault : Option AdvertFault) → wishes.asleep ≡ true → IsJustRead history image
       → MatchOption fault (decision ≡ sleep_within wishes.may_take_down image) (λ fault. decision ≡ Leave (Advert fault)) → Given decision
-  gives_asleep image decision None asleep was is = subst Given (sym is) (gives_within image (number image CModuleState == 1) asleep was)
+  gives_asleep image decision None asleep was is = subst Given (sym is) (gives_within image (number image (fields.Cmis cmis.ModuleState) == 1) asleep was)
   gives_asleep image decision (Some fault) asleep was is = subst Given (sym is) tt
 
   gives_for : (asleep : Bool) (image : Memory) (decision : Decision) → wishes.asleep ≡ asleep → IsJustRead history image → IsDecisionFor asleep wishes image decision → Given decision

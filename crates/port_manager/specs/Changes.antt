@@ -7,8 +7,9 @@ use Rattle.std.specs.FinMap as map
 use Rattle.std.specs.FinSet as set
 use Rattle.bus_model.specs.declared.device.Dev.TheVariants.{A0}
 use Rattle.bus_model.specs.declared.operation.Op.{Op}
-use Rattle.field_tables.specs.declared.field.Field.TheVariants.{CModuleState}
-use Rattle.field_tables.specs.declared.field.Register.TheVariants.{CApplyDPInit, CDPDeinit, CStagedControl}
+use Rattle.field_tables.specs.declared.field.Field.TheVariants as fields
+use Rattle.field_tables.specs.declared.table.cmis.CmisField.TheVariants as cmis
+use Rattle.field_tables.specs.declared.field.Register.TheVariants as registers
 use Rattle.field_tables.specs.LaneSets.{Lanes, byte_of, every_lane, is_empty}
 use Rattle.field_tables.specs.Readings.{number}
 use Rattle.paged_memory.specs.Images.{Memory}
@@ -129,14 +130,14 @@ judged_in change state (Some page) = Ok (judged_by change state page)
 
 -- if the memory has its lower half and page 11h
 abbrev pub judged : Memory → Change → Result Effect Key
-judged image change = if map.contains_key image (lower_key A0) then judged_in change (number image CModuleState) (page_of_lanes image) else Err (lower_key A0)
+judged image change = if map.contains_key image (lower_key A0) then judged_in change (number image (fields.Cmis cmis.ModuleState)) (page_of_lanes image) else Err (lower_key A0)
 
 -- ---- its stores
 
 -- provisioning takes down and applies the lanes that are taken, and stages the plan; activation holds all lanes down but the plan's
 abbrev pub IsStoreOfChange : List ℕ → Change → Op → Type 0
 IsStoreOfChange page change op =
-    (op ≡ store_to CDPDeinit (byte_of (lanes_with role.Taken page change) ∷ []))
-    ⊎ ((op ≡ store_to CStagedControl change.goal.control)
-    ⊎ ((op ≡ store_to CApplyDPInit (byte_of (lanes_with role.Taken page change) ∷ []))
-    ⊎ ((activates page change ≡ true) × (op ≡ store_to CDPDeinit ((255 - byte_of change.goal.lanes) ∷ [])))))
+    (op ≡ store_to registers.DPDeinit (byte_of (lanes_with role.Taken page change) ∷ []))
+    ⊎ ((op ≡ store_to registers.StagedControl change.goal.control)
+    ⊎ ((op ≡ store_to registers.ApplyDPInit (byte_of (lanes_with role.Taken page change) ∷ []))
+    ⊎ ((activates page change ≡ true) × (op ≡ store_to registers.DPDeinit ((255 - byte_of change.goal.lanes) ∷ [])))))

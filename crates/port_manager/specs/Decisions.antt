@@ -4,7 +4,8 @@ use Rattle.std.specs.Prelude.{◌≡◌, ℕ, ◌==◌, ◌&&◌, nat_le, Bool, 
 use Rattle.std.specs.FinMap as map
 use Rattle.std.specs.FinSet as set
 use Rattle.bus_model.specs.declared.device.Dev.TheVariants.{A0}
-use Rattle.field_tables.specs.declared.field.Field.TheVariants.{CMaxPower, CModuleState}
+use Rattle.field_tables.specs.declared.field.Field.TheVariants as fields
+use Rattle.field_tables.specs.declared.table.cmis.CmisField.TheVariants as cmis
 use Rattle.field_tables.specs.LaneSets as lanes
 use Rattle.field_tables.specs.Readings.{number}
 use Rattle.paged_memory.specs.Images.{Memory}
@@ -19,7 +20,7 @@ use Rattle.port_manager.specs.Goals.{HasGoal, advert_of, are_up, conventions_of,
 
 -- a module that is not ready is woken up if it needs no more power than it may have
 abbrev pub wake_within : Wanted → Memory → Decision
-wake_within wanted image = if nat_le (number image CMaxPower) wanted.max_power then Wake else Leave NeedsPower
+wake_within wanted image = if nat_le (number image (fields.Cmis cmis.MaxPower)) wanted.max_power then Wake else Leave NeedsPower
 
 -- unless lanes that are up would be taken down, and may not be
 abbrev pub if_permitted : Bool → Decision → Decision
@@ -53,7 +54,7 @@ IsDecisionIn wanted image false decision = decision ≡ wake_within wanted image
 abbrev pub IsDecisionAwake : Wanted → Memory → Decision → Type 0
 IsDecisionAwake wanted image decision =
     MatchOption (advert_fault_under (conventions_of wanted) image)
-    (IsDecisionIn wanted image (number image CModuleState == 3) decision)
+    (IsDecisionIn wanted image (number image (fields.Cmis cmis.ModuleState) == 3) decision)
     (λ fault. decision ≡ Leave (Advert fault))
 
 -- a module goes to low power if all lanes that page 11h shows as up may be taken down
@@ -66,7 +67,7 @@ sleep_in may (Some page) = sleep_by may page
 
 -- and unless it is in low power
 abbrev pub sleep_within : lanes.Lanes → Memory → Decision
-sleep_within may image = if number image CModuleState == 1 then Leave Asleep else sleep_in may (page_of_lanes image)
+sleep_within may image = if number image (fields.Cmis cmis.ModuleState) == 1 then Leave Asleep else sleep_in may (page_of_lanes image)
 
 -- with one that is to be in low power
 abbrev pub IsDecisionAsleep : Wanted → Memory → Decision → Type 0

@@ -16,7 +16,8 @@ use Rattle.paged_memory.specs.declared.page_addressing.PageAddressing.TheVariant
 use Rattle.paged_memory.specs.declared.family.Family.TheVariants.{Cmis}
 use Rattle.paged_memory.specs.Families.{is_family, managed_by}
 use Rattle.paged_memory.specs.KnownPages.{is_known, selection_read}
-use Rattle.field_tables.specs.declared.field.Field.TheVariants.{CFlatMemory}
+use Rattle.field_tables.specs.declared.field.Field.TheVariants as fields
+use Rattle.field_tables.specs.declared.table.cmis.CmisField.TheVariants as cmis_fields
 use Rattle.field_tables.specs.FieldValues.{number_in_byte}
 use Rattle.port_manager.specs.declared.flags.Flags.{Flags}
 use Rattle.port_manager.specs.Codes.{no_codes, with_codes}
@@ -79,7 +80,7 @@ with_lanes held offset bytes now =
 -- the page that the lower memory shows as selected, unless the module has no other page than 00h
 abbrev pub shown_page : List ℕ → KnownPage
 shown_page lower =
-    if number_in_byte CFlatMemory (slice_index lower 2) == 1 then Unknown else selection_read BankAndPage (take 2 (drop 126 lower))
+    if number_in_byte (fields.Cmis cmis_fields.FlatMemory) (slice_index lower 2) == 1 then Unknown else selection_read BankAndPage (take 2 (drop 126 lower))
 
 -- byte 0, if these bytes have it, and else as it was read before
 abbrev pub identifier_by : ℕ → ℕ → List ℕ → ℕ

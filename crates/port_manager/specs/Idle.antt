@@ -1,7 +1,8 @@
 -- A module that is up as it is wanted, and a port while nothing changes. (this project's own)
 use Rattle.std.specs.Prelude.{◌≡◌, ℕ, Bool, true, false, List, [], ◌∷◌, Some, None}
 use Rattle.applications.specs.Refusals.{advert_fault_under}
-use Rattle.field_tables.specs.declared.field.Field.TheVariants.{CModuleState}
+use Rattle.field_tables.specs.declared.field.Field.TheVariants as fields
+use Rattle.field_tables.specs.declared.table.cmis.CmisField.TheVariants as cmis
 use Rattle.field_tables.specs.Readings.{number}
 use Rattle.paged_memory.specs.Images.{Memory}
 use Rattle.bus_model.specs.declared.operation.Op.{Op}
@@ -38,7 +39,7 @@ pub record IsGoalUp (wanted : Wanted) (page : List ℕ) (goal : Goal) : Type 0 w
 pub record IsUp (wanted : Wanted) (image : Memory) : Type 0 where
   pub awake : wanted.asleep ≡ false
   pub advertised : advert_fault_under (conventions_of wanted) image ≡ None
-  pub ready : number image CModuleState ≡ 3
+  pub ready : number image (fields.Cmis cmis.ModuleState) ≡ 3
   pub page : List ℕ
   pub there : page_of_lanes image ≡ Some page
   pub each : (goal : Goal) → HasGoal (advert_of wanted image) wanted page goal → IsGoalUp wanted page goal

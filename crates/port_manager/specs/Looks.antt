@@ -10,7 +10,8 @@ use Rattle.conversations.specs.declared.event.Event.TheVariants.{Made, Waited, L
 use Rattle.conversations.specs.declared.next.Next.{Next}
 use Rattle.conversations.specs.declared.next.Next.TheVariants.{Do, End}
 use Rattle.conversations.specs.Events.{Events}
-use Rattle.field_tables.specs.declared.field.Field.TheVariants.{CModuleState}
+use Rattle.field_tables.specs.declared.field.Field.TheVariants as fields
+use Rattle.field_tables.specs.declared.table.cmis.CmisField.TheVariants as cmis
 use Rattle.field_tables.specs.FieldValues.{number_in_byte}
 use Rattle.port_manager.specs.declared.deciding.Goal.{Goal}
 use Rattle.port_manager.specs.declared.look.Look.{Look}
@@ -42,7 +43,7 @@ needed look = page_at look.stage
 
 -- a module that is no longer ready is not as it is wanted
 abbrev pub below : List ℕ → LookStage
-below lower = if number_in_byte CModuleState (slice_index lower 3) == 3 then Lanes else Seen false
+below lower = if number_in_byte (fields.Cmis cmis.ModuleState) (slice_index lower 3) == 3 then Lanes else Seen false
 
 -- all lanes have their control bytes, and those of the goal are up
 abbrev pub above : Goal → List ℕ → LookStage

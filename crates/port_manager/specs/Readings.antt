@@ -11,7 +11,8 @@ use Rattle.conversations.specs.declared.pausing.Timed.TheVariants.{InTime}
 use Rattle.conversations.specs.declared.within.Spent.{Spent}
 use Rattle.conversations.specs.Wanted.{op_of}
 use Rattle.control_sets.specs.Durations.{patience_for}
-use Rattle.field_tables.specs.declared.field.Field.TheVariants.{CMaxPower}
+use Rattle.field_tables.specs.declared.field.Field.TheVariants as fields
+use Rattle.field_tables.specs.declared.table.cmis.CmisField.TheVariants as cmis
 use Rattle.field_tables.specs.Readings.{number}
 use Rattle.paged_memory.specs.Images.{Memory}
 use Rattle.paged_memory.specs.PageAddressing.{History}
@@ -110,7 +111,7 @@ GivesPermission lane history wanted =
 
 -- the image that was just read shows a module that may be woken up
 abbrev pub GivesWaking : History → Wanted → Type 0
-GivesWaking history wanted = (image : Memory) × IsJustRead history image × (number image CMaxPower ≤ wanted.max_power)
+GivesWaking history wanted = (image : Memory) × IsJustRead history image × (number image (fields.Cmis cmis.MaxPower) ≤ wanted.max_power)
 
 -- the image that was just read is of a module that is to be in low power, and shows no lane as up that may not be taken down
 abbrev pub GivesSleep : History → Wanted → Type 0

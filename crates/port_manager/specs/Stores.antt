@@ -4,7 +4,7 @@
 use Rattle.std.specs.Prelude.{◌≡◌, ◌⊎◌, ◌-◌, ℕ, true, false, [], ◌∷◌}
 use Rattle.bus_model.specs.declared.operation.Op.{Op}
 use Rattle.field_tables.specs.LaneSets.{IsLane, byte_of, lanes_in}
-use Rattle.field_tables.specs.declared.field.Register.TheVariants.{CApplyDPInit, CDPDeinit, CStagedControl}
+use Rattle.field_tables.specs.declared.field.Register.TheVariants as registers
 use Rattle.paged_memory.specs.declared.page_addressing.PageAddressing.{PageAddressing}
 use Rattle.paged_memory.specs.PageAddressing.{selection}
 use Rattle.conversations.specs.Selecting.{IsFetch}
@@ -23,10 +23,10 @@ IsSelecting op = (addressing : PageAddressing) × (page : ℕ) × (op ≡ select
 -- it takes down or applies lanes outside of the kept paths alone, stages the plan, or holds all lanes down but the plan's
 abbrev pub IsStoreOf : Goal → Op → Type 0
 IsStoreOf goal op =
-    (op ≡ store_to CDPDeinit (byte_of goal.outside ∷ []))
-    ⊎ ((op ≡ store_to CStagedControl goal.control)
-    ⊎ ((op ≡ store_to CApplyDPInit (byte_of goal.outside ∷ []))
-    ⊎ (op ≡ store_to CDPDeinit ((255 - byte_of goal.lanes) ∷ []))))
+    (op ≡ store_to registers.DPDeinit (byte_of goal.outside ∷ []))
+    ⊎ ((op ≡ store_to registers.StagedControl goal.control)
+    ⊎ ((op ≡ store_to registers.ApplyDPInit (byte_of goal.outside ∷ []))
+    ⊎ (op ≡ store_to registers.DPDeinit ((255 - byte_of goal.lanes) ∷ []))))
 
 -- it fetches, selects a page, or changes the module's power or stores in one of these ways
 abbrev pub May : (Op → Type 0) → (Op → Type 0) → Op → Type 0

@@ -9,7 +9,8 @@ use Rattle.conversations.specs.declared.pausing.Patience.{Patience}
 use Rattle.conversations.specs.declared.pausing.Timed.{Timed}
 use Rattle.conversations.specs.declared.pausing.Timed.TheVariants.{InTime, Overdue as Late}
 use Rattle.conversations.specs.declared.within.Spent.{Spent}
-use Rattle.field_tables.specs.declared.field.Field.TheVariants.{CLowPwrAllowHW, CLowPwrRequestSW}
+use Rattle.field_tables.specs.declared.field.Field.TheVariants as fields
+use Rattle.field_tables.specs.declared.table.cmis.CmisField.TheVariants as cmis
 use Rattle.field_tables.specs.Readings.{number}
 use Rattle.paged_memory.specs.Images.{Memory}
 use Rattle.control_sets.specs.declared.fault.ProvisionFault.{ProvisionFault}
@@ -77,7 +78,7 @@ GoesTo (End spent) pause job Ended turn = Ended spent.end turn
 
 -- software asks for low power, or the pin may: not what waking a module up stores
 abbrev pub is_low_power_requested : Memory → Bool
-is_low_power_requested image = number image CLowPwrAllowHW == 1 || number image CLowPwrRequestSW == 1
+is_low_power_requested image = number image (fields.Cmis cmis.LowPwrAllowHW) == 1 || number image (fields.Cmis cmis.LowPwrRequestSW) == 1
 
 -- a module that was woken up and isn't ready has changed if low power is requested anew, as after a reset
 abbrev pub unready : Bool → PortFault

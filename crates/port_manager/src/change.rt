@@ -7,7 +7,7 @@ use crate::deciding::{Goal, LOW_POWER};
 use crate::lanes::{active_control, are_up, has_all, is_active, is_deactivated, is_permitted_if};
 use crate::look::READY;
 use control_sets::{ControlSet, agree, control_at};
-use field_tables::{Field, LaneNumber, LaneSet, number};
+use field_tables::{LaneNumber, LaneSet, field, number};
 use paged_memory::{Dev, Image, Key};
 
 /// What a change may do beside what it is for.
@@ -91,7 +91,7 @@ pub fn judge(image: &Image, change: &Change) -> Result<Effect, Key>
     if !image.has(lower) {
         return Err(lower);
     }
-    let state = number(image, Field::CModuleState);
+    let state = number(image, field!(Cmis ModuleState));
     match image.page(lanes) {
         Some(page) => Ok(judge_page(state, page.bytes(), change)),
         None => Err(lanes),

@@ -14,7 +14,7 @@ use crate::look::READY;
 use applications::{Advert, AdvertFault, AppWeights, Conventions};
 use arrayvec::ArrayVec;
 use control_sets::{ControlSet, bytes_of, lanes_of, lanes_outside};
-use field_tables::{Field, LaneSet, number};
+use field_tables::{LaneSet, field, number};
 use lane_planner::first_plan;
 use paged_memory::{Dev, Image, Key};
 use plan_certificate::{Path, Plan};
@@ -112,7 +112,7 @@ fn decide_asleep(image: &Image, wanted: &Wanted) -> Decision
 fn may_sleep(image: &Image, may: LaneSet) -> Decision
     ensures { result ≡ sleep_within may image.now }
 {
-    if number(image, Field::CModuleState) == LOW_POWER {
+    if number(image, field!(Cmis ModuleState)) == LOW_POWER {
         return Decision::Leave(LeftBecause::Asleep);
     }
     match image.page(Key::upper(Dev::A0, 0, 0x11)) {
@@ -153,7 +153,7 @@ fn decide_awake(image: &Image, wanted: &Wanted) -> Decision
         Ok(advert) => advert,
         Err(fault) => return Decision::Leave(LeftBecause::Advert(fault)),
     };
-    if number(image, Field::CModuleState) != READY {
+    if number(image, field!(Cmis ModuleState)) != READY {
         return may_wake(image, wanted);
     }
     let Some(page) = image.page(Key::upper(Dev::A0, 0, 0x11)) else {
@@ -167,7 +167,7 @@ fn decide_awake(image: &Image, wanted: &Wanted) -> Decision
 fn may_wake(image: &Image, wanted: &Wanted) -> Decision
     ensures { result ≡ wake_within wanted.now image.now }
 {
-    if number(image, Field::CMaxPower) <= wanted.max_power {
+    if number(image, field!(Cmis MaxPower)) <= wanted.max_power {
         Decision::Wake
     } else {
         Decision::Leave(LeftBecause::NeedsPower)

@@ -7,7 +7,7 @@ ghost use Rattle.port_manager.specs.Flags as spec;
 
 use crate::codes::LaneCodes;
 use bus_model::{Dev, Op, Reply};
-use field_tables::{Field, number_in_byte};
+use field_tables::{field, number_in_byte};
 use paged_memory::{Family, KnownPage, PageAddressing};
 
 /// Each flag of a module, byte by byte as they stand in its memory, and in a byte from the lowest bit: how often it was read as raised
@@ -138,7 +138,7 @@ fn shown_page(lower: &[u8]) -> KnownPage
     requires { length lower.now ≡ 128 }
     ensures { result ≡ spec.shown_page lower.now }
 {
-    if number_in_byte(Field::CFlatMemory, lower[2]) == 1 {
+    if number_in_byte(field!(Cmis FlatMemory), lower[2]) == 1 {
         KnownPage::Unknown
     } else {
         KnownPage::of(PageAddressing::BankAndPage, &lower[126..128])

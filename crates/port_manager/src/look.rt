@@ -8,7 +8,7 @@ use crate::deciding::Goal;
 use crate::lanes::{are_up, has_all};
 use bus_model::{Dev, Op, Reply};
 use conversations::{Conversation, NeedsPages, Next};
-use field_tables::{Field, number_in_byte};
+use field_tables::{field, number_in_byte};
 use paged_memory::PageAddressing;
 
 /// How far a look has come.
@@ -59,7 +59,7 @@ fn below(lower: &[u8]) -> LookStage
     requires { length lower.now ≡ 128 }
     ensures { result ≡ spec.below lower.now }
 {
-    if number_in_byte(Field::CModuleState, lower[3]) == READY {
+    if number_in_byte(field!(Cmis ModuleState), lower[3]) == READY {
         LookStage::Lanes
     } else {
         LookStage::Seen(false)

@@ -16,7 +16,7 @@ use control_sets::{
     PatientPower, PatientProcedure, PowerStage, ProvisionFault, is_apply, patience_for,
 };
 use conversations::{Conversation, Next, Patience, Timed};
-use field_tables::{Field, number};
+use field_tables::{field, number};
 use paged_memory::Image;
 
 /// What a log says of a reply that leads on.
@@ -171,7 +171,8 @@ fn read(image: &Image, woken: bool, wanted: &Wanted, end: Option<Timed<()>>) -> 
 fn is_low_power_requested(image: &Image) -> bool
     ensures { result ≡ spec.is_low_power_requested image.now }
 {
-    number(image, Field::CLowPwrAllowHW) == 1 || number(image, Field::CLowPwrRequestSW) == 1
+    number(image, field!(Cmis LowPwrAllowHW)) == 1
+        || number(image, field!(Cmis LowPwrRequestSW)) == 1
 }
 
 // What a decision leads to. A module that was woken up before is not woken up again at once.

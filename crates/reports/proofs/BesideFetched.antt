@@ -14,7 +14,8 @@ use Rattle.paged_memory.specs.Families.{is_family, managed_by}
 use Rattle.paged_memory.specs.Images.{Memory}
 use Rattle.paged_memory.specs.Keys.{lower_key, page_key, upper_key}
 use Rattle.paged_memory.specs.KeyOrder.{key_cmp}
-use Rattle.field_tables.specs.declared.field.Field.TheVariants.{CIdentifier, CRevision}
+use Rattle.field_tables.specs.declared.field.Field.TheVariants as fields
+use Rattle.field_tables.specs.declared.table.cmis.CmisField.TheVariants as cmis
 use Rattle.field_tables.specs.FirstFault.{first_fault}
 use Rattle.field_tables.proofs.SameValues.{Agree, plain, same_absent, same_number}
 use Rattle.module_decoding.specs.declared.module_family.ModuleFault.TheVariants.{Absent, Unknown, Revision}
@@ -105,8 +106,8 @@ module _ (a b : Memory) where
   detail_fault_same all =
       let low = low_agrees a b all in
       let absent = same_absent a b (lower_key A0) low in
-      let id = same_number a b CIdentifier low refl refl in
-      let revision = same_number a b CRevision low refl refl in
+      let id = same_number a b (fields.Cmis cmis.Identifier) low refl refl in
+      let revision = same_number a b (fields.Cmis cmis.Revision) low refl refl in
       λ i. option_map (λ fault. unread fault) (first_fault (
       (absent i, Absent (lower_key A0))
       ∷ (not (is_some (managed_by (id i))), Unknown (id i))

@@ -32,7 +32,8 @@ use Rattle.paged_memory.specs.Windows.{Windowed, window_fetched, started, window
 use Rattle.paged_memory.proofs.WindowHistories.{IsOf, IsOfBank, IsSelectable, IsSound, May, Shows, State, found, left, of_after, selecting_of, shows_confirmed, shows_fetch, shows_read_back, shows_selected, sound_after}
 use Rattle.paged_memory.proofs.WindowReads.{before_selection, half_page, reads_lower, reads_page}
 use Rattle.paged_memory.proofs.WindowRuns.{always}
-use Rattle.field_tables.specs.declared.field.Field.TheVariants.{CIdentifier}
+use Rattle.field_tables.specs.declared.field.Field.TheVariants as fields
+use Rattle.field_tables.specs.declared.table.cmis.CmisField.TheVariants as cmis
 use Rattle.field_tables.specs.FieldValues.{value_in}
 use Rattle.field_tables.specs.Halves.{byte_in, is_absent}
 use Rattle.field_tables.specs.Readings.{reading_at}
@@ -103,7 +104,7 @@ shows_chosen memory addressing by page state (step ∷ before) selectable has of
 
 -- ---- how its pages are selected
 
-value_of_byte : (bytes : List ℕ) → slice_index bytes 0 < 256 → unsigned_abs (value_in bytes CIdentifier 1) ≡ slice_index bytes 0
+value_of_byte : (bytes : List ℕ) → slice_index bytes 0 < 256 → unsigned_abs (value_in bytes (fields.Cmis cmis.Identifier) 1) ≡ slice_index bytes 0
 unfolding value_in
 value_of_byte bytes small = number-bits_up (byte_in bytes) 0 0 8 ∙ omega (arith, small)
 
@@ -111,7 +112,7 @@ pub identifier_is : (memory : Memory) (half : List ℕ) → IsImage memory → m
 unfolding reading_at
 identifier_is memory half image has =
     let page = half_page memory (lower_key A0) half image has in
-    ap (λ (bytes : Option (List ℕ)). unsigned_abs (unwrap_or (option_map (λ bytes. value_in bytes CIdentifier 1) bytes) (pos 0))) has ∙ value_of_byte half (page.bytes 0)
+    ap (λ (bytes : Option (List ℕ)). unsigned_abs (unwrap_or (option_map (λ bytes. value_in bytes (fields.Cmis cmis.Identifier) 1) bytes) (pos 0))) has ∙ value_of_byte half (page.bytes 0)
 
 pub selecting_is : (memory : Memory) (half : List ℕ) → map.get memory (lower_key A0) ≡ Some half → selecting_on memory A0 ≡ selecting_by (slice_index half 0)
 selecting_is memory half has = ap (λ (bytes : Option (List ℕ)). unwrap_or (option_map selecting_by (option_map (λ bytes. slice_index bytes 0) bytes)) (Some BankAndPage)) has
@@ -241,7 +242,7 @@ module _ (memory copy : Memory) (state : State) (history : History) (image : IsI
       selecting_on memory A0 ≡ selecting_of by_start
   same_selecting low there family is right =
       let (half, has) = half_of (map.get memory (lower_key A0)) there in
-      let id : identifier copy ≡ slice_index half 0 = same_number copy memory CIdentifier low refl refl ∙ identifier_is memory half image has in
+      let id : identifier copy ≡ slice_index half 0 = same_number copy memory (fields.Cmis cmis.Identifier) low refl refl ∙ identifier_is memory half image has in
       selecting_is memory half has ∙ ap selecting_by (sym id) ∙ ap selecting_in is ∙ right ∙ sym (ap (λ (family : Option Family). selecting_of (addressing_in family)) is)
 
   -- all but modules of SFF-8472, which are asked for lower halves alone, select pages as they are asked to

@@ -24,7 +24,8 @@ use Rattle.paged_memory.specs.MappedPages.{selecting_by, selecting_in, selecting
 use Rattle.paged_memory.specs.PageAddressing.{History}
 use Rattle.paged_memory.specs.Windows.{Windowed, started, window_conduct}
 use Rattle.paged_memory.proofs.WindowHistories.{IsOf, May, State, of_after}
-use Rattle.field_tables.specs.declared.field.Field.TheVariants.{CFlatMemory, CIdentifier}
+use Rattle.field_tables.specs.declared.field.Field.TheVariants as fields
+use Rattle.field_tables.specs.declared.table.cmis.CmisField.TheVariants as cmis_fields
 use Rattle.field_tables.proofs.SameValues.{Agree, plain, same_number}
 use Rattle.module_decoding.specs.ModuleFamilies.{identifier}
 use Rattle.module_reading.specs.declared.region.Region.{Region}
@@ -50,7 +51,7 @@ selects : (memory copy : Memory) → IsImage memory → Agree copy memory (lower
 selects memory copy image low by None none =
     ap (λ (half : Option (List ℕ)). unwrap_or (option_map selecting_by (option_map (λ (bytes : List ℕ). slice_index bytes 0) half)) (Some BankAndPage)) none
 selects memory copy image low by (Some half) has =
-    let id : identifier copy ≡ slice_index half 0 = same_number copy memory CIdentifier low refl refl ∙ identifier_is memory half image has in
+    let id : identifier copy ≡ slice_index half 0 = same_number copy memory (fields.Cmis cmis_fields.Identifier) low refl refl ∙ identifier_is memory half image has in
     selecting_is memory half has ∙ ap (λ (n : ℕ). selecting_in (managed_by n)) (sym id) ∙ by
 
 -- ---- what was read for reports stays with further banks
@@ -134,10 +135,10 @@ module _ (old mid : Seen (List Directive × Windowed)) (memory copy : Memory) (i
     low_from = low_settled memory from mid.state later image of_mid may (of_banks count) read.answered
 
     family : managed_by (identifier from) ≡ Some Cmis
-    family = ap managed_by (same_number from memory CIdentifier low_from refl refl ∙ sym (same_number copy memory CIdentifier low refl refl)) ∙ cmis
+    family = ap managed_by (same_number from memory (fields.Cmis cmis_fields.Identifier) low_from refl refl ∙ sym (same_number copy memory (fields.Cmis cmis_fields.Identifier) low refl refl)) ∙ cmis
 
     flat : is_flat from ≡ false
-    flat = ap (λ (n : ℕ). n == 1) (same_number from memory CFlatMemory low_from refl refl ∙ sym (same_number copy memory CFlatMemory low refl refl)) ∙ has_pages copy (first_among (Some Cmis) cmis first)
+    flat = ap (λ (n : ℕ). n == 1) (same_number from memory (fields.Cmis cmis_fields.FlatMemory) low_from refl refl ∙ sym (same_number copy memory (fields.Cmis cmis_fields.FlatMemory) low refl refl)) ∙ has_pages copy (first_among (Some Cmis) cmis first)
 
     asked_for : regions_of (of_banks count) from ≡ family_regions (of_banks count) Cmis false
     asked_for = ap (λ (family : Option Family). regions_in (of_banks count) family from) family ∙ ap (family_regions (of_banks count) Cmis) flat

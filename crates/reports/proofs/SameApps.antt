@@ -6,8 +6,9 @@ use Rattle.std.specs.Prelude.{is_some, nat_lt, not, take_while}
 use Rattle.std.specs.List.{flat_map, list_all, range_with_len}
 use Rattle.paged_memory.specs.Images.{Memory}
 use Rattle.paged_memory.specs.declared.key.Key.{Key}
-use Rattle.field_tables.specs.declared.field.Field.{Field}
 use Rattle.field_tables.specs.declared.field.Field.TheVariants as fields
+use Rattle.field_tables.specs.declared.table.cmis.CmisField.{CmisField}
+use Rattle.field_tables.specs.declared.table.cmis.CmisField.TheVariants as cmis
 use Rattle.field_tables.specs.LaneSets.{lanes_in}
 use Rattle.field_tables.specs.Readings.{number}
 use Rattle.applications.specs.declared.app.App.{App}
@@ -24,20 +25,20 @@ abbrev without_starts : App → App
 without_starts app = record app { media_starts = lanes_in 0 }
 
 abbrev pub details_of : Memory → Bool → List Entry
-details_of memory flat = if not flat && is_some (page_fault memory) then [] else flat_map (app_entries flat (number memory fields.CMediaType)) (apps_of memory)
+details_of memory flat = if not flat && is_some (page_fault memory) then [] else flat_map (app_entries flat (number memory (fields.Cmis cmis.MediaType))) (apps_of memory)
 
 -- ---- what is said of descriptors of flat memory
 
 abbrev entries_of_apps : Memory → List ℕ → List Entry
 entries_of_apps memory [] = []
-entries_of_apps memory (n ∷ ns) = cond (is_listed (app_at memory n)) (app_entries true (number memory fields.CMediaType) (app_at memory n) ++ entries_of_apps memory ns) []
+entries_of_apps memory (n ∷ ns) = cond (is_listed (app_at memory n)) (app_entries true (number memory (fields.Cmis cmis.MediaType)) (app_at memory n) ++ entries_of_apps memory ns) []
 
-pub entries_are : (memory : Memory) (ns : List ℕ) → flat_map (app_entries true (number memory fields.CMediaType)) (take_while is_listed (map (app_at memory) ns)) ≡ entries_of_apps memory ns
+pub entries_are : (memory : Memory) (ns : List ℕ) → flat_map (app_entries true (number memory (fields.Cmis cmis.MediaType))) (take_while is_listed (map (app_at memory) ns)) ≡ entries_of_apps memory ns
 entries_are memory [] = refl
 entries_are memory (n ∷ ns) =
     ap (flat_map entries) (take_while-cons is_listed (app_at memory n) (map (app_at memory) ns)) ∙ by (is_listed (app_at memory n)) (entries_are memory ns) where
       entries : App → List Entry
-      entries = app_entries true (number memory fields.CMediaType)
+      entries = app_entries true (number memory (fields.Cmis cmis.MediaType))
 
       by : (listed : Bool) → flat_map entries (take_while is_listed (map (app_at memory) ns)) ≡ entries_of_apps memory ns → flat_map entries (cond listed (app_at memory n ∷ take_while is_listed (map (app_at memory) ns)) []) ≡ cond listed (entries (app_at memory n) ++ entries_of_apps memory ns) []
       by true later = ap (λ (rest : List Entry). entries (app_at memory n) ++ rest) later
@@ -48,7 +49,7 @@ pub no_entries : (memory : Memory) (ns : List ℕ) → list_all (nat_lt 8) ns �
 unfolding app_entries app_at
 no_entries memory [] far = refl
 no_entries memory (n ∷ ns) far =
-    let media = number memory fields.CMediaType in
+    let media = number memory (fields.Cmis cmis.MediaType) in
     let parts = and_parts _ _ far in
     let here = ap (λ (far : Bool). if far then [] else interface_entries media (app_at memory n) ++ (lane_entries (app_at memory n) ++ start_entries true (app_at memory n))) parts.0 in
     (λ i. cond (is_listed (app_at memory n)) (here i ++ no_entries memory ns parts.1 i) [])
@@ -57,14 +58,14 @@ no_entries memory (n ∷ ns) far =
 -- ---- the descriptors
 
 module _ {a b : Memory} {keys : List Key} (agree : KeysAgree a b keys) where
-  abbrev column_same : (first more : Field) (n : ℕ) → SameIf (described a first more n) (described b first more n)
-  column_same first more n = choice (nat_le n 8) (number_read agree first n) (number_read agree more (n - 8))
+  abbrev column_same : (first more : CmisField) (n : ℕ) → SameIf (described a first more n) (described b first more n)
+  column_same first more n = choice (nat_le n 8) (number_read agree (fields.Cmis first) n) (number_read agree (fields.Cmis more) (n - 8))
 
   abbrev described_same : (n : ℕ) → SameIf (without_starts (app_at a n)) (without_starts (app_at b n))
   unfolding app_at
   described_same n =
-      let ids = pair (column_same fields.CAppHost fields.CAppHostMore n) (column_same fields.CAppMedia fields.CAppMediaMore n) in
-      let lanes = pair (column_same fields.CAppHostLanes fields.CAppHostLanesMore n) (column_same fields.CAppMediaLanes fields.CAppMediaLanesMore n) in
+      let ids = pair (column_same cmis.AppHost cmis.AppHostMore n) (column_same cmis.AppMedia cmis.AppMediaMore n) in
+      let lanes = pair (column_same cmis.AppHostLanes cmis.AppHostLanesMore n) (column_same cmis.AppMediaLanes cmis.AppMediaLanesMore n) in
       by_two (λ (ids : ℕ × ℕ) (more : (ℕ × ℕ) × ℕ). record {
         number = n;
         host_id = ids.0;
@@ -73,20 +74,20 @@ module _ {a b : Memory} {keys : List Key} (agree : KeysAgree a b keys) where
         media_lanes = more.0.1;
         host_starts = lanes_in more.1;
         media_starts = lanes_in 0;
-      }) ids (pair lanes (column_same fields.CAppHostStarts fields.CAppHostStartsMore n))
+      }) ids (pair lanes (column_same cmis.AppHostStarts cmis.AppHostStartsMore n))
 
   abbrev apps_same : SameIf (apps_of a) (apps_of b)
   unfolding apps_of described_same
   apps_same =
       by (take_while is_listed) (mapped (app_at a) (app_at b)
-      (λ n. by_two (λ (app : App) (starts : ℕ). record app { media_starts = lanes_in starts }) (described_same n) (number_read agree fields.CMediaStarts n)) (range_with_len 1 15))
+      (λ n. by_two (λ (app : App) (starts : ℕ). record app { media_starts = lanes_in starts }) (described_same n) (number_read agree (fields.Cmis cmis.MediaStarts) n)) (range_with_len 1 15))
 
   abbrev entries_same : (ns : List ℕ) → SameIf (entries_of_apps a ns) (entries_of_apps b ns)
   unfolding described_same app_entries interface_entries host_entry medium_entry lane_entries start_entries app_entry
   entries_same [] = always []
   entries_same (n ∷ ns) =
       if nat_le n 8 then
-      by_two (λ (it : ℕ × App) later. cond (is_listed it.1) (app_entries true it.0 it.1 ++ later) []) (pair (number_read agree fields.CMediaType 1) (described_same n)) (entries_same ns)
+      by_two (λ (it : ℕ × App) later. cond (is_listed it.1) (app_entries true it.0 it.1 ++ later) []) (pair (number_read agree (fields.Cmis cmis.MediaType) 1) (described_same n)) (entries_same ns)
       else record { test = list_all (nat_lt 8) (n ∷ ns); same = λ far. no_entries a (n ∷ ns) far ∙ sym (no_entries b (n ∷ ns) far) }
 
   -- ---- what is said of them
@@ -94,7 +95,7 @@ module _ {a b : Memory} {keys : List Key} (agree : KeysAgree a b keys) where
   unfoldable pub advertised_same : SameIf (advertised_by a) (advertised_by b)
   unfolding apps_same
   advertised_same =
-      by_two (λ apps unsupported. record { apps = apps; unsupported = lanes_in unsupported; paired = false; active = nothing_active }) apps_same (number_read agree fields.CUnsupportedMedia 1)
+      by_two (λ apps unsupported. record { apps = apps; unsupported = lanes_in unsupported; paired = false; active = nothing_active }) apps_same (number_read agree (fields.Cmis cmis.UnsupportedMedia) 1)
 
   -- in details, of memory that is flat or not
   unfoldable pub details_same : (flat : Bool) → SameIf (details_of a flat) (details_of b flat)
@@ -103,4 +104,4 @@ module _ {a b : Memory} {keys : List Key} (agree : KeysAgree a b keys) where
       let same_entries = entries_same (range_with_len 1 15) in
       record { test = same_entries.test; same = λ e. entries_are a (range_with_len 1 15) ∙ same_entries.same e ∙ sym (entries_are b (range_with_len 1 15)) }
   details_same false =
-      either (by is_some (refusal_same agree page_reasons)) (always []) (by_two (λ media apps. flat_map (app_entries false media) apps) (number_read agree fields.CMediaType 1) apps_same)
+      either (by is_some (refusal_same agree page_reasons)) (always []) (by_two (λ media apps. flat_map (app_entries false media) apps) (number_read agree (fields.Cmis cmis.MediaType) 1) apps_same)

@@ -10,7 +10,9 @@ use Rattle.paged_memory.specs.declared.key.Key.{Key}
 use Rattle.paged_memory.specs.Families.{family_by, is_of, managed_by}
 use Rattle.paged_memory.specs.Images.{Memory}
 use Rattle.paged_memory.specs.Keys.{lower_key, upper_key}
-use Rattle.field_tables.specs.declared.field.Field.TheVariants.{QFlatMemory, SAddressChange, SDiagPresent}
+use Rattle.field_tables.specs.declared.field.Field.TheVariants as fields
+use Rattle.field_tables.specs.declared.table.sff8636.Sff8636Field.TheVariants as sff8636
+use Rattle.field_tables.specs.declared.table.sff8472.Sff8472Field.TheVariants as sff8472
 use Rattle.field_tables.specs.declared.sff_fault.SffFault.{SffFault}
 use Rattle.field_tables.specs.Halves.{is_absent}
 use Rattle.field_tables.specs.Readings.{bit}
@@ -192,7 +194,7 @@ module _ (a b : Memory) (low : Agree a b (lower_key A0)) where
   same_qsfp_faults : FamilyAgrees a b Sff8636 → (report : Report) → sff8636_fault report a ≡ sff8636_fault report b
   unfolding qsfp_refusals.identity_fault qsfp_refusals.module_fault qsfp_refusals.threshold_fault qsfp_refusals.measured_fault
   same_qsfp_faults agree Inventory =
-      let zeroth = (agree (bit a QFlatMemory) refl).half (upper_key A0 0 0x00) (has_zeroth (bit a QFlatMemory)) in
+      let zeroth = (agree (bit a (fields.Sff8636 sff8636.FlatMemory)) refl).half (upper_key A0 0 0x00) (has_zeroth (bit a (fields.Sff8636 sff8636.FlatMemory))) in
       same_refusal a b qsfp_refusals.identity_reasons refl (low, λ here. (low, λ of. (zeroth, λ there. tt))) where
         has_zeroth : (flat : Bool) → is_among (keys_by Sff8636 flat) (upper_key A0 0 0x00) ≡ true
         has_zeroth true = refl
@@ -204,11 +206,11 @@ module _ (a b : Memory) (low : Agree a b (lower_key A0)) where
       λ i. option_or (module_fault i) (if same_decides a b low Sff8636 i then None else limits i)
 
   -- diagnostics are there, and can be read without an address change
-  are_diagnosed : not (bit a SDiagPresent) ≡ false → bit a SAddressChange ≡ false → has_diagnostics a ≡ true
-  are_diagnosed present unchanged = and_from (bit a SDiagPresent) (not (bit a SAddressChange)) (not-false (bit a SDiagPresent) present) (ap not unchanged)
+  are_diagnosed : not (bit a (fields.Sff8472 sff8472.DiagPresent)) ≡ false → bit a (fields.Sff8472 sff8472.AddressChange) ≡ false → has_diagnostics a ≡ true
+  are_diagnosed present unchanged = and_from (bit a (fields.Sff8472 sff8472.DiagPresent)) (not (bit a (fields.Sff8472 sff8472.AddressChange))) (not-false (bit a (fields.Sff8472 sff8472.DiagPresent)) present) (ap not unchanged)
 
   module _ (agree : FamilyAgrees a b Sff8472) where
-    diagnostics : not (bit a SDiagPresent) ≡ false → bit a SAddressChange ≡ false → Agree a b (lower_key A2)
+    diagnostics : not (bit a (fields.Sff8472 sff8472.DiagPresent)) ≡ false → bit a (fields.Sff8472 sff8472.AddressChange) ≡ false → Agree a b (lower_key A2)
     diagnostics present unchanged = (agree true (are_diagnosed present unchanged)).half (lower_key A2) refl
 
     same_sfp_faults : (report : Report) → sff8472_fault report a ≡ sff8472_fault report b

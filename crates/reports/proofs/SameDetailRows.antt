@@ -9,7 +9,10 @@ use Rattle.external_calibration.specs.Constants.{coefficient, constants_of, line
 use Rattle.external_calibration.specs.Refusals.{refusal_by}
 use Rattle.external_calibration.specs.declared.monitor.Monitor.{Monitor}
 use Rattle.field_tables.specs.declared.field.Field.{Field}
-use Rattle.field_tables.specs.declared.field.Field.TheVariants.{CIdentifier, QMaxPower, QPowerClass, QPowerClass8, QPowerClassHigh, SExternal, SOffsets, SRxPowerCoefficients, SSlopes}
+use Rattle.field_tables.specs.declared.field.Field.TheVariants as fields
+use Rattle.field_tables.specs.declared.table.cmis.CmisField.TheVariants as cmis
+use Rattle.field_tables.specs.declared.table.sff8636.Sff8636Field.TheVariants as sff8636
+use Rattle.field_tables.specs.declared.table.sff8472.Sff8472Field.TheVariants as sff8472
 use Rattle.field_tables.specs.FieldRows.{row_of}
 use Rattle.field_tables.specs.Readings.{number}
 use Rattle.module_decoding.specs.Amounts.{amount_at, unit_of}
@@ -40,16 +43,16 @@ module _ {a b : Memory} {keys : List Key} (agree : KeysAgree a b keys) where
   abbrev class_same : SameIf (power_class a) (power_class b)
   unfolding power_class
   class_same =
-      let high = number_read agree QPowerClassHigh 1 in
-      either (bit_read agree QPowerClass8 1) (always 8) (either (by (nat_lt 0) high) (by (λ n. n + 4) high) (by (λ n. n + 1) (number_read agree QPowerClass 1)))
+      let high = number_read agree (fields.Sff8636 sff8636.PowerClassHigh) 1 in
+      either (bit_read agree (fields.Sff8636 sff8636.PowerClass8) 1) (always 8) (either (by (nat_lt 0) high) (by (λ n. n + 4) high) (by (λ n. n + 1) (number_read agree (fields.Sff8636 sff8636.PowerClass) 1)))
 
   -- ---- by which the host calibrates, if it has to
 
   abbrev coefficient_same : (i : ℕ) → SameIf (coefficient a i) (coefficient b i)
-  coefficient_same i = by_two (λ high low. high * 2 ^ 16 + low) (number_read agree SRxPowerCoefficients i) (number_read agree SRxPowerCoefficients (i + 1))
+  coefficient_same i = by_two (λ high low. high * 2 ^ 16 + low) (number_read agree (fields.Sff8472 sff8472.RxPowerCoefficients) i) (number_read agree (fields.Sff8472 sff8472.RxPowerCoefficients) (i + 1))
 
   abbrev line_same : (i : ℕ) → SameIf (line_of a i) (line_of b i)
-  line_same i = by_two (λ slope offset. record { slope = slope; offset = offset }) (number_read agree SSlopes i) (value_read agree SOffsets i)
+  line_same i = by_two (λ slope offset. record { slope = slope; offset = offset }) (number_read agree (fields.Sff8472 sff8472.Slopes) i) (value_read agree (fields.Sff8472 sff8472.Offsets) i)
 
   abbrev constants_same : SameIf (constants_of a) (constants_of b)
   unfolding constants_of
@@ -72,12 +75,12 @@ module _ {a b : Memory} {keys : List Key} (agree : KeysAgree a b keys) where
     abbrev measured_same : SameIf (measured_fact a monitor field i) (measured_fact b monitor field i)
     unfolding measured_fact amount_at calibrated_same
     measured_same =
-        either (bit_read agree SExternal 1) (by (λ millis. measured.amount_fact millis monitor) calibrated_same)
+        either (bit_read agree (fields.Sff8472 sff8472.External) 1) (by (λ millis. measured.amount_fact millis monitor) calibrated_same)
         (by (λ millis. Some (facts.amount millis (printed_in (unit_of field)))) (amount_read agree field None i))
 
     abbrev measured_power_same : SameIf (measured_power a monitor field i) (measured_power b monitor field i)
     unfolding measured_power calibrated_same
-    measured_power_same = either (bit_read agree SExternal 1) (by measured.power_in calibrated_same) (by (λ n. Some n) (number_read agree field i))
+    measured_power_same = either (bit_read agree (fields.Sff8472 sff8472.External) 1) (by measured.power_in calibrated_same) (by (λ n. Some n) (number_read agree field i))
 
   -- ---- what rows say
 
@@ -116,7 +119,7 @@ module _ {a b : Memory} {keys : List Key} (agree : KeysAgree a b keys) where
   fact_same bank (BitRate rate more) i = by_two (λ rate more. bit_rate_fact (bit_rate rate more)) (number_read agree rate 1) (number_read agree more 1)
   fact_same bank PowerClass i = by (λ class. Some (facts.number class)) class_same
   fact_same bank ClassPower i =
-      by (λ power. Some (facts.amount (pos power) units.Watt)) (either (bit_read agree QPowerClass8 1) (by (λ n. n * 100) (number_read agree QMaxPower 1)) (by power_of class_same))
+      by (λ power. Some (facts.amount (pos power) units.Watt)) (either (bit_read agree (fields.Sff8636 sff8636.PowerClass8) 1) (by (λ n. n * 100) (number_read agree (fields.Sff8636 sff8636.MaxPower) 1)) (by power_of class_same))
 
   abbrev applies_same : (case : Case) → SameIf (applies a case) (applies b case)
   applies_same (Within field i low high) = by (is_within low high) (number_read agree field i)
@@ -126,20 +129,20 @@ module _ {a b : Memory} {keys : List Key} (agree : KeysAgree a b keys) where
 
 -- which lanes a bank has, the module's identifier tells
 module _ {a b : Memory} {keys : List Key} (agree : KeysAgree a b keys) where
-  abbrev lane_same : {x y : Memory} {others : List Key} → KeysAgree x y others → (name : List ℕ) (item : Item) (bank i : ℕ) → SameIf (lane_entries (number a CIdentifier) name item bank x i) (lane_entries (number b CIdentifier) name item bank y i)
+  abbrev lane_same : {x y : Memory} {others : List Key} → KeysAgree x y others → (name : List ℕ) (item : Item) (bank i : ℕ) → SameIf (lane_entries (number a (fields.Cmis cmis.Identifier)) name item bank x i) (lane_entries (number b (fields.Cmis cmis.Identifier)) name item bank y i)
   unfolding lane_entries fact_same
   lane_same lanes name item bank i =
-      either (by (λ id. nat_le i (most_lanes id)) (number_read agree CIdentifier 1)) (by (fact_entries name (Lane (8 * bank + i))) (fact_same lanes bank item i)) (always [])
+      either (by (λ id. nat_le i (most_lanes id)) (number_read agree (fields.Cmis cmis.Identifier) 1)) (by (fact_entries name (Lane (8 * bank + i))) (fact_same lanes bank item i)) (always [])
 
-  abbrev bank_same : {x y : Memory} {others : List Key} → KeysAgree x y others → (name : List ℕ) (item : Item) (n bank : ℕ) → SameIf (bank_entries (number a CIdentifier) name item n bank x) (bank_entries (number b CIdentifier) name item n bank y)
+  abbrev bank_same : {x y : Memory} {others : List Key} → KeysAgree x y others → (name : List ℕ) (item : Item) (n bank : ℕ) → SameIf (bank_entries (number a (fields.Cmis cmis.Identifier)) name item n bank x) (bank_entries (number b (fields.Cmis cmis.Identifier)) name item n bank y)
   unfolding lane_same
-  bank_same {x} {y} lanes name item n bank = each (lane_entries (number a CIdentifier) name item bank x) (lane_entries (number b CIdentifier) name item bank y) (lane_same lanes name item bank) (range_with_len 1 n)
+  bank_same {x} {y} lanes name item n bank = each (lane_entries (number a (fields.Cmis cmis.Identifier)) name item bank x) (lane_entries (number b (fields.Cmis cmis.Identifier)) name item bank y) (lane_same lanes name item bank) (range_with_len 1 n)
 
   abbrev values_same : (banks name : List ℕ) (item : Item) (values : Values) → SameIf (values_entries a banks name item values) (values_entries b banks name item values)
   unfolding bank_same fact_same
   values_same banks name item (One i) = by (fact_entries name Module) (fact_same agree 0 item i)
   values_same banks name item (Lanes n) =
-      over_banks_same agree banks (bank_entries (number a CIdentifier) name item n) (bank_entries (number b CIdentifier) name item n) (bank_same agree name item n 0) (λ bank. bank_same (lanes_agree agree bank) name item n bank)
+      over_banks_same agree banks (bank_entries (number a (fields.Cmis cmis.Identifier)) name item n) (bank_entries (number b (fields.Cmis cmis.Identifier)) name item n) (bank_same agree name item n 0) (λ bank. bank_same (lanes_agree agree bank) name item n bank)
 
   abbrev row_same : (banks : List ℕ) (flat : Bool) (row : Row) → SameIf (row_entries a banks flat row) (row_entries b banks flat row)
   unfolding row_entries values_same

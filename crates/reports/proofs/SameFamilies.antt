@@ -12,7 +12,8 @@ use Rattle.paged_memory.specs.declared.key.Key.{Key}
 use Rattle.paged_memory.specs.Families.{family_by, is_family, is_other_cmis, managed_by}
 use Rattle.paged_memory.specs.Images.{Memory}
 use Rattle.paged_memory.specs.Keys.{lower_key, upper_key}
-use Rattle.field_tables.specs.declared.field.Field.TheVariants.{CIdentifier, CRevision}
+use Rattle.field_tables.specs.declared.field.Field.TheVariants as fields
+use Rattle.field_tables.specs.declared.table.cmis.CmisField.TheVariants as cmis
 use Rattle.field_tables.specs.FirstFault.{first_fault}
 use Rattle.field_tables.specs.Readings.{number}
 use Rattle.field_tables.proofs.SameValues.{Agree, same_absent, same_number}
@@ -105,15 +106,15 @@ module _ (a b : Memory) (low : Agree a b (lower_key A0)) where
 -- faults are called
 pub same_found : {F A : Type 0} (find : ℕ → Option Family) (is_read : ℕ → Bool) (called : ModuleFault → F) (fault_in : Family → Memory → Option F) (content_in : Family → Memory → A) (a b : Memory) → AllAgree a b
     → ((id : ℕ) (family : Family) → find id ≡ Some family → managed_by id ≡ Some family) → ((family : Family) → FamilyAgrees a b family → IsSame (fault_in family) (content_in family) a b)
-    → IsSame (λ m. option_or (option_map called (families.fault_in (find (identifier m)) (is_read (number m CRevision)) m)) (fault_in (known (find (identifier m))) m)) (λ m. content_in (known (find (identifier m))) m) a b
+    → IsSame (λ m. option_or (option_map called (families.fault_in (find (identifier m)) (is_read (number m (fields.Cmis cmis.Revision))) m)) (fault_in (known (find (identifier m))) m)) (λ m. content_in (known (find (identifier m))) m) a b
 unfolding families.fault_in
 same_found {F} find is_read called fault_in content_in a b all managed each =
     let low = low_agrees a b all in
     let absent = same_absent a b (lower_key A0) low in
-    let id = same_number a b CIdentifier low refl refl in
-    let revision = same_number a b CRevision low refl refl in
-    let refused : List (Bool × ModuleFault) = families.faults_in (find (identifier a)) (is_read (number a CRevision)) a in
-    let refusal : Memory → Option F = λ m. option_map called (families.fault_in (find (identifier m)) (is_read (number m CRevision)) m) in
+    let id = same_number a b (fields.Cmis cmis.Identifier) low refl refl in
+    let revision = same_number a b (fields.Cmis cmis.Revision) low refl refl in
+    let refused : List (Bool × ModuleFault) = families.faults_in (find (identifier a)) (is_read (number a (fields.Cmis cmis.Revision))) a in
+    let refusal : Memory → Option F = λ m. option_map called (families.fault_in (find (identifier m)) (is_read (number m (fields.Cmis cmis.Revision))) m) in
     let same_refusal : refusal a ≡ refusal b = λ i. option_map called (first_fault (
     (absent i, Absent (lower_key A0))
     ∷ (not (is_some (find (id i))), Unknown (id i))

@@ -8,7 +8,8 @@ use Rattle.std.specs.List.{AllByRecursion, IsDistinct, flat_map, list_all, range
 use Rattle.std.specs.Set.{distinct_count}
 use Rattle.std.specs.Str.{bytes_eq}
 use Rattle.std.specs.Cmp.Lexicographic.{bytes_decides}
-use Rattle.field_tables.specs.declared.field.Field.TheVariants.{CIdentifier}
+use Rattle.field_tables.specs.declared.field.Field.TheVariants as fields
+use Rattle.field_tables.specs.declared.table.cmis.CmisField.TheVariants as cmis_fields
 use Rattle.field_tables.specs.Readings.{number}
 use Rattle.paged_memory.specs.Images.{Memory}
 use Rattle.report_entries.specs.Entries.{Entry, entry}
@@ -119,10 +120,10 @@ is_bank bank = nat_le bank 3
 values_part : (memory : Memory) (banks name : List ℕ) (item : Item) (values : Values) → list_all is_bank banks ≡ true → are_few values ≡ true → Part (keys_of (values_entries memory banks name item values)) (values_keys (0 ∷ banks) name values)
 values_part memory banks name item (One i) of e = fact_part name Module (fact_at memory 0 item i)
 values_part memory banks name item (Lanes n) of e =
-    let first = bank_part (number memory CIdentifier) memory name item n e 0 (omega arith) in
-    let later = each_part (λ (bank : ℕ). bank_entries (number memory CIdentifier) name item n bank (lanes_of_bank memory bank)) (bank_keys name n) is_bank (λ bank few. bank_part (number memory CIdentifier) (lanes_of_bank memory bank) name item n e bank (leb-true bank 3 few)) banks of in
+    let first = bank_part (number memory (fields.Cmis cmis_fields.Identifier)) memory name item n e 0 (omega arith) in
+    let later = each_part (λ (bank : ℕ). bank_entries (number memory (fields.Cmis cmis_fields.Identifier)) name item n bank (lanes_of_bank memory bank)) (bank_keys name n) is_bank (λ bank few. bank_part (number memory (fields.Cmis cmis_fields.Identifier)) (lanes_of_bank memory bank) name item n e bank (leb-true bank 3 few)) banks of in
     subst (λ (ks : List (List ℕ)). Part ks (bank_keys name n 0 ++ flat_map (bank_keys name n) banks))
-    (sym (map-append entry_key (bank_entries (number memory CIdentifier) name item n 0 memory) (flat_map (λ (bank : ℕ). bank_entries (number memory CIdentifier) name item n bank (lanes_of_bank memory bank)) banks))) (part_append first later)
+    (sym (map-append entry_key (bank_entries (number memory (fields.Cmis cmis_fields.Identifier)) name item n 0 memory) (flat_map (λ (bank : ℕ). bank_entries (number memory (fields.Cmis cmis_fields.Identifier)) name item n bank (lanes_of_bank memory bank)) banks))) (part_append first later)
 
 row_part : (memory : Memory) (banks : List ℕ) (flat : Bool) (row : Row) → list_all is_bank banks ≡ true → are_few row.values ≡ true → Part (keys_of (row_entries memory banks flat row)) (row_keys (0 ∷ banks) row)
 unfolding row_entries

@@ -4,9 +4,12 @@ use Rattle.std.specs.Prelude.{ℕ, List, [], ◌∷◌, Option, Some, None, code
 use Rattle.paged_memory.specs.declared.family.Family.{Family}
 use Rattle.paged_memory.specs.declared.family.Family.TheVariants as families
 use Rattle.field_tables.specs.declared.field.Field.TheVariants as fields
+use Rattle.field_tables.specs.declared.table.cmis.CmisField.TheVariants as cmis
 use Rattle.field_tables.specs.declared.field.Sum.{Sum}
 use Rattle.field_tables.specs.declared.field.Sum.TheVariants as sums
+use Rattle.field_tables.specs.declared.field.CmisSum.TheVariants as cmis_sums
 use Rattle.field_tables.specs.declared.field.TextField.TheVariants as texts
+use Rattle.field_tables.specs.declared.field.CmisText.TheVariants as cmis_texts
 use Rattle.module_decoding.specs.SharedFields.{shared_fields}
 use Rattle.module_decoding.specs.declared.shared.SharedFields.{SharedFields}
 use Rattle.report_entries.specs.Rows.{Row, Word, Either, Code, Revision, Next, Text, Oui, Right, Amount, Length, always}
@@ -14,22 +17,22 @@ use Rattle.report_entries.specs.Rows.{Row, Word, Either, Code, Revision, Next, T
 abbrev cmis_rows : List Row
 cmis_rows =
     always (codes "family") (Word (codes "CMIS"))
-    ∷ always (codes "identifier") (Code fields.CIdentifier)
-    ∷ always (codes "revision") (Revision fields.CRevision)
-    ∷ always (codes "memory") (Either fields.CFlatMemory (codes "flat") (codes "paged"))
-    ∷ always (codes "media-type") (Code fields.CMediaType)
-    ∷ always (codes "vendor") (Text texts.CVendor)
-    ∷ always (codes "oui") (Oui fields.COui)
-    ∷ always (codes "part") (Text texts.CPart)
-    ∷ always (codes "part-revision") (Text texts.CPartRevision)
-    ∷ always (codes "serial") (Text texts.CSerial)
-    ∷ always (codes "date") (Text texts.CDate)
-    ∷ always (codes "power-class") (Next fields.CPowerClass)
-    ∷ always (codes "max-power") (Amount fields.CMaxPower)
-    ∷ always (codes "length") (Length fields.CLengthBase fields.CLengthMultiplier)
-    ∷ always (codes "connector") (Code fields.CConnector)
-    ∷ always (codes "technology") (Code fields.CTechnology)
-    ∷ always (codes "sum-00h") (Right sums.CSum00)
+    ∷ always (codes "identifier") (Code (fields.Cmis cmis.Identifier))
+    ∷ always (codes "revision") (Revision (fields.Cmis cmis.Revision))
+    ∷ always (codes "memory") (Either (fields.Cmis cmis.FlatMemory) (codes "flat") (codes "paged"))
+    ∷ always (codes "media-type") (Code (fields.Cmis cmis.MediaType))
+    ∷ always (codes "vendor") (Text (texts.Cmis cmis_texts.Vendor))
+    ∷ always (codes "oui") (Oui (fields.Cmis cmis.Oui))
+    ∷ always (codes "part") (Text (texts.Cmis cmis_texts.Part))
+    ∷ always (codes "part-revision") (Text (texts.Cmis cmis_texts.PartRevision))
+    ∷ always (codes "serial") (Text (texts.Cmis cmis_texts.Serial))
+    ∷ always (codes "date") (Text (texts.Cmis cmis_texts.Date))
+    ∷ always (codes "power-class") (Next (fields.Cmis cmis.PowerClass))
+    ∷ always (codes "max-power") (Amount (fields.Cmis cmis.MaxPower))
+    ∷ always (codes "length") (Length (fields.Cmis cmis.LengthBase) (fields.Cmis cmis.LengthMultiplier))
+    ∷ always (codes "connector") (Code (fields.Cmis cmis.Connector))
+    ∷ always (codes "technology") (Code (fields.Cmis cmis.Technology))
+    ∷ always (codes "sum-00h") (Right (sums.Cmis cmis_sums.Sum00))
     ∷ []
 
 -- the sum after the base fields, if there is one

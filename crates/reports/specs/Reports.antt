@@ -4,7 +4,8 @@ use Rattle.std.specs.Prelude.{ℕ, Bool, true, false, if◌then◌else◌, List,
 use Rattle.paged_memory.specs.declared.family.Family.{Family}
 use Rattle.paged_memory.specs.declared.family.Family.TheVariants as families
 use Rattle.paged_memory.specs.Images.{Memory}
-use Rattle.field_tables.specs.declared.field.Field.TheVariants.{QFlatMemory}
+use Rattle.field_tables.specs.declared.field.Field.TheVariants as fields
+use Rattle.field_tables.specs.declared.table.sff8636.Sff8636Field.TheVariants as sff8636
 use Rattle.field_tables.specs.Readings.{bit}
 use Rattle.module_decoding.specs.declared.report.Report.{Report}
 use Rattle.module_decoding.specs.declared.report.Report.TheVariants.{Inventory, Monitors, Flags}
@@ -44,7 +45,7 @@ flag_rows_of families.Sff8472 = flags.sfp_rows
 
 abbrev pub is_flat_in : Family → Memory → Bool
 is_flat_in families.Cmis memory = is_flat memory
-is_flat_in families.Sff8636 memory = bit memory QFlatMemory
+is_flat_in families.Sff8636 memory = bit memory (fields.Sff8636 sff8636.FlatMemory)
 is_flat_in family memory = false
 
 -- the further banks whose lanes are reported: all that a CMIS module has, or none

@@ -13,7 +13,7 @@ ghost use Rattle.reports.specs.Reports.{all_lanes_entries, all_lanes_flag_states
 use crate::family::family_with;
 use crate::fault::ReportFault;
 use crate::tables;
-use field_tables::{Field, bit};
+use field_tables::{bit, field};
 use module_decoding::{Report, is_flat};
 use paged_memory::{Family, Image};
 use report_entries::{
@@ -187,7 +187,7 @@ fn is_flat_in(family: Family, image: &Image) -> bool
 {
     match family {
         Family::Cmis => is_flat(image),
-        Family::Sff8636 => bit(image, Field::QFlatMemory),
+        Family::Sff8636 => bit(image, field!(Sff8636 FlatMemory)),
         _ => false,
     }
 }

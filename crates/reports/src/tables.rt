@@ -8,7 +8,7 @@ ghost use Rattle.report_entries.specs.Rows.{row_fits};
 ghost use Rattle.reports.specs.InventoryRows.{inventory_rows};
 ghost use Rattle.reports.specs.Reports.{flag_rows_of, rows_of};
 
-use field_tables::{Field, Sum, TextField};
+use field_tables::{field, sum_of, text_of};
 use module_decoding::Report;
 use paged_memory::Family;
 use report_entries::{
@@ -32,17 +32,17 @@ pub fn rows(report: Report, family: Family) -> &'static [Line]
 }
 
 macro_rules! source {
-    (Word $word:literal) => { Source::Word($word) };
-    (Either $field:ident $one:literal $other:literal) => { Source::Either(Field::$field, $one, $other) };
-    (Text $text:ident) => { Source::Text(TextField::$text) };
-    (Right $sum:ident) => { Source::Right(Sum::$sum) };
-    (Length $base:ident $power:ident) => { Source::Length(Field::$base, Field::$power) };
-    (Lanes $field:ident) => { Source::Lanes(Field::$field, None) };
-    (Lanes $field:ident $power:ident) => { Source::Lanes(Field::$field, Some(Field::$power)) };
-    (Limits $field:ident) => { Source::Limits(Field::$field, None) };
-    (Limits $field:ident $power:ident) => { Source::Limits(Field::$field, Some(Field::$power)) };
-    (LaneStates $paths:ident $statuses:ident) => { Source::LaneStates(Field::$paths, Field::$statuses) };
-    ($kind:ident $field:ident) => { Source::$kind(Field::$field) };
+    ($of:ident Word $word:literal) => { Source::Word($word) };
+    ($of:ident Either $field:ident $one:literal $other:literal) => { Source::Either(field!($of $field), $one, $other) };
+    ($of:ident Text $text:ident) => { Source::Text(text_of!($of $text)) };
+    ($of:ident Right $sum:ident) => { Source::Right(sum_of!($of $sum)) };
+    ($of:ident Length $base:ident $power:ident) => { Source::Length(field!($of $base), field!($of $power)) };
+    ($of:ident Lanes $field:ident) => { Source::Lanes(field!($of $field), None) };
+    ($of:ident Lanes $field:ident $power:ident) => { Source::Lanes(field!($of $field), Some(field!($of $power))) };
+    ($of:ident Limits $field:ident) => { Source::Limits(field!($of $field), None) };
+    ($of:ident Limits $field:ident $power:ident) => { Source::Limits(field!($of $field), Some(field!($of $power))) };
+    ($of:ident LaneStates $paths:ident $statuses:ident) => { Source::LaneStates(field!($of $paths), field!($of $statuses)) };
+    ($of:ident $kind:ident $field:ident) => { Source::$kind(field!($of $field)) };
 }
 
 macro_rules! is_paged {
@@ -51,64 +51,65 @@ macro_rules! is_paged {
 }
 
 macro_rules! instead_of {
-    ($field:ident $number:literal) => { Instead::Nothing(Field::$field, $number) };
-    ($field:ident $number:literal $word:literal) => { Instead::Word(Field::$field, $number, $word) };
+    ($of:ident $field:ident $number:literal) => { Instead::Nothing(field!($of $field), $number) };
+    ($of:ident $field:ident $number:literal $word:literal) => { Instead::Word(field!($of $field), $number, $word) };
 }
 
 macro_rules! line_table {
-    ($($name:literal: [$($source:tt)*] $($paged:ident)? $([$($instead:tt)*])*;)*) => {
+    ($of:ident; $($name:literal: [$($source:tt)*] $($paged:ident)? $([$($instead:tt)*])*;)*) => {
         &[$(Row {
             name: $name,
-            source: source!($($source)*),
+            source: source!($of $($source)*),
             paged: is_paged!($($paged)?),
-            instead: &[$(instead_of!($($instead)*)),*],
+            instead: &[$(instead_of!($of $($instead)*)),*],
         }),*]
     };
 }
 
 // What modules of SFF say of themselves, by the fields of each standard.
 macro_rules! sff_inventories {
-    ($($standard:literal: $identifier:ident $connector:ident $oui:ident, $base:ident $ext:ident,
-        $vendor:ident $part:ident $revision:ident $serial:ident $date:ident;)*) => {
+    ($($of:ident $standard:literal;)*) => {
         &[$(line_table! {
+            $of;
             "family": [Word $standard];
-            "identifier": [Code $identifier];
-            "vendor": [Text $vendor];
-            "oui": [Oui $oui];
-            "part": [Text $part];
-            "part-revision": [Text $revision];
-            "serial": [Text $serial];
-            "date": [Text $date];
-            "connector": [Code $connector];
-            "sum-base": [Right $base];
-            "sum-ext": [Right $ext];
+            "identifier": [Code Identifier];
+            "vendor": [Text Vendor];
+            "oui": [Oui Oui];
+            "part": [Text Part];
+            "part-revision": [Text PartRevision];
+            "serial": [Text Serial];
+            "date": [Text Date];
+            "connector": [Code Connector];
+            "sum-base": [Right SumBase];
+            "sum-ext": [Right SumExt];
         }),*]
     };
 }
 
 const CMIS_INVENTORY: &[Line] = line_table! {
+    Cmis;
     "family": [Word "CMIS"];
-    "identifier": [Code CIdentifier];
-    "revision": [Revision CRevision];
-    "memory": [Either CFlatMemory "flat" "paged"];
-    "media-type": [Code CMediaType];
-    "vendor": [Text CVendor];
-    "oui": [Oui COui];
-    "part": [Text CPart];
-    "part-revision": [Text CPartRevision];
-    "serial": [Text CSerial];
-    "date": [Text CDate];
-    "power-class": [Next CPowerClass];
-    "max-power": [Amount CMaxPower];
-    "length": [Length CLengthBase CLengthMultiplier];
-    "connector": [Code CConnector];
-    "technology": [Code CTechnology];
-    "sum-00h": [Right CSum00];
+    "identifier": [Code Identifier];
+    "revision": [Revision Revision];
+    "memory": [Either FlatMemory "flat" "paged"];
+    "media-type": [Code MediaType];
+    "vendor": [Text Vendor];
+    "oui": [Oui Oui];
+    "part": [Text Part];
+    "part-revision": [Text PartRevision];
+    "serial": [Text Serial];
+    "date": [Text Date];
+    "power-class": [Next PowerClass];
+    "max-power": [Amount MaxPower];
+    "length": [Length LengthBase LengthMultiplier];
+    "connector": [Code Connector];
+    "technology": [Code Technology];
+    "sum-00h": [Right Sum00];
 };
 
 const SFF_INVENTORIES: &[&[Line]] = sff_inventories! {
-    "SFF-8636": QIdentifier QConnector QOui, QSumBase QSumExt, QVendor QPart QPartRevision QSerial QDate;
-    "SFF-8472": SIdentifier SConnector SOui, SSumBase SSumExt, SVendor SPart SPartRevision SSerial SDate;
+    Sff8636 "SFF-8636";
+    Sff8472 "SFF-8472";
 };
 
 /// What a module of this family is.
@@ -126,52 +127,56 @@ pub fn inventory_lines(family: Family) -> &'static [Line]
 
 // What a CMIS module measures.
 const CMIS_MONITORS: &[Line] = line_table! {
-    "temperature": [Amount CTemperature];
-    "temperature-limits": [Limits CTempLimits] paged;
-    "vcc": [Amount CVcc];
-    "vcc-limits": [Limits CVccLimits] paged;
-    "tx-power": [Lanes CTxPower] paged [CTxPowerMonitor 0 "unsupported"];
-    "tx-power-limits": [Limits CTxPowerLimits] paged [CTxPowerMonitor 0];
-    "tx-bias": [Lanes CTxBias CBiasMultiplier] paged [CTxBiasMonitor 0 "unsupported"] [CBiasMultiplier 3 "reserved"];
-    "tx-bias-limits": [Limits CTxBiasLimits CBiasMultiplier] paged [CTxBiasMonitor 0] [CBiasMultiplier 3];
-    "rx-power": [Lanes CRxPower] paged [CRxPowerMonitor 0 "unsupported"];
-    "rx-power-limits": [Limits CRxPowerLimits] paged [CRxPowerMonitor 0];
-    "sum-02h": [Right CSum02] paged;
+    Cmis;
+    "temperature": [Amount Temperature];
+    "temperature-limits": [Limits TempLimits] paged;
+    "vcc": [Amount Vcc];
+    "vcc-limits": [Limits VccLimits] paged;
+    "tx-power": [Lanes TxPower] paged [TxPowerMonitor 0 "unsupported"];
+    "tx-power-limits": [Limits TxPowerLimits] paged [TxPowerMonitor 0];
+    "tx-bias": [Lanes TxBias BiasMultiplier] paged [TxBiasMonitor 0 "unsupported"] [BiasMultiplier 3 "reserved"];
+    "tx-bias-limits": [Limits TxBiasLimits BiasMultiplier] paged [TxBiasMonitor 0] [BiasMultiplier 3];
+    "rx-power": [Lanes RxPower] paged [RxPowerMonitor 0 "unsupported"];
+    "rx-power-limits": [Limits RxPowerLimits] paged [RxPowerMonitor 0];
+    "sum-02h": [Right Sum02] paged;
 };
 
 // What a module of SFF-8636 measures.
 const QSFP_MONITORS: &[Line] = line_table! {
-    "temperature": [Amount QTemperature];
-    "temperature-limits": [Limits QTempLimits] paged;
-    "vcc": [Amount QVcc];
-    "vcc-limits": [Limits QVccLimits] paged;
-    "tx-power": [Lanes QTxPower];
-    "tx-power-limits": [Limits QTxPowerLimits] paged;
-    "tx-bias": [Lanes QTxBias];
-    "tx-bias-limits": [Limits QTxBiasLimits] paged;
-    "rx-power": [Lanes QRxPower];
-    "rx-power-limits": [Limits QRxPowerLimits] paged;
+    Sff8636;
+    "temperature": [Amount Temperature];
+    "temperature-limits": [Limits TempLimits] paged;
+    "vcc": [Amount Vcc];
+    "vcc-limits": [Limits VccLimits] paged;
+    "tx-power": [Lanes TxPower];
+    "tx-power-limits": [Limits TxPowerLimits] paged;
+    "tx-bias": [Lanes TxBias];
+    "tx-bias-limits": [Limits TxBiasLimits] paged;
+    "rx-power": [Lanes RxPower];
+    "rx-power-limits": [Limits RxPowerLimits] paged;
 };
 
 // What a module of SFF-8472 measures.
 const SFP_MONITORS: &[Line] = line_table! {
-    "temperature": [Amount STemperature];
-    "temperature-limits": [Limits STempLimits];
-    "vcc": [Amount SVcc];
-    "vcc-limits": [Limits SVccLimits];
-    "tx-power": [Lanes STxPower];
-    "tx-power-limits": [Limits STxPowerLimits];
-    "tx-bias": [Lanes STxBias];
-    "tx-bias-limits": [Limits STxBiasLimits];
-    "rx-power": [Lanes SRxPower];
-    "rx-power-limits": [Limits SRxPowerLimits];
-    "sum-a2": [Right SSumDmi];
+    Sff8472;
+    "temperature": [Amount Temperature];
+    "temperature-limits": [Limits TempLimits];
+    "vcc": [Amount Vcc];
+    "vcc-limits": [Limits VccLimits];
+    "tx-power": [Lanes TxPower];
+    "tx-power-limits": [Limits TxPowerLimits];
+    "tx-bias": [Lanes TxBias];
+    "tx-bias-limits": [Limits TxBiasLimits];
+    "rx-power": [Lanes RxPower];
+    "rx-power-limits": [Limits RxPowerLimits];
+    "sum-a2": [Right SumDmi];
 };
 
 // The states of a CMIS module and of its lanes.
 const CMIS_STATES: &[Line] = line_table! {
-    "state": [State CModuleState];
-    "lane": [LaneStates CPathStates CConfigStatus] paged;
+    Cmis;
+    "state": [State ModuleState];
+    "lane": [LaneStates PathStates ConfigStatus] paged;
 };
 
 macro_rules! flag_name {
@@ -186,10 +191,10 @@ macro_rules! flag_place {
 }
 
 macro_rules! flag_table {
-    ($($first:ident $($limit:ident)?: [$field:ident $($place:tt)*] $($paged:ident)?;)*) => {
+    ($of:ident; $($first:ident $($limit:ident)?: [$field:ident $($place:tt)*] $($paged:ident)?;)*) => {
         &[$(FlagRow {
             name: flag_name!($first $($limit)?),
-            field: Field::$field,
+            field: field!($of $field),
             place: flag_place!($($place)*),
             paged: is_paged!($($paged)?),
         }),*]
@@ -204,84 +209,87 @@ pub fn flag_rows(family: Family) -> &'static [FlagRow]
 {
     match family {
         Family::Cmis => flag_table! {
-            Temperature HighAlarm: [CModuleFlag 1];
-            Temperature LowAlarm: [CModuleFlag 2];
-            Temperature HighWarning: [CModuleFlag 3];
-            Temperature LowWarning: [CModuleFlag 4];
-            Vcc HighAlarm: [CModuleFlag 5];
-            Vcc LowAlarm: [CModuleFlag 6];
-            Vcc HighWarning: [CModuleFlag 7];
-            Vcc LowWarning: [CModuleFlag 8];
-            PathStateChanged: [CPathStateChanged lanes] paged;
-            TxFailure: [CTxFailure lanes] paged;
-            TxLos: [CTxLos lanes] paged;
-            TxLol: [CTxLol lanes] paged;
-            TxEqFail: [CTxEqFail lanes] paged;
-            TxPower HighAlarm: [CTxPowerHighAlarm lanes] paged;
-            TxPower LowAlarm: [CTxPowerLowAlarm lanes] paged;
-            TxPower HighWarning: [CTxPowerHighWarning lanes] paged;
-            TxPower LowWarning: [CTxPowerLowWarning lanes] paged;
-            TxBias HighAlarm: [CTxBiasHighAlarm lanes] paged;
-            TxBias LowAlarm: [CTxBiasLowAlarm lanes] paged;
-            TxBias HighWarning: [CTxBiasHighWarning lanes] paged;
-            TxBias LowWarning: [CTxBiasLowWarning lanes] paged;
-            RxLos: [CRxLos lanes] paged;
-            RxLol: [CRxLol lanes] paged;
-            RxPower HighAlarm: [CRxPowerHighAlarm lanes] paged;
-            RxPower LowAlarm: [CRxPowerLowAlarm lanes] paged;
-            RxPower HighWarning: [CRxPowerHighWarning lanes] paged;
-            RxPower LowWarning: [CRxPowerLowWarning lanes] paged;
+            Cmis;
+            Temperature HighAlarm: [ModuleFlag 1];
+            Temperature LowAlarm: [ModuleFlag 2];
+            Temperature HighWarning: [ModuleFlag 3];
+            Temperature LowWarning: [ModuleFlag 4];
+            Vcc HighAlarm: [ModuleFlag 5];
+            Vcc LowAlarm: [ModuleFlag 6];
+            Vcc HighWarning: [ModuleFlag 7];
+            Vcc LowWarning: [ModuleFlag 8];
+            PathStateChanged: [PathStateChanged lanes] paged;
+            TxFailure: [TxFailure lanes] paged;
+            TxLos: [TxLos lanes] paged;
+            TxLol: [TxLol lanes] paged;
+            TxEqFail: [TxEqFail lanes] paged;
+            TxPower HighAlarm: [TxPowerHighAlarm lanes] paged;
+            TxPower LowAlarm: [TxPowerLowAlarm lanes] paged;
+            TxPower HighWarning: [TxPowerHighWarning lanes] paged;
+            TxPower LowWarning: [TxPowerLowWarning lanes] paged;
+            TxBias HighAlarm: [TxBiasHighAlarm lanes] paged;
+            TxBias LowAlarm: [TxBiasLowAlarm lanes] paged;
+            TxBias HighWarning: [TxBiasHighWarning lanes] paged;
+            TxBias LowWarning: [TxBiasLowWarning lanes] paged;
+            RxLos: [RxLos lanes] paged;
+            RxLol: [RxLol lanes] paged;
+            RxPower HighAlarm: [RxPowerHighAlarm lanes] paged;
+            RxPower LowAlarm: [RxPowerLowAlarm lanes] paged;
+            RxPower HighWarning: [RxPowerHighWarning lanes] paged;
+            RxPower LowWarning: [RxPowerLowWarning lanes] paged;
         },
         Family::Sff8636 => flag_table! {
-            Temperature HighAlarm: [QTempFlag 1];
-            Temperature LowAlarm: [QTempFlag 2];
-            Temperature HighWarning: [QTempFlag 3];
-            Temperature LowWarning: [QTempFlag 4];
-            Vcc HighAlarm: [QVccFlag 1];
-            Vcc LowAlarm: [QVccFlag 2];
-            Vcc HighWarning: [QVccFlag 3];
-            Vcc LowWarning: [QVccFlag 4];
-            TxLos: [QTxLos lanes];
-            RxLos: [QRxLos lanes];
-            TxFault: [QTxFault lanes];
-            TxLol: [QTxLol lanes];
-            RxLol: [QRxLol lanes];
-            RxPower HighAlarm: [QRxPowerHighAlarm lanes];
-            RxPower LowAlarm: [QRxPowerLowAlarm lanes];
-            RxPower HighWarning: [QRxPowerHighWarning lanes];
-            RxPower LowWarning: [QRxPowerLowWarning lanes];
-            TxBias HighAlarm: [QTxBiasHighAlarm lanes];
-            TxBias LowAlarm: [QTxBiasLowAlarm lanes];
-            TxBias HighWarning: [QTxBiasHighWarning lanes];
-            TxBias LowWarning: [QTxBiasLowWarning lanes];
-            TxPower HighAlarm: [QTxPowerHighAlarm lanes];
-            TxPower LowAlarm: [QTxPowerLowAlarm lanes];
-            TxPower HighWarning: [QTxPowerHighWarning lanes];
-            TxPower LowWarning: [QTxPowerLowWarning lanes];
+            Sff8636;
+            Temperature HighAlarm: [TempFlag 1];
+            Temperature LowAlarm: [TempFlag 2];
+            Temperature HighWarning: [TempFlag 3];
+            Temperature LowWarning: [TempFlag 4];
+            Vcc HighAlarm: [VccFlag 1];
+            Vcc LowAlarm: [VccFlag 2];
+            Vcc HighWarning: [VccFlag 3];
+            Vcc LowWarning: [VccFlag 4];
+            TxLos: [TxLos lanes];
+            RxLos: [RxLos lanes];
+            TxFault: [TxFault lanes];
+            TxLol: [TxLol lanes];
+            RxLol: [RxLol lanes];
+            RxPower HighAlarm: [RxPowerHighAlarm lanes];
+            RxPower LowAlarm: [RxPowerLowAlarm lanes];
+            RxPower HighWarning: [RxPowerHighWarning lanes];
+            RxPower LowWarning: [RxPowerLowWarning lanes];
+            TxBias HighAlarm: [TxBiasHighAlarm lanes];
+            TxBias LowAlarm: [TxBiasLowAlarm lanes];
+            TxBias HighWarning: [TxBiasHighWarning lanes];
+            TxBias LowWarning: [TxBiasLowWarning lanes];
+            TxPower HighAlarm: [TxPowerHighAlarm lanes];
+            TxPower LowAlarm: [TxPowerLowAlarm lanes];
+            TxPower HighWarning: [TxPowerHighWarning lanes];
+            TxPower LowWarning: [TxPowerLowWarning lanes];
         },
         Family::Sff8472 => flag_table! {
-            Temperature HighAlarm: [SAlarms 1];
-            Temperature LowAlarm: [SAlarms 2];
-            Temperature HighWarning: [SWarnings 1];
-            Temperature LowWarning: [SWarnings 2];
-            Vcc HighAlarm: [SAlarms 3];
-            Vcc LowAlarm: [SAlarms 4];
-            Vcc HighWarning: [SWarnings 3];
-            Vcc LowWarning: [SWarnings 4];
-            TxBias HighAlarm: [SAlarms 5 lane 1];
-            TxBias LowAlarm: [SAlarms 6 lane 1];
-            TxBias HighWarning: [SWarnings 5 lane 1];
-            TxBias LowWarning: [SWarnings 6 lane 1];
-            TxPower HighAlarm: [SAlarms 7 lane 1];
-            TxPower LowAlarm: [SAlarms 8 lane 1];
-            TxPower HighWarning: [SWarnings 7 lane 1];
-            TxPower LowWarning: [SWarnings 8 lane 1];
-            RxPower HighAlarm: [SRxAlarms 1 lane 1];
-            RxPower LowAlarm: [SRxAlarms 2 lane 1];
-            RxPower HighWarning: [SRxWarnings 1 lane 1];
-            RxPower LowWarning: [SRxWarnings 2 lane 1];
-            TxFault: [STxFault 1 lane 1];
-            RxLos: [SRxLos 1 lane 1];
+            Sff8472;
+            Temperature HighAlarm: [Alarms 1];
+            Temperature LowAlarm: [Alarms 2];
+            Temperature HighWarning: [Warnings 1];
+            Temperature LowWarning: [Warnings 2];
+            Vcc HighAlarm: [Alarms 3];
+            Vcc LowAlarm: [Alarms 4];
+            Vcc HighWarning: [Warnings 3];
+            Vcc LowWarning: [Warnings 4];
+            TxBias HighAlarm: [Alarms 5 lane 1];
+            TxBias LowAlarm: [Alarms 6 lane 1];
+            TxBias HighWarning: [Warnings 5 lane 1];
+            TxBias LowWarning: [Warnings 6 lane 1];
+            TxPower HighAlarm: [Alarms 7 lane 1];
+            TxPower LowAlarm: [Alarms 8 lane 1];
+            TxPower HighWarning: [Warnings 7 lane 1];
+            TxPower LowWarning: [Warnings 8 lane 1];
+            RxPower HighAlarm: [RxAlarms 1 lane 1];
+            RxPower LowAlarm: [RxAlarms 2 lane 1];
+            RxPower HighWarning: [RxWarnings 1 lane 1];
+            RxPower LowWarning: [RxWarnings 2 lane 1];
+            TxFault: [TxFault 1 lane 1];
+            RxLos: [RxLos 1 lane 1];
         },
     }
 }

@@ -6,7 +6,8 @@ use Rattle.bus_model.specs.declared.operation.Op.{Op}
 use Rattle.bus_model.specs.declared.operation.Op.TheVariants.{Fetch, Store}
 use Rattle.bus_model.specs.declared.operation.Reply.{Reply}
 use Rattle.bus_model.specs.declared.operation.Reply.TheVariants.{Bytes, Done, Refused}
-use Rattle.field_tables.specs.declared.field.Field.TheVariants.{CModuleState}
+use Rattle.field_tables.specs.declared.field.Field.TheVariants as fields
+use Rattle.field_tables.specs.declared.table.cmis.CmisField.TheVariants as cmis
 use Rattle.field_tables.specs.FieldValues.{number_in_byte}
 use Rattle.field_tables.specs.LaneSets.{Lanes, every_lane}
 use Rattle.datapath_states.specs.declared.state.PathState.{PathState}
@@ -70,7 +71,7 @@ statuses_found lanes codes =
 
 read_found : (task : Task) (bytes : List ℕ) → found_in (judged task bytes) ≡ true
 unfolding judged
-read_found FindReady bytes = module_found (number_in_byte CModuleState (slice_index bytes 0)) (module_state_at (number_in_byte CModuleState (slice_index bytes 0)))
+read_found FindReady bytes = module_found (number_in_byte (fields.Cmis cmis.ModuleState) (slice_index bytes 0)) (module_state_at (number_in_byte (fields.Cmis cmis.ModuleState) (slice_index bytes 0)))
 read_found (AwaitDeactivated lanes) bytes = states_found lanes lanes Deactivated (codes_in bytes 8)
 read_found (CheckStaged control) bytes = staged_found (differing_lane bytes control)
 read_found (AwaitApplied lanes) bytes = statuses_found lanes (codes_in bytes 8)

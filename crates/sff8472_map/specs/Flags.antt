@@ -3,7 +3,8 @@
 use Rattle.std.specs.Prelude.{ℕ, ◌+◌, Bool}
 use Rattle.paged_memory.specs.Images.{Memory}
 use Rattle.field_tables.specs.declared.field.Field.{Field}
-use Rattle.field_tables.specs.declared.field.Field.TheVariants.{SAlarms, SRxAlarms, SWarnings, SRxWarnings, STxFault, SRxLos}
+use Rattle.field_tables.specs.declared.field.Field.TheVariants as fields
+use Rattle.field_tables.specs.declared.table.sff8472.Sff8472Field.TheVariants as sff8472
 use Rattle.field_tables.specs.declared.readings.PerLimit.{PerLimit}
 use Rattle.field_tables.specs.Readings.{bit, bit_at}
 use Rattle.sff8472_map.specs.declared.flags.Flags.{Flags}
@@ -19,11 +20,11 @@ limit_flags memory alarms warnings high = record {
 
 abbrev pub flags_of : Memory → Flags
 flags_of memory = record {
-  temperature = limit_flags memory SAlarms SWarnings 1;
-  vcc = limit_flags memory SAlarms SWarnings 3;
-  tx_bias = limit_flags memory SAlarms SWarnings 5;
-  tx_power = limit_flags memory SAlarms SWarnings 7;
-  rx_power = limit_flags memory SRxAlarms SRxWarnings 1;
-  tx_fault = bit memory STxFault;
-  rx_los = bit memory SRxLos;
+  temperature = limit_flags memory (fields.Sff8472 sff8472.Alarms) (fields.Sff8472 sff8472.Warnings) 1;
+  vcc = limit_flags memory (fields.Sff8472 sff8472.Alarms) (fields.Sff8472 sff8472.Warnings) 3;
+  tx_bias = limit_flags memory (fields.Sff8472 sff8472.Alarms) (fields.Sff8472 sff8472.Warnings) 5;
+  tx_power = limit_flags memory (fields.Sff8472 sff8472.Alarms) (fields.Sff8472 sff8472.Warnings) 7;
+  rx_power = limit_flags memory (fields.Sff8472 sff8472.RxAlarms) (fields.Sff8472 sff8472.RxWarnings) 1;
+  tx_fault = bit memory (fields.Sff8472 sff8472.TxFault);
+  rx_los = bit memory (fields.Sff8472 sff8472.RxLos);
 }

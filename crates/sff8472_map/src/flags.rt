@@ -4,7 +4,7 @@ ghost use Rattle.field_tables.specs.Readings.{is_of_bytes};
 ghost use Rattle.sff8472_map.specs.Flags.{flags_of, limit_flags};
 
 use crate::refusal::flags_refusal;
-use field_tables::{Field, PerLimit, SffFault, bit, bit_at};
+use field_tables::{Field, PerLimit, SffFault, bit, bit_at, field};
 use paged_memory::Image;
 
 /// What a module warns of (SFF-8472, "Alarm and Warning Flag Bits" and "Real Time Diagnostic and Control Registers").
@@ -32,13 +32,18 @@ impl Flags {
             return Err(fault);
         }
         Ok(Flags {
-            temperature: limit_flags(image, Field::SAlarms, Field::SWarnings, 1),
-            vcc: limit_flags(image, Field::SAlarms, Field::SWarnings, 3),
-            tx_bias: limit_flags(image, Field::SAlarms, Field::SWarnings, 5),
-            tx_power: limit_flags(image, Field::SAlarms, Field::SWarnings, 7),
-            rx_power: limit_flags(image, Field::SRxAlarms, Field::SRxWarnings, 1),
-            tx_fault: bit(image, Field::STxFault),
-            rx_los: bit(image, Field::SRxLos),
+            temperature: limit_flags(image, field!(Sff8472 Alarms), field!(Sff8472 Warnings), 1),
+            vcc: limit_flags(image, field!(Sff8472 Alarms), field!(Sff8472 Warnings), 3),
+            tx_bias: limit_flags(image, field!(Sff8472 Alarms), field!(Sff8472 Warnings), 5),
+            tx_power: limit_flags(image, field!(Sff8472 Alarms), field!(Sff8472 Warnings), 7),
+            rx_power: limit_flags(
+                image,
+                field!(Sff8472 RxAlarms),
+                field!(Sff8472 RxWarnings),
+                1,
+            ),
+            tx_fault: bit(image, field!(Sff8472 TxFault)),
+            rx_los: bit(image, field!(Sff8472 RxLos)),
         })
     }
 }

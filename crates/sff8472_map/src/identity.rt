@@ -1,6 +1,6 @@
 use crate::refusal::module_refusal;
 use arrayvec::ArrayVec;
-use field_tables::{Field, SffFault, Sum, TextField, all_numbers, is_sum_right, number, text};
+use field_tables::{SffFault, all_numbers, field, is_sum_right, number, sum_of, text, text_of};
 use paged_memory::Image;
 
 /// What a module is, and who made it (SFF-8472, "Serial ID: Data Fields"). Texts stand with their padding.
@@ -36,16 +36,16 @@ impl Identity {
             return Err(fault);
         }
         Ok(Identity {
-            identifier: number(image, Field::SIdentifier),
-            vendor: text(image, TextField::SVendor),
-            oui: all_numbers(image, Field::SOui),
-            part: text(image, TextField::SPart),
-            part_revision: text(image, TextField::SPartRevision),
-            serial: text(image, TextField::SSerial),
-            date: text(image, TextField::SDate),
-            connector: number(image, Field::SConnector),
-            sum_base: is_sum_right(image, Sum::SSumBase),
-            sum_ext: is_sum_right(image, Sum::SSumExt),
+            identifier: number(image, field!(Sff8472 Identifier)),
+            vendor: text(image, text_of!(Sff8472 Vendor)),
+            oui: all_numbers(image, field!(Sff8472 Oui)),
+            part: text(image, text_of!(Sff8472 Part)),
+            part_revision: text(image, text_of!(Sff8472 PartRevision)),
+            serial: text(image, text_of!(Sff8472 Serial)),
+            date: text(image, text_of!(Sff8472 Date)),
+            connector: number(image, field!(Sff8472 Connector)),
+            sum_base: is_sum_right(image, sum_of!(Sff8472 SumBase)),
+            sum_ext: is_sum_right(image, sum_of!(Sff8472 SumExt)),
         })
     }
 }

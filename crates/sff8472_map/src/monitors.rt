@@ -1,5 +1,5 @@
 use crate::refusal::measured_refusal;
-use field_tables::{Field, SffFault, Sum, all_readings, is_sum_right, reading};
+use field_tables::{SffFault, all_readings, field, is_sum_right, reading, sum_of};
 use paged_memory::Image;
 
 /// What a module of `N` lanes measures, in steps of each field's unit (SFF-8472, "Real Time Diagnostic and
@@ -30,12 +30,12 @@ impl<const N: usize> Monitors<N> {
             return Err(fault);
         }
         Ok(Monitors {
-            temperature: reading(image, Field::STemperature),
-            vcc: reading(image, Field::SVcc),
-            tx_bias: all_readings(image, Field::STxBias),
-            tx_power: all_readings(image, Field::STxPower),
-            rx_power: all_readings(image, Field::SRxPower),
-            sum_dmi: is_sum_right(image, Sum::SSumDmi),
+            temperature: reading(image, field!(Sff8472 Temperature)),
+            vcc: reading(image, field!(Sff8472 Vcc)),
+            tx_bias: all_readings(image, field!(Sff8472 TxBias)),
+            tx_power: all_readings(image, field!(Sff8472 TxPower)),
+            rx_power: all_readings(image, field!(Sff8472 RxPower)),
+            sum_dmi: is_sum_right(image, sum_of!(Sff8472 SumDmi)),
         })
     }
 }

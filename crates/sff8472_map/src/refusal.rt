@@ -2,7 +2,7 @@ ghost use Rattle.std.specs.Prelude.{◌≡◌};
 ghost use Rattle.sff8472_map.specs.Refusals.{diagnostics_fault, flags_fault, measured_fault, module_fault};
 
 use bus_model::Dev;
-use field_tables::{Field, SffFault, bit, number};
+use field_tables::{SffFault, bit, field, number};
 use paged_memory::{Family, Image, Key};
 
 /// Why the module of an image is none of this standard.
@@ -14,7 +14,7 @@ pub fn module_refusal(image: &Image) -> Option<SffFault>
     if !image.has(lower) {
         return Some(SffFault::Absent(lower));
     }
-    let identifier = number(image, Field::SIdentifier);
+    let identifier = number(image, field!(Sff8472 Identifier));
     if !Family::Sff8472.has(identifier) {
         return Some(SffFault::WrongIdentifier(identifier));
     }
@@ -29,10 +29,10 @@ fn diagnostics_refusal(image: &Image) -> Option<SffFault>
     if let Some(fault) = module_refusal(image) {
         return Some(fault);
     }
-    if !bit(image, Field::SDiagPresent) {
+    if !bit(image, field!(Sff8472 DiagPresent)) {
         return Some(SffFault::NoDiagnostics);
     }
-    if bit(image, Field::SAddressChange) {
+    if bit(image, field!(Sff8472 AddressChange)) {
         return Some(SffFault::AddressChange);
     }
     None
@@ -61,7 +61,7 @@ pub fn measured_refusal(image: &Image) -> Option<SffFault>
     if let Some(fault) = diagnostics_refusal(image) {
         return Some(fault);
     }
-    if bit(image, Field::SExternal) {
+    if bit(image, field!(Sff8472 External)) {
         return Some(SffFault::ExternalCalibration);
     }
     let diagnostics = Key::lower(Dev::A2);

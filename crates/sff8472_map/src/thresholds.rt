@@ -1,5 +1,5 @@
 use crate::refusal::measured_refusal;
-use field_tables::{Field, PerLimit, SffFault, limits_of};
+use field_tables::{PerLimit, SffFault, field, limits_of};
 use paged_memory::Image;
 
 /// The limits of what a module measures, in steps of each field's unit (SFF-8472, "Alarm and Warning Thresholds").
@@ -26,11 +26,11 @@ impl Thresholds {
             return Err(fault);
         }
         Ok(Thresholds {
-            temperature: limits_of(image, Field::STempLimits),
-            vcc: limits_of(image, Field::SVccLimits),
-            tx_bias: limits_of(image, Field::STxBiasLimits),
-            tx_power: limits_of(image, Field::STxPowerLimits),
-            rx_power: limits_of(image, Field::SRxPowerLimits),
+            temperature: limits_of(image, field!(Sff8472 TempLimits)),
+            vcc: limits_of(image, field!(Sff8472 VccLimits)),
+            tx_bias: limits_of(image, field!(Sff8472 TxBiasLimits)),
+            tx_power: limits_of(image, field!(Sff8472 TxPowerLimits)),
+            rx_power: limits_of(image, field!(Sff8472 RxPowerLimits)),
         })
     }
 }

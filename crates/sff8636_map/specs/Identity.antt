@@ -1,21 +1,24 @@
 -- What a module is, and who made it. (docs/fields.md, "What is read of SFF modules"; SFF-8636, "Upper Page 00h")
 use Rattle.paged_memory.specs.Images.{Memory}
-use Rattle.field_tables.specs.declared.field.Field.TheVariants.{QConnector, QIdentifier, QOui}
-use Rattle.field_tables.specs.declared.field.TextField.TheVariants.{QVendor, QPart, QPartRevision, QSerial, QDate}
-use Rattle.field_tables.specs.declared.field.Sum.TheVariants.{QSumBase, QSumExt}
+use Rattle.field_tables.specs.declared.field.Field.TheVariants as fields
+use Rattle.field_tables.specs.declared.table.sff8636.Sff8636Field.TheVariants as sff8636
+use Rattle.field_tables.specs.declared.field.TextField.TheVariants as texts
+use Rattle.field_tables.specs.declared.field.SffText.TheVariants as sff_texts
+use Rattle.field_tables.specs.declared.field.Sum.TheVariants as sums
+use Rattle.field_tables.specs.declared.field.Sff8636Sum.TheVariants as sff8636_sums
 use Rattle.field_tables.specs.Readings.{all_numbers, is_sum_right, number, text}
 use Rattle.sff8636_map.specs.declared.identity.Identity.{Identity}
 
 abbrev pub identity_of : Memory → Identity
 identity_of memory = record {
-  identifier = number memory QIdentifier;
-  vendor = record { items = text memory QVendor };
-  oui = all_numbers memory QOui;
-  part = record { items = text memory QPart };
-  part_revision = record { items = text memory QPartRevision };
-  serial = record { items = text memory QSerial };
-  date = record { items = text memory QDate };
-  connector = number memory QConnector;
-  sum_base = is_sum_right memory QSumBase;
-  sum_ext = is_sum_right memory QSumExt;
+  identifier = number memory (fields.Sff8636 sff8636.Identifier);
+  vendor = record { items = text memory (texts.Sff8636 sff_texts.Vendor) };
+  oui = all_numbers memory (fields.Sff8636 sff8636.Oui);
+  part = record { items = text memory (texts.Sff8636 sff_texts.Part) };
+  part_revision = record { items = text memory (texts.Sff8636 sff_texts.PartRevision) };
+  serial = record { items = text memory (texts.Sff8636 sff_texts.Serial) };
+  date = record { items = text memory (texts.Sff8636 sff_texts.Date) };
+  connector = number memory (fields.Sff8636 sff8636.Connector);
+  sum_base = is_sum_right memory (sums.Sff8636 sff8636_sums.SumBase);
+  sum_ext = is_sum_right memory (sums.Sff8636 sff8636_sums.SumExt);
 }

@@ -2,17 +2,18 @@
 -- "Channel Monitors")
 use Rattle.std.specs.Prelude.{ℕ, All}
 use Rattle.paged_memory.specs.Images.{Memory}
-use Rattle.field_tables.specs.declared.field.Field.TheVariants.{QTemperature, QVcc, QRxPower, QTxBias, QTxPower}
+use Rattle.field_tables.specs.declared.field.Field.TheVariants as fields
+use Rattle.field_tables.specs.declared.table.sff8636.Sff8636Field.TheVariants as sff8636
 use Rattle.field_tables.specs.Readings.{all_readings, reading, IsWord}
 use Rattle.sff8636_map.specs.declared.monitors.Monitors.{Monitors}
 
 abbrev pub monitors_of : {N : ℕ} → Memory → Monitors N
 monitors_of memory = record {
-  temperature = reading memory QTemperature;
-  vcc = reading memory QVcc;
-  rx_power = all_readings memory QRxPower;
-  tx_bias = all_readings memory QTxBias;
-  tx_power = all_readings memory QTxPower;
+  temperature = reading memory (fields.Sff8636 sff8636.Temperature);
+  vcc = reading memory (fields.Sff8636 sff8636.Vcc);
+  rx_power = all_readings memory (fields.Sff8636 sff8636.RxPower);
+  tx_bias = all_readings memory (fields.Sff8636 sff8636.TxBias);
+  tx_power = all_readings memory (fields.Sff8636 sff8636.TxPower);
 }
 
 -- values of 16 bits

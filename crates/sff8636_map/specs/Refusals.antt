@@ -5,7 +5,8 @@ use Rattle.bus_model.specs.declared.device.Dev.TheVariants.{A0}
 use Rattle.paged_memory.specs.declared.family.Family.TheVariants.{Sff8636}
 use Rattle.paged_memory.specs.Keys.{lower_key, upper_key}
 use Rattle.paged_memory.specs.Images.{Memory}
-use Rattle.field_tables.specs.declared.field.Field.TheVariants.{QFlatMemory, QIdentifier}
+use Rattle.field_tables.specs.declared.field.Field.TheVariants as fields
+use Rattle.field_tables.specs.declared.table.sff8636.Sff8636Field.TheVariants as sff8636
 use Rattle.field_tables.specs.declared.sff_fault.SffFault.{SffFault}
 use Rattle.field_tables.specs.declared.sff_fault.SffFault.TheVariants.{Absent, FlatMemory, WrongIdentifier}
 use Rattle.field_tables.specs.Readings.{bit}
@@ -14,7 +15,7 @@ use Rattle.field_tables.specs.Reasons.{Reason, lacks, if_set, of_another, refuse
 abbrev pub module_reasons : List (Reason SffFault)
 module_reasons =
     lacks (lower_key A0) (Absent (lower_key A0))
-    ∷ of_another Sff8636 QIdentifier (λ identifier. WrongIdentifier identifier)
+    ∷ of_another Sff8636 (fields.Sff8636 sff8636.Identifier) (λ identifier. WrongIdentifier identifier)
     ∷ []
 
 abbrev pub identity_reasons : List (Reason SffFault)
@@ -23,7 +24,7 @@ identity_reasons = module_reasons ++ lacks (upper_key A0 0 0x00) (Absent (upper_
 abbrev pub threshold_reasons : List (Reason SffFault)
 threshold_reasons =
     module_reasons
-    ++ if_set QFlatMemory FlatMemory
+    ++ if_set (fields.Sff8636 sff8636.FlatMemory) FlatMemory
     ∷ lacks (upper_key A0 0 0x03) (Absent (upper_key A0 0 0x03))
     ∷ []
 
@@ -39,4 +40,4 @@ threshold_fault memory = refused_by memory threshold_reasons
 
 -- of measured values and their limits, which a module with flat memory doesn't have
 unfoldable pub measured_fault : Memory → Option SffFault
-measured_fault memory = option_or (module_fault memory) (if bit memory QFlatMemory then None else threshold_fault memory)
+measured_fault memory = option_or (module_fault memory) (if bit memory (fields.Sff8636 sff8636.FlatMemory) then None else threshold_fault memory)

@@ -2,7 +2,7 @@ ghost use Rattle.std.specs.Prelude.{◌≡◌};
 ghost use Rattle.sff8636_map.specs.Flags.{flags_of, rx_power_flags, tx_bias_flags, tx_power_flags};
 
 use crate::refusal::module_refusal;
-use field_tables::{Field, PerLimit, SffFault, all_bits, limit_bits};
+use field_tables::{PerLimit, SffFault, all_bits, field, limit_bits};
 use paged_memory::Image;
 
 /// What a module warns of (SFF-8636, "Interrupt Flags"), of its four lanes each, the first first.
@@ -36,13 +36,13 @@ impl Flags {
             return Err(fault);
         }
         Ok(Flags {
-            temperature: limit_bits(image, Field::QTempFlag),
-            vcc: limit_bits(image, Field::QVccFlag),
-            tx_los: all_bits(image, Field::QTxLos),
-            rx_los: all_bits(image, Field::QRxLos),
-            tx_fault: all_bits(image, Field::QTxFault),
-            tx_lol: all_bits(image, Field::QTxLol),
-            rx_lol: all_bits(image, Field::QRxLol),
+            temperature: limit_bits(image, field!(Sff8636 TempFlag)),
+            vcc: limit_bits(image, field!(Sff8636 VccFlag)),
+            tx_los: all_bits(image, field!(Sff8636 TxLos)),
+            rx_los: all_bits(image, field!(Sff8636 RxLos)),
+            tx_fault: all_bits(image, field!(Sff8636 TxFault)),
+            tx_lol: all_bits(image, field!(Sff8636 TxLol)),
+            rx_lol: all_bits(image, field!(Sff8636 RxLol)),
             rx_power: rx_power_flags(image),
             tx_bias: tx_bias_flags(image),
             tx_power: tx_power_flags(image),
@@ -54,10 +54,10 @@ fn rx_power_flags(image: &Image) -> PerLimit<[bool; 4]>
     ensures { result ≡ rx_power_flags image.now }
 {
     PerLimit {
-        high_alarm: all_bits(image, Field::QRxPowerHighAlarm),
-        low_alarm: all_bits(image, Field::QRxPowerLowAlarm),
-        high_warning: all_bits(image, Field::QRxPowerHighWarning),
-        low_warning: all_bits(image, Field::QRxPowerLowWarning),
+        high_alarm: all_bits(image, field!(Sff8636 RxPowerHighAlarm)),
+        low_alarm: all_bits(image, field!(Sff8636 RxPowerLowAlarm)),
+        high_warning: all_bits(image, field!(Sff8636 RxPowerHighWarning)),
+        low_warning: all_bits(image, field!(Sff8636 RxPowerLowWarning)),
     }
 }
 
@@ -65,10 +65,10 @@ fn tx_bias_flags(image: &Image) -> PerLimit<[bool; 4]>
     ensures { result ≡ tx_bias_flags image.now }
 {
     PerLimit {
-        high_alarm: all_bits(image, Field::QTxBiasHighAlarm),
-        low_alarm: all_bits(image, Field::QTxBiasLowAlarm),
-        high_warning: all_bits(image, Field::QTxBiasHighWarning),
-        low_warning: all_bits(image, Field::QTxBiasLowWarning),
+        high_alarm: all_bits(image, field!(Sff8636 TxBiasHighAlarm)),
+        low_alarm: all_bits(image, field!(Sff8636 TxBiasLowAlarm)),
+        high_warning: all_bits(image, field!(Sff8636 TxBiasHighWarning)),
+        low_warning: all_bits(image, field!(Sff8636 TxBiasLowWarning)),
     }
 }
 
@@ -76,9 +76,9 @@ fn tx_power_flags(image: &Image) -> PerLimit<[bool; 4]>
     ensures { result ≡ tx_power_flags image.now }
 {
     PerLimit {
-        high_alarm: all_bits(image, Field::QTxPowerHighAlarm),
-        low_alarm: all_bits(image, Field::QTxPowerLowAlarm),
-        high_warning: all_bits(image, Field::QTxPowerHighWarning),
-        low_warning: all_bits(image, Field::QTxPowerLowWarning),
+        high_alarm: all_bits(image, field!(Sff8636 TxPowerHighAlarm)),
+        low_alarm: all_bits(image, field!(Sff8636 TxPowerLowAlarm)),
+        high_warning: all_bits(image, field!(Sff8636 TxPowerHighWarning)),
+        low_warning: all_bits(image, field!(Sff8636 TxPowerLowWarning)),
     }
 }

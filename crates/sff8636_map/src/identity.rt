@@ -1,6 +1,6 @@
 use crate::refusal::identity_refusal;
 use arrayvec::ArrayVec;
-use field_tables::{Field, SffFault, Sum, TextField, all_numbers, is_sum_right, number, text};
+use field_tables::{SffFault, all_numbers, field, is_sum_right, number, sum_of, text, text_of};
 use paged_memory::Image;
 
 /// What a module is, and who made it (SFF-8636, "Upper Page 00h"). Texts stand with their padding.
@@ -36,16 +36,16 @@ impl Identity {
             return Err(fault);
         }
         Ok(Identity {
-            identifier: number(image, Field::QIdentifier),
-            vendor: text(image, TextField::QVendor),
-            oui: all_numbers(image, Field::QOui),
-            part: text(image, TextField::QPart),
-            part_revision: text(image, TextField::QPartRevision),
-            serial: text(image, TextField::QSerial),
-            date: text(image, TextField::QDate),
-            connector: number(image, Field::QConnector),
-            sum_base: is_sum_right(image, Sum::QSumBase),
-            sum_ext: is_sum_right(image, Sum::QSumExt),
+            identifier: number(image, field!(Sff8636 Identifier)),
+            vendor: text(image, text_of!(Sff8636 Vendor)),
+            oui: all_numbers(image, field!(Sff8636 Oui)),
+            part: text(image, text_of!(Sff8636 Part)),
+            part_revision: text(image, text_of!(Sff8636 PartRevision)),
+            serial: text(image, text_of!(Sff8636 Serial)),
+            date: text(image, text_of!(Sff8636 Date)),
+            connector: number(image, field!(Sff8636 Connector)),
+            sum_base: is_sum_right(image, sum_of!(Sff8636 SumBase)),
+            sum_ext: is_sum_right(image, sum_of!(Sff8636 SumExt)),
         })
     }
 }

@@ -1,5 +1,5 @@
 use crate::refusal::module_refusal;
-use field_tables::{Field, SffFault, all_readings, reading};
+use field_tables::{SffFault, all_readings, field, reading};
 use paged_memory::Image;
 
 /// What a module of `N` lanes measures, in steps of each field's unit (SFF-8636, "Free Side Device Monitors" and
@@ -28,11 +28,11 @@ impl<const N: usize> Monitors<N> {
             return Err(fault);
         }
         Ok(Monitors {
-            temperature: reading(image, Field::QTemperature),
-            vcc: reading(image, Field::QVcc),
-            rx_power: all_readings(image, Field::QRxPower),
-            tx_bias: all_readings(image, Field::QTxBias),
-            tx_power: all_readings(image, Field::QTxPower),
+            temperature: reading(image, field!(Sff8636 Temperature)),
+            vcc: reading(image, field!(Sff8636 Vcc)),
+            rx_power: all_readings(image, field!(Sff8636 RxPower)),
+            tx_bias: all_readings(image, field!(Sff8636 TxBias)),
+            tx_power: all_readings(image, field!(Sff8636 TxPower)),
         })
     }
 }

@@ -2,7 +2,7 @@ ghost use Rattle.std.specs.Prelude.{◌≡◌};
 ghost use Rattle.sff8636_map.specs.Refusals.{identity_fault, measured_fault, module_fault, threshold_fault};
 
 use bus_model::Dev;
-use field_tables::{Field, SffFault, bit, number};
+use field_tables::{SffFault, bit, field, number};
 use paged_memory::{Family, Image, Key};
 
 /// Why the module of an image is none of this standard.
@@ -14,7 +14,7 @@ pub fn module_refusal(image: &Image) -> Option<SffFault>
     if !image.has(lower) {
         return Some(SffFault::Absent(lower));
     }
-    let identifier = number(image, Field::QIdentifier);
+    let identifier = number(image, field!(Sff8636 Identifier));
     if !Family::Sff8636.has(identifier) {
         return Some(SffFault::WrongIdentifier(identifier));
     }
@@ -44,7 +44,7 @@ pub fn threshold_refusal(image: &Image) -> Option<SffFault>
     if let Some(fault) = module_refusal(image) {
         return Some(fault);
     }
-    if bit(image, Field::QFlatMemory) {
+    if bit(image, field!(Sff8636 FlatMemory)) {
         return Some(SffFault::FlatMemory);
     }
     let page = Key::upper(Dev::A0, 0, 0x03);
@@ -62,7 +62,7 @@ pub fn measured_refusal(image: &Image) -> Option<SffFault>
     if let Some(fault) = module_refusal(image) {
         return Some(fault);
     }
-    if bit(image, Field::QFlatMemory) {
+    if bit(image, field!(Sff8636 FlatMemory)) {
         return None;
     }
     threshold_refusal(image)

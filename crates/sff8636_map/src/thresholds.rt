@@ -1,5 +1,5 @@
 use crate::refusal::threshold_refusal;
-use field_tables::{Field, PerLimit, SffFault, limits_of};
+use field_tables::{PerLimit, SffFault, field, limits_of};
 use paged_memory::Image;
 
 /// The limits of what a module measures, in steps of each field's unit (SFF-8636, "Free Side Device Thresholds" and
@@ -27,11 +27,11 @@ impl Thresholds {
             return Err(fault);
         }
         Ok(Thresholds {
-            temperature: limits_of(image, Field::QTempLimits),
-            vcc: limits_of(image, Field::QVccLimits),
-            rx_power: limits_of(image, Field::QRxPowerLimits),
-            tx_bias: limits_of(image, Field::QTxBiasLimits),
-            tx_power: limits_of(image, Field::QTxPowerLimits),
+            temperature: limits_of(image, field!(Sff8636 TempLimits)),
+            vcc: limits_of(image, field!(Sff8636 VccLimits)),
+            rx_power: limits_of(image, field!(Sff8636 RxPowerLimits)),
+            tx_bias: limits_of(image, field!(Sff8636 TxBiasLimits)),
+            tx_power: limits_of(image, field!(Sff8636 TxPowerLimits)),
         })
     }
 }

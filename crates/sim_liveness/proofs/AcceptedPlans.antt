@@ -9,7 +9,8 @@ use Rattle.std.proofs.lemmas.List.Elements.{All-contains}
 use Rattle.std.proofs.lemmas.List.Folds.{Any-from_list_any, list_any-from_Any}
 use Rattle.std.proofs.lemmas.List.FromFn.{get_or-map-range_with_len}
 use Rattle.field_tables.specs.FieldValues.{is_set}
-use Rattle.field_tables.specs.declared.field.Field.TheVariants.{CStagedExplicit}
+use Rattle.field_tables.specs.declared.field.Field.TheVariants as fields
+use Rattle.field_tables.specs.declared.table.cmis.CmisField.TheVariants as cmis
 use Rattle.field_tables.specs.FirstFault.{first_fault}
 use Rattle.field_tables.specs.LaneBytes.{contains-run_of}
 use Rattle.field_tables.specs.LaneSets.{IsLane, every_lane}
@@ -58,7 +59,7 @@ not_one n zeroth = grind (arith, nat_tests, zeroth)
 even : (control : ControlByte) → byte_saying control / 1 % 2 ≡ 0
 even control = omega arith
 
-not_explicit : (on : Option Path) → is_set CStagedExplicit (byte_on on) ≡ false
+not_explicit : (on : Option Path) → is_set (fields.Cmis cmis.StagedExplicit) (byte_on on) ≡ false
 not_explicit None = refl
 not_explicit (Some path) = not_one (byte_saying (control_in path) / 1 % 2) (even (control_in path))
 
@@ -84,7 +85,7 @@ module _ (conventions : Conventions) (paths kept : List Path) (sim : SimModule) 
 
   explicit_off : (lane : ℕ) → IsLane lane → is_explicit sim lane ≡ false
   unfolding control_byte
-  explicit_off lane within = ap (is_set CStagedExplicit) (staged_is lane within) ∙ not_explicit (path_on advert paths lane)
+  explicit_off lane within = ap (is_set (fields.Cmis cmis.StagedExplicit)) (staged_is lane within) ∙ not_explicit (path_on advert paths lane)
 
   -- ---- a lane of a kept path is of that path alone
 

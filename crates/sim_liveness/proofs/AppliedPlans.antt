@@ -8,7 +8,7 @@ use Rattle.std.proofs.lemmas.List.FromFn.{get_or-map-range_with_len}
 use Rattle.bus_model.specs.declared.device.Dev.TheVariants.{A0}
 use Rattle.field_tables.specs.LaneSets.{IsLane, Lanes, byte_of, is_empty, lanes_in}
 use Rattle.field_tables.specs.Registers.{first_byte}
-use Rattle.field_tables.specs.declared.field.Register.TheVariants.{CApplyDPInit}
+use Rattle.field_tables.specs.declared.field.Register.TheVariants as registers
 use Rattle.applications.specs.Advertised.{Advertised}
 use Rattle.datapath_states.specs.declared.status.ConfigStatus.TheVariants.{Rejected}
 use Rattle.plan_certificate.specs.declared.path.Path.{Path}
@@ -32,7 +32,7 @@ not_empty : (mask : Lanes) (lane : ℕ) → set.contains mask lane ≡ true → 
 not_empty mask lane inside = false_from_ne_true (is_empty mask) (λ empty.
     (let none : set.contains mask lane ≡ false = ap (λ (lanes : Lanes). set.contains lanes lane) (empty_of_len mask (eqb-true _ _ empty)) ∙ contains-empty nat_cmp lane in cc))
 
-applied_byte : (sim : SimModule) (bits : ℕ) → is_mapped sim 0x10 ≡ true → stored_byte sim (first_byte CApplyDPInit) bits ≡ applied sim (lanes_in bits)
+applied_byte : (sim : SimModule) (bits : ℕ) → is_mapped sim 0x10 ≡ true → stored_byte sim (first_byte registers.ApplyDPInit) bits ≡ applied sim (lanes_in bits)
 unfolding stored_byte
 applied_byte sim bits on = ap (λ (on : Bool). if on then applied sim (lanes_in bits) else sim) on
 
@@ -41,12 +41,12 @@ unfolding applied
 applied_some sim mask lane inside = ap (λ (empty : Bool). if empty then sim else applied_all sim mask) (not_empty mask lane inside)
 
 abbrev is_taken_by : SimModule → Advertised → List Path → Bool
-is_taken_by sim advert kept = (stored sim A0 (first_byte CApplyDPInit) (byte_of (lanes_outside advert kept) ∷ [])).0
+is_taken_by sim advert kept = (stored sim A0 (first_byte registers.ApplyDPInit) (byte_of (lanes_outside advert kept) ∷ [])).0
 
 pub after_is : (sim : SimModule) (advert : Advertised) (kept : List Path) (lane : ℕ) → is_mapped sim 0x10 ≡ true → is_taken_by sim advert kept ≡ true → set.contains (mask_of advert kept) lane ≡ true
     → after_apply advert kept sim ≡ applied_all sim (mask_of advert kept)
 after_is sim advert kept lane on taken inside =
-    stored_whole sim (first_byte CApplyDPInit) (byte_of (lanes_outside advert kept) ∷ []) taken ∙ applied_byte sim (byte_of (lanes_outside advert kept)) on ∙ applied_some sim (mask_of advert kept) lane inside
+    stored_whole sim (first_byte registers.ApplyDPInit) (byte_of (lanes_outside advert kept) ∷ []) taken ∙ applied_byte sim (byte_of (lanes_outside advert kept)) on ∙ applied_some sim (mask_of advert kept) lane inside
 
 -- ---- what it begins
 

@@ -8,7 +8,7 @@ use Rattle.bus_model.specs.Keeping.{IsKeptBy}
 use Rattle.field_tables.specs.FirstFault.{first_fault}
 use Rattle.field_tables.specs.LaneSets.{IsLane, Lanes, is_empty, lanes_in}
 use Rattle.field_tables.specs.Registers.{first_byte}
-use Rattle.field_tables.specs.declared.field.Register.TheVariants.{CApplyDPInit, CDPDeinit, CGlobalControls, CStagedControl}
+use Rattle.field_tables.specs.declared.field.Register.TheVariants as registers
 use Rattle.std.specs.FinSet as set
 use Rattle.paged_memory.specs.Images.{Memory}
 use Rattle.module_states.specs.declared.state.ModuleState.{ModuleState}
@@ -337,11 +337,11 @@ module _ (most : ℕ) where
   run_high : (sim : SimModule) (address byte : ℕ) → CountersRun most sim → CountersRun most (stored_high sim address byte)
   run_high sim address byte run =
       let deinit = record sim { deinit = lanes_in byte } in
-      let staged = staged_at sim (address - first_byte CStagedControl + 1) byte in
-      let rest = if is_in CStagedControl address then staged else sim in
-      either (CountersRun most) (is_at CDPDeinit address) deinit (if is_at CApplyDPInit address then applied sim (lanes_in byte) else rest) (run_same sim deinit (same_applies sim deinit refl (λ lane within. (refl, refl)) run) refl refl refl (λ lane within. (refl, refl)) run)
-      (either (CountersRun most) (is_at CApplyDPInit address) (applied sim (lanes_in byte)) rest (run_applied sim (lanes_in byte) run)
-      (either (CountersRun most) (is_in CStagedControl address) staged sim (run_staged sim (address - first_byte CStagedControl + 1) byte run) run))
+      let staged = staged_at sim (address - first_byte registers.StagedControl + 1) byte in
+      let rest = if is_in registers.StagedControl address then staged else sim in
+      either (CountersRun most) (is_at registers.DPDeinit address) deinit (if is_at registers.ApplyDPInit address then applied sim (lanes_in byte) else rest) (run_same sim deinit (same_applies sim deinit refl (λ lane within. (refl, refl)) run) refl refl refl (λ lane within. (refl, refl)) run)
+      (either (CountersRun most) (is_at registers.ApplyDPInit address) (applied sim (lanes_in byte)) rest (run_applied sim (lanes_in byte) run)
+      (either (CountersRun most) (is_in registers.StagedControl address) staged sim (run_staged sim (address - first_byte registers.StagedControl + 1) byte run) run))
 
   run_byte : (sim : SimModule) (address byte : ℕ) → CountersRun most sim → CountersRun most (stored_byte sim address byte)
   unfolding stored_byte
@@ -381,5 +381,5 @@ module _ (most : ℕ) where
         applies = λ lane within. subst (λ (l : Lane). is_in_progress l ≡ true → IsTrue (is_some l.applying) × IsWithin most 0) (sym (made_lane (start_lane memory) lane within)) (λ on. absurd (let wrong : false ≡ true = on in cc));
         time = time;
         lanes = λ lane within. subst (λ (l : Lane). Runs most l.path l.ticks_left) (sym (made_lane (start_lane memory) lane within)) tt;
-        state = start_runs (asks_low_power (byte_of_register memory CGlobalControls 0) false) 0;
+        state = start_runs (asks_low_power (byte_of_register memory registers.GlobalControls 0) false) 0;
       }

@@ -8,7 +8,8 @@ use Rattle.std.proofs.lemmas.Bool.Decides.{nat_tests}
 use Rattle.std.proofs.lemmas.List.{length-map}
 use Rattle.std.proofs.lemmas.List.Sums.{take_while-cons}
 use Rattle.paged_memory.specs.Images.{Memory}
-use Rattle.field_tables.specs.declared.field.Field.TheVariants.{CMediaType}
+use Rattle.field_tables.specs.declared.field.Field.TheVariants as fields
+use Rattle.field_tables.specs.declared.table.cmis.CmisField.TheVariants as cmis
 use Rattle.field_tables.specs.Readings.{number}
 use Rattle.applications.specs.declared.app.App.{App}
 use Rattle.applications.specs.declared.conventions.Conventions.{Conventions}
@@ -81,17 +82,17 @@ few_by : (by_id : Bool) (media_type : ℕ) (apps : List App) → length apps ≤
 few_by true media_type apps few = omega (arith, few, length-map apps (counted media_type))
 few_by false media_type apps few = few
 
-under_by : (conventions : Conventions) (memory : Memory) (by_id : Bool) → conventions.counts_by_id ≡ by_id → (advertised_under conventions memory).apps ≡ apps_by by_id (number memory CMediaType) (apps_of memory)
+under_by : (conventions : Conventions) (memory : Memory) (by_id : Bool) → conventions.counts_by_id ≡ by_id → (advertised_under conventions memory).apps ≡ apps_by by_id (number memory (fields.Cmis cmis.MediaType)) (apps_of memory)
 under_by conventions memory true is = ap (λ (by_id : Bool). (advertised_under (record conventions { counts_by_id = by_id }) memory).apps) is
 under_by conventions memory false is = ap (λ (by_id : Bool). (advertised_under (record conventions { counts_by_id = by_id }) memory).apps) is
 
-read_apps : (conventions : Conventions) (memory : Memory) → (advertised_under conventions memory).apps ≡ apps_by conventions.counts_by_id (number memory CMediaType) (apps_of memory)
+read_apps : (conventions : Conventions) (memory : Memory) → (advertised_under conventions memory).apps ≡ apps_by conventions.counts_by_id (number memory (fields.Cmis cmis.MediaType)) (apps_of memory)
 read_apps conventions memory = under_by conventions memory conventions.counts_by_id refl ∙ refl
 
 pub plan_read : (conventions : Conventions) (memory : Memory) (paths : List Path) → IsAdmissible (advertised_under conventions memory) paths → IsPlan (advertised_under conventions memory) paths
 plan_read conventions memory paths admissible = record {
-  in_order = subst InOrder (sym (read_apps conventions memory)) (order_by conventions.counts_by_id (number memory CMediaType) (apps_of memory) (read_order memory));
-  few = subst (λ (apps : List App). length apps ≤ 15) (sym (read_apps conventions memory)) (few_by conventions.counts_by_id (number memory CMediaType) (apps_of memory) (read_few memory));
+  in_order = subst InOrder (sym (read_apps conventions memory)) (order_by conventions.counts_by_id (number memory (fields.Cmis cmis.MediaType)) (apps_of memory) (read_order memory));
+  few = subst (λ (apps : List App). length apps ≤ 15) (sym (read_apps conventions memory)) (few_by conventions.counts_by_id (number memory (fields.Cmis cmis.MediaType)) (apps_of memory) (read_few memory));
   admissible = admissible;
 }
 
@@ -110,7 +111,7 @@ none_from (app ∷ apps) first some order =
     ap (λ (is : Bool). cond (is && is_usable app) (Some app) (find (is_numbered 0) apps)) not_zero ∙ none_from apps (first + 1) (omega arith) rest
 
 pub no_app_0 : (memory : Memory) → app_numbered (own_advert memory) 0 ≡ None
-no_app_0 memory = none_from (own_advert memory).apps 1 (omega arith) (order_by true (number memory CMediaType) (apps_of memory) (read_order memory))
+no_app_0 memory = none_from (own_advert memory).apps 1 (omega arith) (order_by true (number memory (fields.Cmis cmis.MediaType)) (apps_of memory) (read_order memory))
 
 -- ---- the Applications that a path uses
 
@@ -187,5 +188,5 @@ pub own_app : (conventions : Conventions) (memory : Memory) (path : Path) → is
 own_app conventions memory path allowed =
     let advert = advertised_under conventions memory in
     let usable = usable_of advert path allowed in
-    own_by conventions.counts_by_id (number memory CMediaType) path.app (apps_of memory) (app_of advert path)
+    own_by conventions.counts_by_id (number memory (fields.Cmis cmis.MediaType)) path.app (apps_of memory) (app_of advert path)
     (ap (λ (apps : List App). find (has_number path) apps) (sym (read_apps conventions memory)) ∙ app_found advert path usable) usable

@@ -10,7 +10,7 @@ use Rattle.std.proofs.lemmas.List.FromFn.{get_or-map-range_with_len}
 use Rattle.std.proofs.lemmas.Nat.Bits.{bit_at_and}
 use Rattle.field_tables.specs.LaneSets.{IsLane, Lanes}
 use Rattle.field_tables.specs.Registers.{byte_count, first_byte}
-use Rattle.field_tables.specs.declared.field.Register.TheVariants.{CActiveControl, CConfigStatus, CGlobalStatus, CPathStates}
+use Rattle.field_tables.specs.declared.field.Register.TheVariants as registers
 use Rattle.field_tables.proofs.TrueTests.{range_passes}
 use Rattle.module_states.specs.Codes as module_codes
 use Rattle.module_states.specs.declared.state.ModuleState.{ModuleState}
@@ -54,11 +54,11 @@ few_codes module_is.Ready = omega arith
 few_codes module_is.PwrDn = omega arith
 few_codes module_is.Fault = omega arith
 
-shown_state : (sim : SimModule) (page : List ℕ) → map (shown_byte sim page) (range_with_len (first_byte CGlobalStatus) (byte_count CGlobalStatus)) ≡ state_byte sim (slice_index page 3) ∷ []
+shown_state : (sim : SimModule) (page : List ℕ) → map (shown_byte sim page) (range_with_len (first_byte registers.GlobalStatus) (byte_count registers.GlobalStatus)) ≡ state_byte sim (slice_index page 3) ∷ []
 unfolding shown_byte
 shown_state sim page = refl
 
-pub read_state : (sim : SimModule) (page : List ℕ) → module_code (map (shown_byte sim page) (range_with_len (first_byte CGlobalStatus) (byte_count CGlobalStatus))) ≡ module_codes.code_of sim.state
+pub read_state : (sim : SimModule) (page : List ℕ) → module_code (map (shown_byte sim page) (range_with_len (first_byte registers.GlobalStatus) (byte_count registers.GlobalStatus))) ≡ module_codes.code_of sim.state
 read_state sim page =
     ap module_code (shown_state sim page)
     ∙ code_shown (masked (slice_index page 3)) (module_codes.code_of sim.state) (clear_bit (slice_index page 3) 1 refl) (clear_bit (slice_index page 3) 2 refl) (clear_bit (slice_index page 3) 3 refl) (few_codes sim.state)
@@ -114,15 +114,15 @@ none_reserved path_is.TxTurnOn = refl
 none_reserved path_is.TxTurnOff = refl
 none_reserved path_is.Initialized = refl
 
-pub shown_paths : (sim : SimModule) (page : List ℕ) → Shows 0x11 sim → map (shown_byte sim page) (range_with_len (first_byte CPathStates) (byte_count CPathStates)) ≡ pairs (path_code sim)
+pub shown_paths : (sim : SimModule) (page : List ℕ) → Shows 0x11 sim → map (shown_byte sim page) (range_with_len (first_byte registers.PathStates) (byte_count registers.PathStates)) ≡ pairs (path_code sim)
 shown_paths sim page shows = λ i.
-    on_statuses sim page (first_byte CPathStates) (omega arith) shows i ∷ on_statuses sim page (first_byte CPathStates + 1) (omega arith) shows i
-    ∷ on_statuses sim page (first_byte CPathStates + 2) (omega arith) shows i ∷ on_statuses sim page (first_byte CPathStates + 3) (omega arith) shows i ∷ []
+    on_statuses sim page (first_byte registers.PathStates) (omega arith) shows i ∷ on_statuses sim page (first_byte registers.PathStates + 1) (omega arith) shows i
+    ∷ on_statuses sim page (first_byte registers.PathStates + 2) (omega arith) shows i ∷ on_statuses sim page (first_byte registers.PathStates + 3) (omega arith) shows i ∷ []
 
-pub shown_statuses : (sim : SimModule) (page : List ℕ) → Shows 0x11 sim → map (shown_byte sim page) (range_with_len (first_byte CConfigStatus) (byte_count CConfigStatus)) ≡ pairs (status_code sim)
+pub shown_statuses : (sim : SimModule) (page : List ℕ) → Shows 0x11 sim → map (shown_byte sim page) (range_with_len (first_byte registers.ConfigStatus) (byte_count registers.ConfigStatus)) ≡ pairs (status_code sim)
 shown_statuses sim page shows = λ i.
-    on_statuses sim page (first_byte CConfigStatus) (omega arith) shows i ∷ on_statuses sim page (first_byte CConfigStatus + 1) (omega arith) shows i
-    ∷ on_statuses sim page (first_byte CConfigStatus + 2) (omega arith) shows i ∷ on_statuses sim page (first_byte CConfigStatus + 3) (omega arith) shows i ∷ []
+    on_statuses sim page (first_byte registers.ConfigStatus) (omega arith) shows i ∷ on_statuses sim page (first_byte registers.ConfigStatus + 1) (omega arith) shows i
+    ∷ on_statuses sim page (first_byte registers.ConfigStatus + 2) (omega arith) shows i ∷ on_statuses sim page (first_byte registers.ConfigStatus + 3) (omega arith) shows i ∷ []
 
 abbrev pub shown_codes : SimModule → List ℕ
 shown_codes sim = codes_in (pairs (path_code sim)) 8
@@ -161,15 +161,15 @@ states_met sim looked waiting state reached =
 
 -- ---- what is active
 
-shown_active : (sim : SimModule) (page : List ℕ) → Shows 0x11 sim → map (shown_byte sim page) (range_with_len (first_byte CActiveControl) (byte_count CActiveControl)) ≡ map (λ lane. (lane_at sim lane).active) (range_with_len 1 8)
+shown_active : (sim : SimModule) (page : List ℕ) → Shows 0x11 sim → map (shown_byte sim page) (range_with_len (first_byte registers.ActiveControl) (byte_count registers.ActiveControl)) ≡ map (λ lane. (lane_at sim lane).active) (range_with_len 1 8)
 shown_active sim page shows = λ i.
-    on_statuses sim page (first_byte CActiveControl) (omega arith) shows i ∷ on_statuses sim page (first_byte CActiveControl + 1) (omega arith) shows i
-    ∷ on_statuses sim page (first_byte CActiveControl + 2) (omega arith) shows i ∷ on_statuses sim page (first_byte CActiveControl + 3) (omega arith) shows i
-    ∷ on_statuses sim page (first_byte CActiveControl + 4) (omega arith) shows i ∷ on_statuses sim page (first_byte CActiveControl + 5) (omega arith) shows i
-    ∷ on_statuses sim page (first_byte CActiveControl + 6) (omega arith) shows i ∷ on_statuses sim page (first_byte CActiveControl + 7) (omega arith) shows i ∷ []
+    on_statuses sim page (first_byte registers.ActiveControl) (omega arith) shows i ∷ on_statuses sim page (first_byte registers.ActiveControl + 1) (omega arith) shows i
+    ∷ on_statuses sim page (first_byte registers.ActiveControl + 2) (omega arith) shows i ∷ on_statuses sim page (first_byte registers.ActiveControl + 3) (omega arith) shows i
+    ∷ on_statuses sim page (first_byte registers.ActiveControl + 4) (omega arith) shows i ∷ on_statuses sim page (first_byte registers.ActiveControl + 5) (omega arith) shows i
+    ∷ on_statuses sim page (first_byte registers.ActiveControl + 6) (omega arith) shows i ∷ on_statuses sim page (first_byte registers.ActiveControl + 7) (omega arith) shows i ∷ []
 
 -- the control bytes that are read
-pub active_is : (sim : SimModule) (page : List ℕ) → Shows 0x11 sim → length sim.lanes ≡ 8 → active_bytes sim ≡ map (shown_byte sim page) (range_with_len (first_byte CActiveControl) (byte_count CActiveControl))
+pub active_is : (sim : SimModule) (page : List ℕ) → Shows 0x11 sim → length sim.lanes ≡ 8 → active_bytes sim ≡ map (shown_byte sim page) (range_with_len (first_byte registers.ActiveControl) (byte_count registers.ActiveControl))
 active_is sim page shows eight =
     let active = λ (lane : Lane). lane.active in
     let len : length (active_bytes sim) ≡ 8 = length-map sim.lanes active ∙ eight in

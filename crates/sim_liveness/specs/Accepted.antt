@@ -4,7 +4,7 @@ use Rattle.std.specs.Prelude.{◌≡◌, ℕ, ◌≤◌, ◌-◌, true, false, L
 use Rattle.bus_model.specs.declared.device.Dev.TheVariants.{A0}
 use Rattle.field_tables.specs.LaneSets.{IsLane, Lanes, byte_of, lanes_in}
 use Rattle.field_tables.specs.Registers.{first_byte}
-use Rattle.field_tables.specs.declared.field.Register.TheVariants.{CApplyDPInit}
+use Rattle.field_tables.specs.declared.field.Register.TheVariants as registers
 use Rattle.applications.specs.Advertised.{Advertised, advertised_under}
 use Rattle.applications.specs.declared.conventions.Conventions.{Conventions}
 use Rattle.datapath_states.specs.declared.state.PathState.TheVariants.{Deactivated}
@@ -48,13 +48,13 @@ AcceptsPlans =
 
 -- the module after the store to ApplyDPInit
 abbrev pub after_apply : Advertised → List Path → SimModule → SimModule
-after_apply advert kept sim = (stored sim A0 (first_byte CApplyDPInit) (byte_of (lanes_outside advert kept) ∷ [])).1
+after_apply advert kept sim = (stored sim A0 (first_byte registers.ApplyDPInit) (byte_of (lanes_outside advert kept) ∷ [])).1
 
 -- once as many ticks have come as an apply lasts, each lane of no kept path has ConfigSuccess, and the plan's control byte is active on
 -- it; fetches and selections of pages may come between
 abbrev pub AppliesPlans : Type 0
 AppliesPlans =
     (most : ℕ) (conventions : Conventions) (paths kept : List Path) (sim : SimModule) (pauses : List Pause) (lane : ℕ) → IsStagedPlan conventions paths kept sim
-    → HaveTime most sim.delays → is_mapped sim 0x10 ≡ true → (stored sim A0 (first_byte CApplyDPInit) (byte_of (lanes_outside (read_by conventions sim) kept) ∷ [])).0 ≡ true
+    → HaveTime most sim.delays → is_mapped sim 0x10 ≡ true → (stored sim A0 (first_byte registers.ApplyDPInit) (byte_of (lanes_outside (read_by conventions sim) kept) ∷ [])).0 ≡ true
     → sim.delays.apply ≤ ticks_in pauses → IsLane lane → is_taken (read_by conventions sim) kept lane ≡ false
     → IsApplied (lane_at (paused pauses (after_apply (read_by conventions sim) kept sim)) lane) (slice_index (control_bytes (read_by conventions sim) paths) (lane - 1))

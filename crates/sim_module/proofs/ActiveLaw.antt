@@ -12,7 +12,7 @@ use Rattle.bus_model.specs.Operations.{fetch_step, store_step}
 use Rattle.bus_model.specs.Runs.{Ran, Seen}
 use Rattle.bus_model.specs.ScriptedBus.{script_rules, settled}
 use Rattle.bus_model.proofs.ScriptRuns.{all_allow, fetched_at, step_keeps, stored_at}
-use Rattle.field_tables.specs.declared.field.Register.TheVariants.{CActiveControl, CApplyDPInit, CConfigStatus}
+use Rattle.field_tables.specs.declared.field.Register.TheVariants as registers
 use Rattle.field_tables.specs.Registers.{byte_count, first_byte}
 use Rattle.sim_module.specs.declared.module.SimModule.{SimModule}
 use Rattle.sim_module.specs.Lanes.{active_bytes}
@@ -45,10 +45,10 @@ pub record EndsApplied (control : List ℕ) (lanes : Lanes) (steps : List Step) 
   pub between : List Step
   pub statuses : List ℕ
   pub before : List Step
-  pub split : steps ≡ read (first_byte CActiveControl) (byte_count CActiveControl) control ∷ (between ++ read (first_byte CConfigStatus) (byte_count CConfigStatus) statuses ∷ before)
+  pub split : steps ≡ read (first_byte registers.ActiveControl) (byte_count registers.ActiveControl) control ∷ (between ++ read (first_byte registers.ConfigStatus) (byte_count registers.ConfigStatus) statuses ∷ before)
   pub success : SaySuccess lanes statuses
   pub shown : Confirms 0x11 before
-  pub still_shown : Confirms 0x11 (between ++ read (first_byte CConfigStatus) (byte_count CConfigStatus) statuses ∷ before)
+  pub still_shown : Confirms 0x11 (between ++ read (first_byte registers.ConfigStatus) (byte_count registers.ConfigStatus) statuses ∷ before)
   pub no_controls : AllByRecursion (λ step. MapsNoControls step.op) between
   pub shape : EachStep (IsProvisioningStep control lanes) before
   pub applied : Stands (IsAccepted (apply (byte_of lanes))) before
@@ -139,7 +139,7 @@ module _ (control : List ℕ) (lanes : Lanes) (P : SimModule → Type 0) (time :
 held_after : (control : List ℕ) (lanes : Lanes) (lane : ℕ) (state : State) (steps : List Step) → IsOf lanes lane → EachStep (IsProvisioningStep control lanes) steps → May state steps →
     Stands (IsAccepted (apply (byte_of lanes))) steps → HoldsOnly lanes (left state steps).1
 held_after control lanes lane state steps of_lanes =
-    after_accepted control lanes (HoldsOnly lanes) (held_kept lanes) (held_survives lanes) (first_byte CApplyDPInit) (byte_of lanes) (omega arith) (λ sim. held_begins lanes sim lane of_lanes) state steps
+    after_accepted control lanes (HoldsOnly lanes) (held_kept lanes) (held_survives lanes) (first_byte registers.ApplyDPInit) (byte_of lanes) (omega arith) (λ sim. held_begins lanes sim lane of_lanes) state steps
 
 -- so it holds no other lanes
 held_before : (control : List ℕ) (lanes : Lanes) (state : State) (steps : List Step) → LeavesNone lanes state.1 → EachStep (IsProvisioningStep control lanes) steps → May state steps →
@@ -150,28 +150,28 @@ held_before control lanes state steps (inr none) shape may stands = held_from_st
 active_after : (state : State) (steps : List Step) (control : List ℕ) (lanes : Lanes) → IsSound state.1 → LeavesNone lanes state.1 → May state steps → EndsApplied control lanes steps →
     IsAtRest control (left state steps).1
 active_after state steps control lanes sound leaves may ends =
-    let last = read (first_byte CActiveControl) (byte_count CActiveControl) control in
-    let statuses = read (first_byte CConfigStatus) (byte_count CConfigStatus) ends.statuses in
+    let last = read (first_byte registers.ActiveControl) (byte_count registers.ActiveControl) control in
+    let statuses = read (first_byte registers.ConfigStatus) (byte_count registers.ConfigStatus) ends.statuses in
     let older = ends.between ++ statuses ∷ ends.before in
     let whole : May state (last ∷ older) = subst (May state) ends.split may in
     let first : May state (statuses ∷ ends.before) = may_older (script_rules conduct) state ends.between (statuses ∷ ends.before) whole.1 in
     let there = left state ends.before in
-    let answer = fetched_at conduct A0 (first_byte CConfigStatus) (byte_count CConfigStatus) (record { items = ends.statuses }) there first.0 in
+    let answer = fetched_at conduct A0 (first_byte registers.ConfigStatus) (byte_count registers.ConfigStatus) (record { items = ends.statuses }) there first.0 in
     let shows : Shows 0x11 (found there) = found_keeps conduct (Shows 0x11) (shows_kept 0x11) there (shows_after 0x11 state ends.before ends.shown first.1) in
     let still : IsSound (found there) = found_keeps conduct IsSound sound_always.time there (sound_after state ends.before sound) in
     let active = active_bytes (found there) in
     let held : HoldsOnly lanes (found there) = found_keeps conduct (HoldsOnly lanes) (held_kept lanes) there (held_before control lanes state ends.before leaves ends.shape first.1 ends.applied) in
     let idle : IsIdle active (found there) = idle_after_success (found there) lanes ends.statuses still shows held answer.answer ends.success in
-    let idle_next : IsIdle active (left state (statuses ∷ ends.before)).1 = subst (IsIdle active) (sym answer.left) ((idle_kept active).tick _ (idle_fetched active (found there) A0 (first_byte CConfigStatus) (byte_count CConfigStatus) idle)) in
+    let idle_next : IsIdle active (left state (statuses ∷ ends.before)).1 = subst (IsIdle active) (sym answer.left) ((idle_kept active).tick _ (idle_fetched active (found there) A0 (first_byte registers.ConfigStatus) (byte_count registers.ConfigStatus) idle)) in
     let idle_on : IsIdle active (left (left state (statuses ∷ ends.before)) ends.between).1 =
     steps_keep conduct (IsIdle active) (idle_kept active) ends.between
     (each_step (λ s. MapsNoControls s.op) (λ s. IsKeptBy conduct (IsIdle active) s.op) (λ s. idle_by active s.op) ends.between ends.no_controls) (left state (statuses ∷ ends.before)) idle_next in
     let idle_last : IsIdle active (left state older).1 = subst (λ (s : State). IsIdle active s.1) (sym (after_append (script_rules conduct) state ends.between (statuses ∷ ends.before))) idle_on in
     let idle_found : IsIdle active (found (left state older)) = found_keeps conduct (IsIdle active) (idle_kept active) (left state older) idle_last in
     let shows_last : Shows 0x11 (found (left state older)) = found_keeps conduct (Shows 0x11) (shows_kept 0x11) (left state older) (shows_after 0x11 state older ends.still_shown whole.1) in
-    let answer_last = fetched_at conduct A0 (first_byte CActiveControl) (byte_count CActiveControl) (record { items = control }) (left state older) whole.0 in
+    let answer_last = fetched_at conduct A0 (first_byte registers.ActiveControl) (byte_count registers.ActiveControl) (record { items = control }) (left state older) whole.0 in
     let is_control : active_bytes (found (left state older)) ≡ control = read_active (found (left state older)) control shows_last idle_found.rest.eight answer_last.answer in
-    let end : IsIdle active (left state (last ∷ older)).1 = subst (IsIdle active) (sym answer_last.left) ((idle_kept active).tick _ (idle_fetched active (found (left state older)) A0 (first_byte CActiveControl) (byte_count CActiveControl) idle_found)) in
+    let end : IsIdle active (left state (last ∷ older)).1 = subst (IsIdle active) (sym answer_last.left) ((idle_kept active).tick _ (idle_fetched active (found (left state older)) A0 (first_byte registers.ActiveControl) (byte_count registers.ActiveControl) idle_found)) in
     let rest : IsAtRest control (left state (last ∷ older)).1 = subst (λ (bytes : List ℕ). IsAtRest bytes (left state (last ∷ older)).1) (sym idle_found.rest.active ∙ is_control) end.rest in
     subst (λ (ss : List Step). IsAtRest control (left state ss).1) (sym ends.split) rest
 

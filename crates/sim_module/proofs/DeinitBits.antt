@@ -10,7 +10,7 @@ use Rattle.control_sets.specs.OutcomeOperations.{set_deinit}
 use Rattle.control_sets.specs.OutcomeSteps.{IsAccepted}
 use Rattle.control_sets.specs.PlanLanes.{lanes_outside}
 use Rattle.control_sets.proofs.LaneBits.{in_byte_of}
-use Rattle.field_tables.specs.declared.field.Register.TheVariants.{CConfigStatus}
+use Rattle.field_tables.specs.declared.field.Register.TheVariants as registers
 use Rattle.field_tables.specs.Registers.{byte_count, first_byte}
 use Rattle.sim_module.specs.declared.module.SimModule.{SimModule}
 use Rattle.sim_module.specs.Applies.{applied, applied_all}
@@ -65,7 +65,7 @@ pub bits_follow_success : BitsFollowSuccess
 bits_follow_success old new history control lanes steps ran outcome =
     let ends = ends_applied control lanes history steps outcome in
     let accepts : AcceptsBits lanes history =
-    subst (AcceptsBits lanes) (sym ends.split) (inr (later (IsAccepted (set_deinit (byte_of lanes))) ends.between (read (first_byte CConfigStatus) (byte_count CConfigStatus) ends.statuses ∷ ends.before) (inr ends.taken))) in
+    subst (AcceptsBits lanes) (sym ends.split) (inr (later (IsAccepted (set_deinit (byte_of lanes))) ends.between (read (first_byte registers.ConfigStatus) (byte_count registers.ConfigStatus) ends.statuses ∷ ends.before) (inr ends.taken))) in
     bits_follow_the_store old new history control lanes (Ok steps) ran outcome accepts
 
 pub kept_bits_are_clear : KeptBitsAreClear

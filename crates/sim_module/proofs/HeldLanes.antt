@@ -16,7 +16,7 @@ use Rattle.control_sets.specs.OutcomeCodes.{IsOf}
 use Rattle.control_sets.specs.OutcomeOfProvisioning.{IsProvisioningStep}
 use Rattle.control_sets.specs.Pages.{EachStep, History}
 use Rattle.control_sets.proofs.LaneBits.{in_byte_of}
-use Rattle.field_tables.specs.declared.field.Register.TheVariants.{CApplyDPInit}
+use Rattle.field_tables.specs.declared.field.Register.TheVariants as registers
 use Rattle.field_tables.specs.Registers.{first_byte}
 use Rattle.sim_module.specs.declared.lane.Lane.{Lane}
 use Rattle.sim_module.specs.declared.module.SimModule.{SimModule}
@@ -57,7 +57,7 @@ stored_whole sim address bytes taken = taken_bytes (finmap.contains_key sim.imag
 pub controls_mapped : (sim : SimModule) → Shows 0x10 sim → is_mapped sim 0x10 ≡ true
 controls_mapped sim shows = λ i. shows.bank i == 0 && shows.number i == 0x10
 
-applied_byte : (sim : SimModule) (bits : ℕ) → Shows 0x10 sim → stored_byte sim (first_byte CApplyDPInit) bits ≡ applied sim (lanes_in bits)
+applied_byte : (sim : SimModule) (bits : ℕ) → Shows 0x10 sim → stored_byte sim (first_byte registers.ApplyDPInit) bits ≡ applied sim (lanes_in bits)
 unfolding stored_byte
 applied_byte sim bits shows = ap (λ (on : Bool). if on then applied sim (lanes_in bits) else sim) (controls_mapped sim shows)
 
@@ -72,12 +72,12 @@ module _ (lanes : Lanes) where
   held_applied sim lane within outside = none_after sim mask lane within (mask_outside lane within outside)
 
   -- an apply to some lanes, in the moment when it is accepted
-  pub held_begins : (sim : SimModule) (lane : ℕ) → IsOf lanes lane → Shows 0x10 sim → (stored sim A0 (first_byte CApplyDPInit) (byte_of lanes ∷ [])).0 ≡ true → HoldsOnly lanes (stored sim A0 (first_byte CApplyDPInit) (byte_of lanes ∷ [])).1
+  pub held_begins : (sim : SimModule) (lane : ℕ) → IsOf lanes lane → Shows 0x10 sim → (stored sim A0 (first_byte registers.ApplyDPInit) (byte_of lanes ∷ [])).0 ≡ true → HoldsOnly lanes (stored sim A0 (first_byte registers.ApplyDPInit) (byte_of lanes ∷ [])).1
   unfolding applied
   held_begins sim lane (within, inside) shows taken =
       let some : is_empty mask ≡ false = not_empty mask lane (in_byte_of lanes lane within ∙ inside) in
-      let is : (stored sim A0 (first_byte CApplyDPInit) (byte_of lanes ∷ [])).1 ≡ applied_all sim mask =
-      stored_whole sim (first_byte CApplyDPInit) (byte_of lanes ∷ []) taken ∙ applied_byte sim (byte_of lanes) shows ∙ ap (λ (empty : Bool). if empty then sim else applied_all sim mask) some in
+      let is : (stored sim A0 (first_byte registers.ApplyDPInit) (byte_of lanes ∷ [])).1 ≡ applied_all sim mask =
+      stored_whole sim (first_byte registers.ApplyDPInit) (byte_of lanes ∷ []) taken ∙ applied_byte sim (byte_of lanes) shows ∙ ap (λ (empty : Bool). if empty then sim else applied_all sim mask) some in
       subst (HoldsOnly lanes) (sym is) (held_applied sim)
 
   held_tick : (sim : SimModule) → HoldsOnly lanes sim → HoldsOnly lanes (ticked sim)

@@ -21,7 +21,7 @@ use Rattle.bus_model.specs.declared.operation.Op.{Op}
 use Rattle.bus_model.specs.declared.operation.Op.TheVariants.{Fetch, Store}
 use Rattle.bus_model.specs.Keeping.{IsKeptBy, IsKeptInTime}
 use Rattle.std.proofs.lemmas.Bool.{cases_lt}
-use Rattle.field_tables.specs.declared.field.Register.TheVariants.{CApplyDPInit, CDPDeinit, CStagedControl}
+use Rattle.field_tables.specs.declared.field.Register.TheVariants as registers
 use Rattle.field_tables.specs.Registers.{first_byte}
 use Rattle.bus_model.proofs.Histories.{AnyPin}
 use Rattle.sim_module.proofs.RestingModule.{rest_lanes, rest_tick, take_fewer}
@@ -42,12 +42,12 @@ shows_high : (page : ℕ) (sim : SimModule) (address byte : ℕ) → Shows page 
 unfolding applied
 shows_high page sim address byte shows =
     let deinit = record sim { deinit = lanes_in byte } in
-    let staged = staged_at sim (address - first_byte CStagedControl + 1) byte in
-    let rest = if is_in CStagedControl address then staged else sim in
-    either (Shows page) (is_at CDPDeinit address) deinit (if is_at CApplyDPInit address then applied sim (lanes_in byte) else rest) (record { bank = shows.bank; number = shows.number })
-    (either (Shows page) (is_at CApplyDPInit address) (applied sim (lanes_in byte)) rest
+    let staged = staged_at sim (address - first_byte registers.StagedControl + 1) byte in
+    let rest = if is_in registers.StagedControl address then staged else sim in
+    either (Shows page) (is_at registers.DPDeinit address) deinit (if is_at registers.ApplyDPInit address then applied sim (lanes_in byte) else rest) (record { bank = shows.bank; number = shows.number })
+    (either (Shows page) (is_at registers.ApplyDPInit address) (applied sim (lanes_in byte)) rest
     (either (Shows page) _ sim (applied_all sim (lanes_in byte)) shows (record { bank = shows.bank; number = shows.number }))
-    (either (Shows page) (is_in CStagedControl address) staged sim (record { bank = shows.bank; number = shows.number }) shows))
+    (either (Shows page) (is_in registers.StagedControl address) staged sim (record { bank = shows.bank; number = shows.number }) shows))
 
 -- an address that neither BankSelect nor PageSelect has
 low_tests : (address : ℕ) → address < 126 → ((address == 126) ≡ false) × ((address == 127) ≡ false)

@@ -18,7 +18,7 @@ use Rattle.control_sets.specs.OutcomeAnswers.{EndsIn}
 use Rattle.control_sets.specs.OutcomeCodes.{IsOf}
 use Rattle.control_sets.specs.OutcomeOperations.{Confirms, apply, control_page, read_active, read_path_states, read_staged, read_statuses, set_deinit, stage, status_page}
 use Rattle.control_sets.specs.OutcomeOfProvisioning.{EndsProvisioning, FindsApplied, FindsDeactivated, IsProvisioning, IsProvisioningStep, WantsControls}
-use Rattle.field_tables.specs.declared.field.Register.TheVariants.{CActiveControl, CApplyDPInit, CConfigStatus, CStagedControl}
+use Rattle.field_tables.specs.declared.field.Register.TheVariants as registers
 use Rattle.field_tables.specs.Registers.{byte_count, first_byte}
 use Rattle.sim_module.specs.ActiveSets.{ActiveIsPlanned, ActiveIsPlannedOn, HasNoApply}
 use Rattle.sim_module.specs.Soundness.{IsSound}
@@ -73,9 +73,9 @@ shown_on control lanes step before offset count high is (inl (inr (inr (inr (inl
 shown_on control lanes step before offset count high is (inl (inr (inr (inr (inr none))))) = absurd none
 shown_on control lanes step before offset count high is (inr (inl shown)) = shown.1
 shown_on control lanes step before offset count high is (inr (inr (inl low, confirmed))) = let far : offset ≡ 128 = ap offset_of (sym is ∙ low) in absurd (omega (arith, far, high))
-shown_on control lanes step before offset count high is (inr (inr (inr (inl low), confirmed))) = let far : offset ≡ first_byte CStagedControl = ap offset_of (sym is ∙ low) in absurd (omega (arith, far, high))
-shown_on control lanes step before offset count high is (inr (inr (inr (inr (inl low)), confirmed))) = let far : offset ≡ first_byte CStagedControl = ap offset_of (sym is ∙ low) in absurd (omega (arith, far, high))
-shown_on control lanes step before offset count high is (inr (inr (inr (inr (inr (inl low))), confirmed))) = let far : offset ≡ first_byte CApplyDPInit = ap offset_of (sym is ∙ low) in absurd (omega (arith, far, high))
+shown_on control lanes step before offset count high is (inr (inr (inr (inl low), confirmed))) = let far : offset ≡ first_byte registers.StagedControl = ap offset_of (sym is ∙ low) in absurd (omega (arith, far, high))
+shown_on control lanes step before offset count high is (inr (inr (inr (inr (inl low)), confirmed))) = let far : offset ≡ first_byte registers.StagedControl = ap offset_of (sym is ∙ low) in absurd (omega (arith, far, high))
+shown_on control lanes step before offset count high is (inr (inr (inr (inr (inr (inl low))), confirmed))) = let far : offset ≡ first_byte registers.ApplyDPInit = ap offset_of (sym is ∙ low) in absurd (omega (arith, far, high))
 shown_on control lanes step before offset count high is (inr (inr (inr (inr (inr (inr none))), confirmed))) = absurd none
 
 -- a store that is none but a selection of page 10h
@@ -130,8 +130,8 @@ module _ (control : List ℕ) (lanes : Lanes) {full : Type 0} (history : History
       let bytes = found.holds.0 in
       let newer = found.newer in
       let older = found.older in
-      let statuses = read (first_byte CConfigStatus) (byte_count CConfigStatus) bytes in
-      let last = read (first_byte CActiveControl) (byte_count CActiveControl) control in
+      let statuses = read (first_byte registers.ConfigStatus) (byte_count registers.ConfigStatus) bytes in
+      let last = read (first_byte registers.ActiveControl) (byte_count registers.ActiveControl) control in
       let statuses_are : found.step ≡ statuses = λ i. record { op = found.holds.1.0 i; reply = found.holds.1.1 i } in
       let last_is : ends.last ≡ last = λ i. record { op = ends.ends.0 i; reply = ends.ends.1 i } in
       let before_is : ends.before ≡ newer ++ statuses ∷ older = found.split ∙ ap (λ (s : Step). newer ++ s ∷ older) statuses_are in
@@ -155,8 +155,8 @@ module _ (control : List ℕ) (lanes : Lanes) {full : Type 0} (history : History
         before = older;
         split = whole;
         success = found.holds.2;
-        shown = shown_on control lanes statuses older (first_byte CConfigStatus) (byte_count CConfigStatus) (omega arith) refl (each_at (IsProvisioningStep control lanes) newer statuses older shape.1);
-        still_shown = shown_on control lanes last (newer ++ statuses ∷ older) (first_byte CActiveControl) (byte_count CActiveControl) (omega arith) refl shape.0;
+        shown = shown_on control lanes statuses older (first_byte registers.ConfigStatus) (byte_count registers.ConfigStatus) (omega arith) refl (each_at (IsProvisioningStep control lanes) newer statuses older shape.1);
+        still_shown = shown_on control lanes last (newer ++ statuses ∷ older) (first_byte registers.ActiveControl) (byte_count registers.ActiveControl) (omega arith) refl shape.0;
         no_controls = no_controls control lanes newer (statuses ∷ older) shape.1 controls.1 (inr applied) (inr taken);
         shape = (each_older (IsProvisioningStep control lanes) newer (statuses ∷ older) shape.1).1;
         applied = applied;

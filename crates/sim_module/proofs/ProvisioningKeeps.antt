@@ -10,7 +10,7 @@ use Rattle.bus_model.specs.declared.operation.Op.TheVariants.{Fetch, Store}
 use Rattle.bus_model.specs.declared.operation.Step.{Step}
 use Rattle.bus_model.specs.Keeping.{IsKeptBy}
 use Rattle.field_tables.specs.LaneSets.{Lanes, byte_of, lanes_in}
-use Rattle.field_tables.specs.declared.field.Register.TheVariants.{CActiveControl, CApplyDPInit, CConfigStatus, CStagedControl}
+use Rattle.field_tables.specs.declared.field.Register.TheVariants as registers
 use Rattle.field_tables.specs.Registers.{byte_count, first_byte}
 use Rattle.paged_memory.specs.declared.mapped_page.MappedPage.{MappedPage}
 use Rattle.plan_certificate.proofs.Lists.{all_of_append}
@@ -47,10 +47,10 @@ restaged f lanes i j byte same = places lanes i j (record (get_or lanes i no_lan
   places (l ∷ ls) (suc i) zero new same = refl
   places (l ∷ ls) (suc i) (suc j) new same = places ls i j new same
 
-not_128 : (address : ℕ) → first_byte CStagedControl ≤ address → (address == 128) ≡ false
+not_128 : (address : ℕ) → first_byte registers.StagedControl ≤ address → (address == 128) ≡ false
 not_128 address high = grind (arith, nat_tests)
 
-not_at_apply : (address : ℕ) → first_byte CStagedControl ≤ address → (address == first_byte CApplyDPInit) ≡ false
+not_at_apply : (address : ℕ) → first_byte registers.StagedControl ≤ address → (address == first_byte registers.ApplyDPInit) ≡ false
 not_at_apply address high = grind (arith, nat_tests)
 
 module _ (P : SimModule → Type 0) (bits : ℕ) (survives : SurvivesChanges P bits) where
@@ -89,7 +89,7 @@ module _ (P : SimModule → Type 0) (bits : ℕ) (survives : SurvivesChanges P b
   unfolding stored_byte
   deinit_byte sim holds = either P (is_mapped sim 0x10) (record sim { deinit = lanes_in bits }) sim (survives.deinit sim holds) holds
 
-  apply_byte : (sim : SimModule) → P sim → P (stored_byte sim (first_byte CApplyDPInit) bits)
+  apply_byte : (sim : SimModule) → P sim → P (stored_byte sim (first_byte registers.ApplyDPInit) bits)
   unfolding stored_byte
   apply_byte sim holds = either P (is_mapped sim 0x10) (applied sim (lanes_in bits)) sim (survives.apply sim holds) holds
 
@@ -105,28 +105,28 @@ module _ (P : SimModule → Type 0) (bits : ℕ) (survives : SurvivesChanges P b
 
   -- ---- the staged bytes, however many
 
-  staged_byte : (sim : SimModule) (address byte : ℕ) → first_byte CStagedControl ≤ address → P sim → P (stored_byte sim address byte)
+  staged_byte : (sim : SimModule) (address byte : ℕ) → first_byte registers.StagedControl ≤ address → P sim → P (stored_byte sim address byte)
   unfolding stored_byte
   staged_byte sim address byte high holds =
       let upper : 128 ≤ address = omega (arith, high) in
-      let staged = staged_at sim (address - first_byte CStagedControl + 1) byte in
-      let rest = if is_in CStagedControl address then staged else sim in
-      let applies = if address == first_byte CApplyDPInit then applied sim (lanes_in byte) else rest in
+      let staged = staged_at sim (address - first_byte registers.StagedControl + 1) byte in
+      let rest = if is_in registers.StagedControl address then staged else sim in
+      let applies = if address == first_byte registers.ApplyDPInit then applied sim (lanes_in byte) else rest in
       let control : P (stored_high sim address byte) =
       subst (λ (t : Bool). P (if t then record sim { deinit = lanes_in byte } else applies)) (sym (not_128 address high))
       (subst (λ (t : Bool). P (if t then applied sim (lanes_in byte) else rest)) (sym (not_at_apply address high))
-      (either P (is_in CStagedControl address) staged sim (survives.staged sim (address - first_byte CStagedControl + 1) byte holds) holds)) in
+      (either P (is_in registers.StagedControl address) staged sim (survives.staged sim (address - first_byte registers.StagedControl + 1) byte holds) holds)) in
       subst (λ (low : Bool). P (if low then stored_low sim address byte else if is_mapped sim 0x10 then stored_high sim address byte else sim)) (sym (high_test address upper))
       (either P (is_mapped sim 0x10) (stored_high sim address byte) sim control holds)
 
-  staged_bytes : (sim : SimModule) (address : ℕ) (bytes : List ℕ) → first_byte CStagedControl ≤ address → P sim → P (stored_bytes sim address bytes)
+  staged_bytes : (sim : SimModule) (address : ℕ) (bytes : List ℕ) → first_byte registers.StagedControl ≤ address → P sim → P (stored_bytes sim address bytes)
   staged_bytes sim address [] high holds = holds
   staged_bytes sim address (byte ∷ bytes) high holds = staged_bytes (stored_byte sim address byte) (address + 1) bytes (omega (arith, high)) (staged_byte sim address byte high holds)
 
-  by_stage : (bytes : List ℕ) → IsKeptBy conduct P (Store A0 (first_byte CStagedControl) (record { items = bytes }))
+  by_stage : (bytes : List ℕ) → IsKeptBy conduct P (Store A0 (first_byte registers.StagedControl) (record { items = bytes }))
   by_stage bytes = (
-    λ sim holds. stored_keeps P sim A0 (first_byte CStagedControl) bytes holds (staged_bytes sim (first_byte CStagedControl) bytes (omega arith) holds),
-    λ sim k holds. stored_keeps P sim A0 (first_byte CStagedControl) (take k bytes) holds (staged_bytes sim (first_byte CStagedControl) (take k bytes) (omega arith) holds),
+    λ sim holds. stored_keeps P sim A0 (first_byte registers.StagedControl) bytes holds (staged_bytes sim (first_byte registers.StagedControl) bytes (omega arith) holds),
+    λ sim k holds. stored_keeps P sim A0 (first_byte registers.StagedControl) (take k bytes) holds (staged_bytes sim (first_byte registers.StagedControl) (take k bytes) (omega arith) holds),
   )
 
 -- ---- step by step
@@ -145,13 +145,13 @@ module _ (control : List ℕ) (lanes : Lanes) (P : SimModule → Type 0) (surviv
   by_step step before (inl (inr (inr (inr (inl is))))) = by_op P _ _ is (by_selection P bits survives 0 status_page)
   by_step step before (inl (inr (inr (inr (inr none))))) = absurd none
   by_step step before (inr (inl (inl is, confirmed))) = by_op P _ _ is (by_fetch P bits survives A0 128 4)
-  by_step step before (inr (inl (inr (inl is), confirmed))) = by_op P _ _ is (by_fetch P bits survives A0 (first_byte CConfigStatus) (byte_count CConfigStatus))
-  by_step step before (inr (inl (inr (inr (inl is)), confirmed))) = by_op P _ _ is (by_fetch P bits survives A0 (first_byte CActiveControl) (byte_count CActiveControl))
+  by_step step before (inr (inl (inr (inl is), confirmed))) = by_op P _ _ is (by_fetch P bits survives A0 (first_byte registers.ConfigStatus) (byte_count registers.ConfigStatus))
+  by_step step before (inr (inl (inr (inr (inl is)), confirmed))) = by_op P _ _ is (by_fetch P bits survives A0 (first_byte registers.ActiveControl) (byte_count registers.ActiveControl))
   by_step step before (inr (inl (inr (inr (inr none)), confirmed))) = absurd none
   by_step step before (inr (inr (inl is, confirmed))) = by_op P _ _ is (by_one_byte P bits survives 128 bits (deinit_byte P bits survives))
   by_step step before (inr (inr (inr (inl is), confirmed))) = by_op P _ _ is (by_stage P bits survives control)
-  by_step step before (inr (inr (inr (inr (inl is)), confirmed))) = by_op P _ _ is (by_fetch P bits survives A0 (first_byte CStagedControl) (byte_count CStagedControl))
-  by_step step before (inr (inr (inr (inr (inr (inl is))), confirmed))) = by_op P _ _ is (by_one_byte P bits survives (first_byte CApplyDPInit) bits (apply_byte P bits survives))
+  by_step step before (inr (inr (inr (inr (inl is)), confirmed))) = by_op P _ _ is (by_fetch P bits survives A0 (first_byte registers.StagedControl) (byte_count registers.StagedControl))
+  by_step step before (inr (inr (inr (inr (inr (inl is))), confirmed))) = by_op P _ _ is (by_one_byte P bits survives (first_byte registers.ApplyDPInit) bits (apply_byte P bits survives))
   by_step step before (inr (inr (inr (inr (inr (inr none))), confirmed))) = absurd none
 
   pub each_keeps : (history : History) → EachStep (IsProvisioningStep control lanes) history → AllByRecursion (λ step. IsKeptBy conduct P step.op) history

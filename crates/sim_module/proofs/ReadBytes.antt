@@ -10,7 +10,7 @@ use Rattle.paged_memory.specs.Images.{place_in_half}
 use Rattle.field_tables.specs.LaneSets.{IsLane, Lanes}
 use Rattle.control_sets.specs.OutcomeCodes.{IsOf}
 use Rattle.datapath_states.specs.StatusCodes.{status_code_of}
-use Rattle.field_tables.specs.declared.field.Register.TheVariants.{CActiveControl, CConfigStatus}
+use Rattle.field_tables.specs.declared.field.Register.TheVariants as registers
 use Rattle.field_tables.specs.Registers.{byte_count, first_byte}
 use Rattle.sim_module.specs.declared.lane.Lane.{Lane}
 use Rattle.sim_module.specs.declared.module.SimModule.{SimModule}
@@ -73,16 +73,16 @@ on_statuses sim page address high shows =
     ∙ ap (λ (on : Bool). first_shown (if on then status_bytes sim address else []) byte) (is_on sim shows)
 
 -- the statuses that are read
-shown_statuses : (sim : SimModule) (page : List ℕ) → Shows 0x11 sim → map (shown_byte sim page) (range_with_len (first_byte CConfigStatus) (byte_count CConfigStatus)) ≡
+shown_statuses : (sim : SimModule) (page : List ℕ) → Shows 0x11 sim → map (shown_byte sim page) (range_with_len (first_byte registers.ConfigStatus) (byte_count registers.ConfigStatus)) ≡
     (status_code sim 1 + 16 * status_code sim 2) ∷ (status_code sim 3 + 16 * status_code sim 4) ∷ (status_code sim 5 + 16 * status_code sim 6) ∷ (status_code sim 7 + 16 * status_code sim 8) ∷ []
 shown_statuses sim page shows = λ i.
-    on_statuses sim page (first_byte CConfigStatus) (omega arith) shows i ∷ on_statuses sim page (first_byte CConfigStatus + 1) (omega arith) shows i ∷ on_statuses sim page (first_byte CConfigStatus + 2) (omega arith) shows i ∷ on_statuses sim page (first_byte CConfigStatus + 3) (omega arith) shows i ∷ []
+    on_statuses sim page (first_byte registers.ConfigStatus) (omega arith) shows i ∷ on_statuses sim page (first_byte registers.ConfigStatus + 1) (omega arith) shows i ∷ on_statuses sim page (first_byte registers.ConfigStatus + 2) (omega arith) shows i ∷ on_statuses sim page (first_byte registers.ConfigStatus + 3) (omega arith) shows i ∷ []
 
 -- the control bytes that are read
-shown_active : (sim : SimModule) (page : List ℕ) → Shows 0x11 sim → map (shown_byte sim page) (range_with_len (first_byte CActiveControl) (byte_count CActiveControl)) ≡ map (λ lane. (lane_at sim lane).active) (range_with_len 1 8)
+shown_active : (sim : SimModule) (page : List ℕ) → Shows 0x11 sim → map (shown_byte sim page) (range_with_len (first_byte registers.ActiveControl) (byte_count registers.ActiveControl)) ≡ map (λ lane. (lane_at sim lane).active) (range_with_len 1 8)
 shown_active sim page shows = λ i.
-    on_statuses sim page (first_byte CActiveControl) (omega arith) shows i ∷ on_statuses sim page (first_byte CActiveControl + 1) (omega arith) shows i ∷ on_statuses sim page (first_byte CActiveControl + 2) (omega arith) shows i ∷ on_statuses sim page (first_byte CActiveControl + 3) (omega arith) shows i
-    ∷ on_statuses sim page (first_byte CActiveControl + 4) (omega arith) shows i ∷ on_statuses sim page (first_byte CActiveControl + 5) (omega arith) shows i ∷ on_statuses sim page (first_byte CActiveControl + 6) (omega arith) shows i ∷ on_statuses sim page (first_byte CActiveControl + 7) (omega arith) shows i ∷ []
+    on_statuses sim page (first_byte registers.ActiveControl) (omega arith) shows i ∷ on_statuses sim page (first_byte registers.ActiveControl + 1) (omega arith) shows i ∷ on_statuses sim page (first_byte registers.ActiveControl + 2) (omega arith) shows i ∷ on_statuses sim page (first_byte registers.ActiveControl + 3) (omega arith) shows i
+    ∷ on_statuses sim page (first_byte registers.ActiveControl + 4) (omega arith) shows i ∷ on_statuses sim page (first_byte registers.ActiveControl + 5) (omega arith) shows i ∷ on_statuses sim page (first_byte registers.ActiveControl + 6) (omega arith) shows i ∷ on_statuses sim page (first_byte registers.ActiveControl + 7) (omega arith) shows i ∷ []
 
 active_by_lane : (sim : SimModule) → length sim.lanes ≡ 8 → active_bytes sim ≡ map (λ lane. (lane_at sim lane).active) (range_with_len 1 8)
 active_by_lane sim eight =
@@ -94,9 +94,9 @@ active_by_lane sim eight =
     get_or-map active sim.lanes k no_lane 0 (omega (arith, below, len, eight)) ∙ ap (λ (n : ℕ). (get_or sim.lanes n no_lane).active) (sym index))
 
 -- the active control set is what is read of it
-pub read_active : (sim : SimModule) (control : List ℕ) → Shows 0x11 sim → length sim.lanes ≡ 8 → (fetched sim A0 (first_byte CActiveControl) (byte_count CActiveControl)).0 ≡ Some control → active_bytes sim ≡ control
+pub read_active : (sim : SimModule) (control : List ℕ) → Shows 0x11 sim → length sim.lanes ≡ 8 → (fetched sim A0 (first_byte registers.ActiveControl) (byte_count registers.ActiveControl)).0 ≡ Some control → active_bytes sim ≡ control
 read_active sim control shows eight answered =
-    let read = reads sim (first_byte CActiveControl) (byte_count CActiveControl) control answered in
+    let read = reads sim (first_byte registers.ActiveControl) (byte_count registers.ActiveControl) control answered in
     active_by_lane sim eight ∙ sym (shown_active sim read.page shows) ∙ read.bytes_are
 
 odd_one : (code other : ℕ) → (code % 16 + 16 * (other % 16)) % 16 ≡ 1 → (code == 12) ≡ false
@@ -109,9 +109,9 @@ pair_byte_fits : (code other : ℕ) → code % 16 + 16 * (other % 16) < 256
 pair_byte_fits code other = omega arith
 
 -- a lane of which the status ConfigSuccess is read isn't in progress
-read_status : (sim : SimModule) (bytes : List ℕ) → Shows 0x11 sim → (fetched sim A0 (first_byte CConfigStatus) (byte_count CConfigStatus)).0 ≡ Some bytes → (lane : ℕ) → IsLane lane → code_in bytes lane ≡ 1 → is_in_progress (lane_at sim lane) ≡ false
+read_status : (sim : SimModule) (bytes : List ℕ) → Shows 0x11 sim → (fetched sim A0 (first_byte registers.ConfigStatus) (byte_count registers.ConfigStatus)).0 ≡ Some bytes → (lane : ℕ) → IsLane lane → code_in bytes lane ≡ 1 → is_in_progress (lane_at sim lane) ≡ false
 read_status sim bytes shows answered lane within success =
-    let answer = reads sim (first_byte CConfigStatus) (byte_count CConfigStatus) bytes answered in
+    let answer = reads sim (first_byte registers.ConfigStatus) (byte_count registers.ConfigStatus) bytes answered in
     let code : ℕ → ℕ = status_code sim in
     let whole : ℕ → ℕ = λ lane. status_code_of (lane_at sim lane).status in
     let shown : List ℕ = (code 1 + 16 * code 2) ∷ (code 3 + 16 * code 4) ∷ (code 5 + 16 * code 6) ∷ (code 7 + 16 * code 8) ∷ [] in
@@ -131,14 +131,14 @@ none_kept : (kept : Option ℕ) (progress : Bool) → progress ≡ false → (Is
 none_kept None progress off tells = refl
 none_kept (Some byte) progress off tells = let on : progress ≡ true = tells refl in cc
 
-none_held : (sim : SimModule) (lanes : Lanes) (bytes : List ℕ) → IsSound sim → Shows 0x11 sim → HoldsOnly lanes sim → (fetched sim A0 (first_byte CConfigStatus) (byte_count CConfigStatus)).0 ≡ Some bytes → SaySuccess lanes bytes →
+none_held : (sim : SimModule) (lanes : Lanes) (bytes : List ℕ) → IsSound sim → Shows 0x11 sim → HoldsOnly lanes sim → (fetched sim A0 (first_byte registers.ConfigStatus) (byte_count registers.ConfigStatus)).0 ≡ Some bytes → SaySuccess lanes bytes →
     (lane : ℕ) → IsLane lane → (inside : Bool) → set.contains lanes lane ≡ inside → (lane_at sim lane).applying ≡ None
 none_held sim lanes bytes sound shows held answered success lane within true is =
     none_kept (lane_at sim lane).applying (is_in_progress (lane_at sim lane)) (read_status sim bytes shows answered lane within (success lane (within, is))) (sound.progress lane)
 none_held sim lanes bytes sound shows held answered success lane within false is = held lane within is
 
 -- so the module is idle, with what is active
-pub idle_after_success : (sim : SimModule) (lanes : Lanes) (bytes : List ℕ) → IsSound sim → Shows 0x11 sim → HoldsOnly lanes sim → (fetched sim A0 (first_byte CConfigStatus) (byte_count CConfigStatus)).0 ≡ Some bytes → SaySuccess lanes bytes → IsIdle (active_bytes sim) sim
+pub idle_after_success : (sim : SimModule) (lanes : Lanes) (bytes : List ℕ) → IsSound sim → Shows 0x11 sim → HoldsOnly lanes sim → (fetched sim A0 (first_byte registers.ConfigStatus) (byte_count registers.ConfigStatus)).0 ≡ Some bytes → SaySuccess lanes bytes → IsIdle (active_bytes sim) sim
 idle_after_success sim lanes bytes sound shows held answered success = record {
   off = not_mapped sim shows;
   rest = record {

@@ -7,7 +7,7 @@ use Rattle.bus_model.specs.declared.device.Dev.{Dev}
 use Rattle.bus_model.specs.declared.device.Dev.TheVariants.{A0, A2}
 use Rattle.field_tables.specs.LaneSets.{Lanes, is_empty, lanes_in}
 use Rattle.datapath_states.specs.declared.status.ConfigStatus.TheVariants.{Rejected}
-use Rattle.field_tables.specs.declared.field.Register.TheVariants.{CApplyDPInit, CDPDeinit, CStagedControl}
+use Rattle.field_tables.specs.declared.field.Register.TheVariants as registers
 use Rattle.field_tables.specs.Registers.{first_byte}
 use Rattle.sim_module.specs.declared.lane.Lane.{Lane}
 use Rattle.sim_module.specs.declared.delays.Delays.{Delays}
@@ -26,7 +26,6 @@ use Rattle.sim_module.specs.Modules.{conduct}
 use Rattle.sim_module.specs.Soundness.{IsAlwaysKept, IsSound, TellsProgress}
 use Rattle.sim_module.specs.Starts.{start, start_lane}
 use Rattle.paged_memory.specs.Images.{Memory}
-use Rattle.field_tables.specs.declared.field.Register.TheVariants.{CStagedControl}
 
 -- each of the lanes that are made one by one
 pub made_keeps : {X : Type 0} (P : X → Type 0) (f : ℕ → X) (d : X) → ((n : ℕ) → P (f n)) → P d → (ns : List ℕ) (k : ℕ) → P (get_or (map f ns) k d)
@@ -90,11 +89,11 @@ sound_low sim address byte sound = record { eight = sound.eight; progress = soun
 sound_high : (sim : SimModule) (address byte : ℕ) → IsSound sim → IsSound (stored_high sim address byte)
 sound_high sim address byte sound =
     let deinit = record sim { deinit = lanes_in byte } in
-    let staged = staged_at sim (address - first_byte CStagedControl + 1) byte in
-    let rest = if is_in CStagedControl address then staged else sim in
-    either IsSound (is_at CDPDeinit address) deinit (if is_at CApplyDPInit address then applied sim (lanes_in byte) else rest) (record { eight = sound.eight; progress = sound.progress })
-    (either IsSound (is_at CApplyDPInit address) (applied sim (lanes_in byte)) rest (sound_applied sim (lanes_in byte) sound)
-    (either IsSound (is_in CStagedControl address) staged sim (sound_staged sim (address - first_byte CStagedControl + 1) byte sound) sound))
+    let staged = staged_at sim (address - first_byte registers.StagedControl + 1) byte in
+    let rest = if is_in registers.StagedControl address then staged else sim in
+    either IsSound (is_at registers.DPDeinit address) deinit (if is_at registers.ApplyDPInit address then applied sim (lanes_in byte) else rest) (record { eight = sound.eight; progress = sound.progress })
+    (either IsSound (is_at registers.ApplyDPInit address) (applied sim (lanes_in byte)) rest (sound_applied sim (lanes_in byte) sound)
+    (either IsSound (is_in registers.StagedControl address) staged sim (sound_staged sim (address - first_byte registers.StagedControl + 1) byte sound) sound))
 
 pub sound_byte : (sim : SimModule) (address byte : ℕ) → IsSound sim → IsSound (stored_byte sim address byte)
 unfolding stored_byte

@@ -1,7 +1,7 @@
 -- No event changes the memory of a module, nor what that advertises.
 use Rattle.std.proofs.Common.{◌≡◌, ℕ, ◌+◌, ◌-◌, Bool, List, [], ◌∷◌, refl, ◌∙◌, if◌then◌else◌, nat_lt}
 use Rattle.field_tables.specs.LaneSets.{Lanes, is_empty, lanes_in}
-use Rattle.field_tables.specs.declared.field.Register.TheVariants.{CApplyDPInit, CDPDeinit, CStagedControl}
+use Rattle.field_tables.specs.declared.field.Register.TheVariants as registers
 use Rattle.field_tables.specs.Registers.{first_byte}
 use Rattle.sim_module.specs.declared.module.SimModule.{SimModule}
 use Rattle.sim_module.specs.Record.{fixed_of}
@@ -23,11 +23,11 @@ same_applied sim mask = either (IsSame sim) (is_empty mask) sim (applied_all sim
 same_high : (sim : SimModule) (address byte : ℕ) → IsSame sim (stored_high sim address byte)
 same_high sim address byte =
     let deinit = record sim { deinit = lanes_in byte } in
-    let staged = staged_at sim (address - first_byte CStagedControl + 1) byte in
-    let rest = if is_in CStagedControl address then staged else sim in
-    either (IsSame sim) (is_at CDPDeinit address) deinit (if is_at CApplyDPInit address then applied sim (lanes_in byte) else rest) refl
-    (either (IsSame sim) (is_at CApplyDPInit address) (applied sim (lanes_in byte)) rest (same_applied sim (lanes_in byte))
-    (either (IsSame sim) (is_in CStagedControl address) staged sim refl refl))
+    let staged = staged_at sim (address - first_byte registers.StagedControl + 1) byte in
+    let rest = if is_in registers.StagedControl address then staged else sim in
+    either (IsSame sim) (is_at registers.DPDeinit address) deinit (if is_at registers.ApplyDPInit address then applied sim (lanes_in byte) else rest) refl
+    (either (IsSame sim) (is_at registers.ApplyDPInit address) (applied sim (lanes_in byte)) rest (same_applied sim (lanes_in byte))
+    (either (IsSame sim) (is_in registers.StagedControl address) staged sim refl refl))
 
 same_byte : (sim : SimModule) (address byte : ℕ) → IsSame sim (stored_byte sim address byte)
 unfolding stored_byte

@@ -7,7 +7,8 @@ use Rattle.std.specs.FinSet as set
 use Rattle.field_tables.specs.FieldValues.{is_set}
 use Rattle.field_tables.specs.FirstFault.{first_fault}
 use Rattle.field_tables.specs.LaneSets.{Lanes, is_empty, run_of}
-use Rattle.field_tables.specs.declared.field.Field.TheVariants.{CStagedExplicit}
+use Rattle.field_tables.specs.declared.field.Field.TheVariants as fields
+use Rattle.field_tables.specs.declared.table.cmis.CmisField.TheVariants as cmis
 use Rattle.applications.specs.declared.app.App.{App}
 use Rattle.applications.specs.Advertised.{Advertised}
 use Rattle.applications.specs.Usable.{is_usable}
@@ -39,7 +40,7 @@ abbrev pub staged_first : SimModule → ℕ → ℕ
 staged_first sim lane = first_lane (control_at (staged_bytes sim) lane)
 
 abbrev pub is_explicit : SimModule → ℕ → Bool
-is_explicit sim lane = is_set CStagedExplicit (lane_at sim lane).staged
+is_explicit sim lane = is_set (fields.Cmis cmis.StagedExplicit) (lane_at sim lane).staged
 
 -- the lanes are staged as this lane is, but for ExplicitControl
 abbrev pub are_staged_alike : SimModule → Lanes → ℕ → Bool

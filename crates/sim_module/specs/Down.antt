@@ -4,7 +4,8 @@ use Rattle.std.specs.Prelude.{ℕ, ◌==◌, ◌&&◌, ◌||◌, Bool, not}
 use Rattle.std.specs.List.{list_any}
 use Rattle.std.specs.FinSet as set
 use Rattle.field_tables.specs.FieldValues.{is_set}
-use Rattle.field_tables.specs.declared.field.Field.TheVariants.{CLowPwrAllowHW, CLowPwrRequestSW}
+use Rattle.field_tables.specs.declared.field.Field.TheVariants as fields
+use Rattle.field_tables.specs.declared.table.cmis.CmisField.TheVariants as cmis
 use Rattle.module_states.specs.Codes.{code_of}
 use Rattle.module_states.specs.LowPower.{is_low_power}
 use Rattle.module_states.specs.declared.state.ModuleState.TheVariants.{Ready}
@@ -14,7 +15,7 @@ use Rattle.sim_module.specs.Lanes.{active_bytes, all_lanes, is_in_progress, lane
 
 -- by the byte of global controls and the pin
 abbrev pub asks_low_power : ℕ → Bool → Bool
-asks_low_power control pin = is_low_power (is_set CLowPwrAllowHW control) pin (is_set CLowPwrRequestSW control)
+asks_low_power control pin = is_low_power (is_set (fields.Cmis cmis.LowPwrAllowHW) control) pin (is_set (fields.Cmis cmis.LowPwrRequestSW) control)
 
 abbrev pub has_low_power : SimModule → Bool
 has_low_power sim = asks_low_power sim.control sim.pin

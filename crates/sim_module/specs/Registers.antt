@@ -5,7 +5,7 @@ use Rattle.field_tables.specs.FieldRows.{row_of}
 use Rattle.field_tables.specs.Registers.{byte_count, first_byte}
 use Rattle.field_tables.specs.declared.field.Field.{Field}
 use Rattle.field_tables.specs.declared.field.Register.{Register}
-use Rattle.field_tables.specs.declared.field.Register.TheVariants.{CLaneFlags}
+use Rattle.field_tables.specs.declared.field.Register.TheVariants as registers
 
 -- the address is one of so many from a first one on
 abbrev pub is_from : ℕ → ℕ → ℕ → Bool
@@ -25,4 +25,4 @@ is_in register address = is_from (first_byte register) (byte_count register) add
 
 -- how many bytes have flags of the lanes
 abbrev pub lane_flag_bytes : ℕ
-lane_flag_bytes = byte_count CLaneFlags
+lane_flag_bytes = byte_count registers.LaneFlags

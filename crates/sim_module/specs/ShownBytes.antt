@@ -7,8 +7,9 @@ use Rattle.bus_model.specs.declared.device.Dev.{Dev}
 use Rattle.bus_model.specs.declared.device.Dev.TheVariants.{A0, A2}
 use Rattle.paged_memory.specs.Images.{place_in_half}
 use Rattle.field_tables.specs.LaneSets.{byte_of}
-use Rattle.field_tables.specs.declared.field.Field.TheVariants.{CBankSelect, CPageSelect}
-use Rattle.field_tables.specs.declared.field.Register.TheVariants.{CGlobalStatus, CModuleFlags, CGlobalControls, CDPDeinit, CApplyDPInit, CStagedControl, CPathStates, CLaneFlags, CConfigStatus, CActiveControl}
+use Rattle.field_tables.specs.declared.field.Field.TheVariants as fields
+use Rattle.field_tables.specs.declared.table.cmis.CmisField.TheVariants as cmis
+use Rattle.field_tables.specs.declared.field.Register.TheVariants as registers
 use Rattle.field_tables.specs.Registers.{first_byte}
 use Rattle.control_sets.specs.OutcomeOperations.{control_page, status_page}
 use Rattle.module_states.specs.Codes as module_codes
@@ -48,28 +49,28 @@ first_shown bytes byte = unwrap_or (option_map (λ shown. shown.1) (find (λ sho
 -- of lower memory, the bytes that aren't the image's (given its byte there)
 abbrev pub lower_bytes : SimModule → ℕ → ℕ → List (Bool × ℕ)
 lower_bytes sim byte address =
-    (is_at CGlobalStatus address, state_byte sim byte)
-    ∷ (is_at CModuleFlags address, sim.module_flags)
-    ∷ (is_at CGlobalControls address, control_byte sim)
-    ∷ (is_field_at CBankSelect address, sim.selection.bank)
-    ∷ (is_field_at CPageSelect address, sim.selection.page)
+    (is_at registers.GlobalStatus address, state_byte sim byte)
+    ∷ (is_at registers.ModuleFlags address, sim.module_flags)
+    ∷ (is_at registers.GlobalControls address, control_byte sim)
+    ∷ (is_field_at (fields.Cmis cmis.BankSelect) address, sim.selection.bank)
+    ∷ (is_field_at (fields.Cmis cmis.PageSelect) address, sim.selection.page)
     ∷ []
 
 -- of the page of lane control
 abbrev pub configuration_bytes : SimModule → ℕ → List (Bool × ℕ)
 configuration_bytes sim address =
-    (is_at CDPDeinit address, byte_of sim.deinit)
-    ∷ (is_at CApplyDPInit address, 0)
-    ∷ (is_in CStagedControl address, (lane_at sim (address - first_byte CStagedControl + 1)).staged)
+    (is_at registers.DPDeinit address, byte_of sim.deinit)
+    ∷ (is_at registers.ApplyDPInit address, 0)
+    ∷ (is_in registers.StagedControl address, (lane_at sim (address - first_byte registers.StagedControl + 1)).staged)
     ∷ []
 
 -- of the page of lane status
 abbrev pub status_bytes : SimModule → ℕ → List (Bool × ℕ)
 status_bytes sim address =
-    (is_in CPathStates address, pair_byte (path_code sim) (address - first_byte CPathStates))
-    ∷ (is_in CLaneFlags address, slice_index sim.lane_flags (address - first_byte CLaneFlags))
-    ∷ (is_in CConfigStatus address, pair_byte (status_code sim) (address - first_byte CConfigStatus))
-    ∷ (is_in CActiveControl address, (lane_at sim (address - first_byte CActiveControl + 1)).active)
+    (is_in registers.PathStates address, pair_byte (path_code sim) (address - first_byte registers.PathStates))
+    ∷ (is_in registers.LaneFlags address, slice_index sim.lane_flags (address - first_byte registers.LaneFlags))
+    ∷ (is_in registers.ConfigStatus address, pair_byte (status_code sim) (address - first_byte registers.ConfigStatus))
+    ∷ (is_in registers.ActiveControl address, (lane_at sim (address - first_byte registers.ActiveControl + 1)).active)
     ∷ []
 
 -- the bytes that aren't the image's, of the half that an address is in
@@ -92,7 +93,7 @@ left_flag is_read flag = if is_read then 0 else flag
 
 -- of the flags of the lanes, by their places from the first one
 abbrev pub left_lane_flag : SimModule → (ℕ → Bool) → ℕ → ℕ
-left_lane_flag sim is_read index = left_flag (is_mapped sim status_page && is_read (first_byte CLaneFlags + index)) (slice_index sim.lane_flags index)
+left_lane_flag sim is_read index = left_flag (is_mapped sim status_page && is_read (first_byte registers.LaneFlags + index)) (slice_index sim.lane_flags index)
 
 abbrev pub left_lane_flags : SimModule → (ℕ → Bool) → List ℕ
 left_lane_flags sim is_read = map (left_lane_flag sim is_read) (range_with_len 0 lane_flag_bytes)
@@ -100,7 +101,7 @@ left_lane_flags sim is_read = map (left_lane_flag sim is_read) (range_with_len 0
 -- after the bytes at some addresses were read
 unfoldable pub cleared : SimModule → (ℕ → Bool) → SimModule
 cleared sim is_read = record sim {
-  module_flags = left_flag (is_read (first_byte CModuleFlags)) sim.module_flags;
+  module_flags = left_flag (is_read (first_byte registers.ModuleFlags)) sim.module_flags;
   lane_flags = left_lane_flags sim is_read;
 }
 

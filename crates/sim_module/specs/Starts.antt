@@ -11,7 +11,7 @@ use Rattle.field_tables.specs.FirstFault.{first_fault}
 use Rattle.field_tables.specs.Halves.{is_absent}
 use Rattle.field_tables.specs.LaneSets.{lanes_in}
 use Rattle.field_tables.specs.declared.field.Register.{Register}
-use Rattle.field_tables.specs.declared.field.Register.TheVariants.{CModuleFlags, CGlobalControls, CDPDeinit, CStagedControl, CLaneFlags, CActiveControl}
+use Rattle.field_tables.specs.declared.field.Register.TheVariants as registers
 use Rattle.field_tables.specs.Registers.{byte_count, first_byte, span_of}
 use Rattle.control_sets.specs.OutcomeOperations.{control_page, status_page}
 use Rattle.applications.specs.Refusals.{advert_fault}
@@ -40,8 +40,8 @@ start_lane memory lane = record {
   path = Deactivated;
   ticks_left = 0;
   status = Undefined;
-  staged = byte_of_register memory CStagedControl (lane - 1);
-  active = byte_of_register memory CActiveControl (lane - 1);
+  staged = byte_of_register memory registers.StagedControl (lane - 1);
+  active = byte_of_register memory registers.ActiveControl (lane - 1);
   applying = None;
 }
 
@@ -56,14 +56,14 @@ start memory delays = record {
   delays = delays;
   selection = first_page;
   pin = false;
-  control = byte_of_register memory CGlobalControls 0;
-  state = start_state (byte_of_register memory CGlobalControls 0);
+  control = byte_of_register memory registers.GlobalControls 0;
+  state = start_state (byte_of_register memory registers.GlobalControls 0);
   ticks_left = 0;
   lanes = map (start_lane memory) all_lanes;
-  deinit = lanes_in (byte_of_register memory CDPDeinit 0);
+  deinit = lanes_in (byte_of_register memory registers.DPDeinit 0);
   apply_left = 0;
-  module_flags = byte_of_register memory CModuleFlags 0;
-  lane_flags = map (byte_of_register memory CLaneFlags) (range_with_len 0 lane_flag_bytes);
+  module_flags = byte_of_register memory registers.ModuleFlags 0;
+  lane_flags = map (byte_of_register memory registers.LaneFlags) (range_with_len 0 lane_flag_bytes);
 }
 
 -- the halves that a module needs
@@ -83,7 +83,7 @@ are_delays delays =
 
 -- the active bytes of the image, lane 1 first
 abbrev pub active_at_start : Memory → List ℕ
-active_at_start memory = map (byte_of_register memory CActiveControl) (range_with_len 0 (byte_count CActiveControl))
+active_at_start memory = map (byte_of_register memory registers.ActiveControl) (range_with_len 0 (byte_count registers.ActiveControl))
 
 abbrev pub delay_fault : Delays → Option SimFault
 delay_fault delays = first_fault ((not (are_delays delays), BadDelay) ∷ [])

@@ -5,7 +5,7 @@ use Rattle.std.specs.FinMap as finmap
 use Rattle.bus_model.specs.declared.device.Dev.{Dev}
 use Rattle.bus_model.specs.declared.device.Dev.TheVariants.{A0, A2}
 use Rattle.field_tables.specs.LaneSets.{lanes_in}
-use Rattle.field_tables.specs.declared.field.Register.TheVariants.{CGlobalControls, CDPDeinit, CApplyDPInit, CStagedControl}
+use Rattle.field_tables.specs.declared.field.Register.TheVariants as registers
 use Rattle.field_tables.specs.Registers.{first_byte}
 use Rattle.control_sets.specs.OutcomeOperations.{control_page}
 use Rattle.sim_module.specs.declared.module.SimModule.{SimModule}
@@ -23,15 +23,15 @@ staged_at sim lane byte = record sim { lanes = set sim.lanes (lane - 1) (record 
 abbrev pub stored_low : SimModule → ℕ → ℕ → SimModule
 stored_low sim address byte = record sim {
   selection = selected (Some BankAndPage) sim.image sim.selection address byte;
-  control = if is_at CGlobalControls address then byte else sim.control;
+  control = if is_at registers.GlobalControls address then byte else sim.control;
 }
 
 -- on the page of lane control
 abbrev pub stored_high : SimModule → ℕ → ℕ → SimModule
 stored_high sim address byte =
-    if is_at CDPDeinit address then record sim { deinit = lanes_in byte }
-    else if is_at CApplyDPInit address then applied sim (lanes_in byte)
-    else if is_in CStagedControl address then staged_at sim (address - first_byte CStagedControl + 1) byte
+    if is_at registers.DPDeinit address then record sim { deinit = lanes_in byte }
+    else if is_at registers.ApplyDPInit address then applied sim (lanes_in byte)
+    else if is_in registers.StagedControl address then staged_at sim (address - first_byte registers.StagedControl + 1) byte
     else sim
 
 -- one byte

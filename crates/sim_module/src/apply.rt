@@ -8,7 +8,7 @@ use crate::moving::Moving;
 use applications::{Advert, App, LaneSet};
 use control_sets::{agree, control_at};
 use datapath_states::ConfigStatus;
-use field_tables::{Field, LaneNumber, is_set};
+use field_tables::{LaneNumber, field, is_set};
 
 impl Moving {
     ghost use Rattle.std.specs.Prelude.{◌≡◌, map};
@@ -57,7 +57,7 @@ impl Moving {
     fn is_explicit(&self, lane: LaneNumber) -> bool
         ensures { result ≡ spec.is_explicit (bare self.now) lane }
     {
-        is_set(Field::CStagedExplicit, self.lane(lane).staged)
+        is_set(field!(Cmis StagedExplicit), self.lane(lane).staged)
     }
 
     fn is_path_right(&self, fixed: &Fixed, lane: LaneNumber) -> bool

@@ -4,7 +4,7 @@ ghost use Rattle.sim_module.specs.Down as spec;
 
 use crate::moving::Moving;
 use control_sets::{ControlSet, agree, control_at};
-use field_tables::{Field, LaneNumber, is_set};
+use field_tables::{LaneNumber, field, is_set};
 use module_states::{ModuleState, low_power};
 
 impl Moving {
@@ -68,7 +68,7 @@ impl Moving {
 pub fn asks_low_power(control: u8, pin: bool) -> bool
     ensures { result ≡ spec.asks_low_power control pin }
 {
-    let allows_pin = is_set(Field::CLowPwrAllowHW, control);
-    let asks = is_set(Field::CLowPwrRequestSW, control);
+    let allows_pin = is_set(field!(Cmis LowPwrAllowHW), control);
+    let asks = is_set(field!(Cmis LowPwrRequestSW), control);
     low_power(allows_pin, pin, asks)
 }

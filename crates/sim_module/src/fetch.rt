@@ -4,7 +4,7 @@ use crate::moving::{LANE_FLAGS, Moving};
 use crate::registers::{control_page, index_in, is_at, is_field_at, is_from, status_page};
 use arrayvec::ArrayVec;
 use bus_model::Dev;
-use field_tables::{Field, LaneNumber, Register, register};
+use field_tables::{LaneNumber, Register, field, register};
 use paged_memory::PAGE_LEN;
 
 impl Moving {
@@ -45,15 +45,15 @@ impl Moving {
     fn lower_byte(&self, byte: u8, address: u8) -> u8
         ensures { result ≡ spec.first_shown (spec.lower_bytes (bare self.now) byte address) byte }
     {
-        if is_at(Register::CGlobalStatus, address) {
+        if is_at(Register::GlobalStatus, address) {
             (byte & 0xF1) + 2 * self.state.code()
-        } else if is_at(Register::CModuleFlags, address) {
+        } else if is_at(Register::ModuleFlags, address) {
             self.module_flags
-        } else if is_at(Register::CGlobalControls, address) {
+        } else if is_at(Register::GlobalControls, address) {
             self.control & 0xF7
-        } else if is_field_at(Field::CBankSelect, address) {
+        } else if is_field_at(field!(Cmis BankSelect), address) {
             self.selection.bank
-        } else if is_field_at(Field::CPageSelect, address) {
+        } else if is_field_at(field!(Cmis PageSelect), address) {
             self.selection.page
         } else {
             byte
@@ -64,11 +64,11 @@ impl Moving {
     fn configuration_byte(&self, byte: u8, address: u8) -> u8
         ensures { result ≡ spec.first_shown (spec.configuration_bytes (bare self.now) address) byte }
     {
-        if is_at(Register::CDPDeinit, address) {
+        if is_at(Register::DPDeinit, address) {
             self.deinit.byte()
-        } else if is_at(Register::CApplyDPInit, address) {
+        } else if is_at(Register::ApplyDPInit, address) {
             0
-        } else if let Some(index) = index_in(Register::CStagedControl, address) {
+        } else if let Some(index) = index_in(Register::StagedControl, address) {
             self.lane(LaneNumber::at(index)).staged
         } else {
             byte
@@ -79,13 +79,13 @@ impl Moving {
     fn status_byte(&self, byte: u8, address: u8) -> u8
         ensures { result ≡ spec.first_shown (spec.status_bytes (bare self.now) address) byte }
     {
-        if let Some(index) = index_in(Register::CPathStates, address) {
+        if let Some(index) = index_in(Register::PathStates, address) {
             self.path_pair(index)
-        } else if let Some(index) = index_in(Register::CLaneFlags, address) {
+        } else if let Some(index) = index_in(Register::LaneFlags, address) {
             self.lane_flags[usize::from(index)]
-        } else if let Some(index) = index_in(Register::CConfigStatus, address) {
+        } else if let Some(index) = index_in(Register::ConfigStatus, address) {
             self.status_pair(index)
-        } else if let Some(index) = index_in(Register::CActiveControl, address) {
+        } else if let Some(index) = index_in(Register::ActiveControl, address) {
             self.lane(LaneNumber::at(index)).active
         } else {
             byte
@@ -143,7 +143,7 @@ impl Moving {
         ensures { result ≡ spec.left_lane_flag (bare self.now) (registers.is_from first count) index }
     {
         let flag = self.lane_flags[usize::from(index)];
-        let address = register(Register::CLaneFlags).first + index;
+        let address = register(Register::LaneFlags).first + index;
         if self.is_mapped(status_page()) && is_from(first, count, address) {
             0
         } else {
@@ -169,7 +169,7 @@ impl Moving {
         ensures { (fixed : Fixed) → module_of fixed self.new ≡ spec.cleared (module_of fixed self.old) (registers.is_from first count) }
     {
         self.lane_flags = self.left_lane_flags(first, count);
-        if is_from(first, count, register(Register::CModuleFlags).first) {
+        if is_from(first, count, register(Register::ModuleFlags).first) {
             self.module_flags = 0;
         }
     }

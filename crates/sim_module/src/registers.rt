@@ -10,14 +10,14 @@ use field_tables::{Field, Register, register, row};
 pub fn control_page() -> u8
     ensures { result ≡ pages.control_page }
 {
-    register(Register::CStagedControl).page
+    register(Register::StagedControl).page
 }
 
 /// The page of lane status.
 pub fn status_page() -> u8
     ensures { result ≡ pages.status_page }
 {
-    register(Register::CActiveControl).page
+    register(Register::ActiveControl).page
 }
 
 /// Whether an address is one of so many from a first one on.

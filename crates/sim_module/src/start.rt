@@ -86,15 +86,15 @@ fn byte_of_register(image: &Image, of: Register, index: u8) -> u8
 fn active_at_start(image: &Image) -> ControlSet
     ensures { result ≡ spec.active_at_start image.now }
 {
-    array::from_fn(|index| byte_of_register(image, Register::CActiveControl, index as u8))
+    array::from_fn(|index| byte_of_register(image, Register::ActiveControl, index as u8))
 }
 
 fn lane_flags(image: &Image) -> [u8; LANE_FLAGS]
-    ensures { result ≡ map (spec.byte_of_register image.now Register.CLaneFlags) (range_with_len 0 lane_flag_bytes) }
+    ensures { result ≡ map (spec.byte_of_register image.now Register.LaneFlags) (range_with_len 0 lane_flag_bytes) }
 {
     let mut flags = [0; LANE_FLAGS];
     for (index, flag) in flags.iter_mut().enumerate() {
-        *flag = byte_of_register(image, Register::CLaneFlags, index as u8);
+        *flag = byte_of_register(image, Register::LaneFlags, index as u8);
     }
     flags
 }
@@ -106,8 +106,8 @@ fn start_lane(image: &Image, lane: LaneNumber) -> Lane
         path: PathState::Deactivated,
         ticks_left: 0,
         status: ConfigStatus::Undefined,
-        staged: byte_of_register(image, Register::CStagedControl, lane.number() - 1),
-        active: byte_of_register(image, Register::CActiveControl, lane.number() - 1),
+        staged: byte_of_register(image, Register::StagedControl, lane.number() - 1),
+        active: byte_of_register(image, Register::ActiveControl, lane.number() - 1),
         applying: None,
     }
 }
@@ -136,7 +136,7 @@ fn start_state(control: u8) -> ModuleState
 fn moving_at_start(image: &Image, delays: Delays) -> Moving
     ensures { module_of (record { image = image.now; advert = own_advert image.now }) result ≡ spec.start image.now delays }
 {
-    let control = byte_of_register(image, Register::CGlobalControls, 0);
+    let control = byte_of_register(image, Register::GlobalControls, 0);
     Moving {
         delays,
         selection: MappedPage::first_page(),
@@ -145,9 +145,9 @@ fn moving_at_start(image: &Image, delays: Delays) -> Moving
         state: start_state(control),
         ticks_left: 0,
         lanes: start_lanes(image),
-        deinit: LaneSet::from(byte_of_register(image, Register::CDPDeinit, 0)),
+        deinit: LaneSet::from(byte_of_register(image, Register::DPDeinit, 0)),
         apply_left: 0,
-        module_flags: byte_of_register(image, Register::CModuleFlags, 0),
+        module_flags: byte_of_register(image, Register::ModuleFlags, 0),
         lane_flags: lane_flags(image),
     }
 }

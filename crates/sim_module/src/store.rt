@@ -21,7 +21,7 @@ impl Moving {
             address,
             byte,
         );
-        if is_at(Register::CGlobalControls, address) {
+        if is_at(Register::GlobalControls, address) {
             self.control = byte;
         }
     }
@@ -30,11 +30,11 @@ impl Moving {
     fn store_high(&mut self, fixed: &Fixed, address: u8, byte: u8)
         ensures { module_of fixed.now self.new ≡ spec.stored_high (module_of fixed.now self.old) address byte }
     {
-        if is_at(Register::CDPDeinit, address) {
+        if is_at(Register::DPDeinit, address) {
             self.deinit = LaneSet::from(byte);
-        } else if is_at(Register::CApplyDPInit, address) {
+        } else if is_at(Register::ApplyDPInit, address) {
             self.apply(fixed, LaneSet::from(byte));
-        } else if let Some(index) = index_in(Register::CStagedControl, address) {
+        } else if let Some(index) = index_in(Register::StagedControl, address) {
             self.lanes[usize::from(index)].staged = byte;
         }
     }

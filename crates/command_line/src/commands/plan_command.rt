@@ -11,7 +11,7 @@ use crate::command_output::CommandOutput;
 use crate::fault::Fault;
 use crate::remark::Warnings;
 use applications::AppWeights;
-use field_tables::{Field, number};
+use field_tables::{field, number};
 use lane_planner::{Problem, Solution};
 use plan_drawing::draw;
 use plan_reports::plan_json;
@@ -55,7 +55,7 @@ fn output_of(
         kept: &planning.kept,
     };
     if draws {
-        let media_type = number(&planning.image.view(), Field::CMediaType);
+        let media_type = number(&planning.image.view(), field!(Cmis MediaType));
         let drawing = draw(alloc, options.svg, media_type, &problem)?;
         Ok((drawing.text, drawing.has_paths))
     } else {

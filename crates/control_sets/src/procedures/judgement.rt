@@ -8,7 +8,7 @@ use crate::fault::ProvisionFault;
 use crate::procedures::task::Task;
 use bus_model::Reply;
 use datapath_states::{PathState, lanes, status_of};
-use field_tables::{Field, LaneNumber, LaneSet, number_in_byte};
+use field_tables::{LaneNumber, LaneSet, field, number_in_byte};
 use module_states::ModuleState;
 
 /// What a reply says of a task.
@@ -41,7 +41,7 @@ impl Task {
         ensures { result ≡ judged self.now bytes.now }
     {
         match self {
-            Task::FindReady => judge_module(number_in_byte(Field::CModuleState, bytes[0])),
+            Task::FindReady => judge_module(number_in_byte(field!(Cmis ModuleState), bytes[0])),
             Task::AwaitDeactivated(waiting) => {
                 judge_states(lanes(bytes), *waiting, *waiting, PathState::Deactivated)
             }

@@ -15,7 +15,7 @@ use crate::procedures::procedure::MAX_STEPS;
 use crate::procedures::task::{read_of, store_byte};
 use bus_model::{Op, Reply};
 use conversations::{Conversation, Next, Patience, Pausing, Spent, Within};
-use field_tables::{Field, Register, number_in_byte};
+use field_tables::{Register, field, number_in_byte};
 use module_states::{ModuleState, state_of};
 pub use runner::change_power;
 
@@ -86,12 +86,12 @@ impl PowerChange {
         ensures shape { IfSome result IsWellShaped }
     {
         match self.stage {
-            PowerStage::Unread => Some(read_of(Register::CGlobalControls)),
+            PowerStage::Unread => Some(read_of(Register::GlobalControls)),
             PowerStage::Found(byte) => Some(store_byte(
-                Register::CGlobalControls,
+                Register::GlobalControls,
                 wanted_controls(self.power, byte),
             )),
-            PowerStage::Stored => Some(read_of(Register::CGlobalStatus)),
+            PowerStage::Stored => Some(read_of(Register::GlobalStatus)),
             PowerStage::Met => None,
         }
     }
@@ -174,7 +174,7 @@ fn stage_after(power: Power, stage: PowerStage, reply: &Reply) -> Result<PowerSt
         (PowerStage::Unread, Reply::Bytes(bytes)) => Ok(PowerStage::Found(first_byte(bytes))),
         (PowerStage::Found(_), Reply::Done) => Ok(PowerStage::Stored),
         (PowerStage::Stored, Reply::Bytes(bytes)) => {
-            let code = number_in_byte(Field::CModuleState, first_byte(bytes));
+            let code = number_in_byte(field!(Cmis ModuleState), first_byte(bytes));
             stage_judged(judged_power(power, code))
         }
         _ => Ok(stage),

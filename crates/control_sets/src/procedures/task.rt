@@ -41,16 +41,16 @@ impl Task {
         ensures shape { IsWellShaped (operation self.now) }
     {
         match self {
-            Task::FindReady => read_of(Register::CGlobalStatus),
-            Task::Deinitialize(bits) => store_byte(Register::CDPDeinit, *bits),
+            Task::FindReady => read_of(Register::GlobalStatus),
+            Task::Deinitialize(bits) => store_byte(Register::DPDeinit, *bits),
             Task::AwaitDeactivated(_) | Task::AwaitActivated(_) => {
-                read_of(Register::CPathStates)
+                read_of(Register::PathStates)
             },
-            Task::Stage(control) => { store_to(Register::CStagedControl, ArrayVec::from(*control)) }
-            Task::CheckStaged(_) => read_of(Register::CStagedControl),
-            Task::Apply(bits) => store_byte(Register::CApplyDPInit, *bits),
-            Task::AwaitApplied(_) => read_of(Register::CConfigStatus),
-            Task::CheckActive(_) => read_of(Register::CActiveControl),
+            Task::Stage(control) => { store_to(Register::StagedControl, ArrayVec::from(*control)) }
+            Task::CheckStaged(_) => read_of(Register::StagedControl),
+            Task::Apply(bits) => store_byte(Register::ApplyDPInit, *bits),
+            Task::AwaitApplied(_) => read_of(Register::ConfigStatus),
+            Task::CheckActive(_) => read_of(Register::ActiveControl),
         }
     }
 
@@ -65,13 +65,13 @@ impl Task {
         ensures { registers.page_of result ≡ page_of self.now }
     {
         match self {
-            Task::FindReady => Register::CGlobalStatus,
-            Task::Deinitialize(_) => Register::CDPDeinit,
-            Task::Stage(_) | Task::CheckStaged(_) => Register::CStagedControl,
-            Task::Apply(_) => Register::CApplyDPInit,
-            Task::AwaitDeactivated(_) | Task::AwaitActivated(_) => Register::CPathStates,
-            Task::AwaitApplied(_) => Register::CConfigStatus,
-            Task::CheckActive(_) => Register::CActiveControl,
+            Task::FindReady => Register::GlobalStatus,
+            Task::Deinitialize(_) => Register::DPDeinit,
+            Task::Stage(_) | Task::CheckStaged(_) => Register::StagedControl,
+            Task::Apply(_) => Register::ApplyDPInit,
+            Task::AwaitDeactivated(_) | Task::AwaitActivated(_) => Register::PathStates,
+            Task::AwaitApplied(_) => Register::ConfigStatus,
+            Task::CheckActive(_) => Register::ActiveControl,
         }
     }
 }
@@ -85,7 +85,7 @@ pub fn is_apply(op: &Op) -> bool
             dev: Dev::A0,
             offset,
             ..
-        } => *offset == register(Register::CApplyDPInit).first,
+        } => *offset == register(Register::ApplyDPInit).first,
         _ => false,
     }
 }

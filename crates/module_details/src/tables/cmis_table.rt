@@ -7,32 +7,33 @@ ghost use Rattle.module_details.specs.RowTables.{rows_in};
 
 use crate::item::{Case, Item, Line, Row, Values};
 use code_names::Table;
-use field_tables::{Field, TextField};
+use field_tables::{field, text_of};
 use report_entries::PrintedUnit;
 
 const IDENTITY: &[Line] = detail_table! {
+    Cmis;
     "family": [Word "CMIS"];
-    "identifier": [Named Identifiers CIdentifier];
-    "revision": [Revision CRevision];
-    "memory": [Either CFlatMemory "flat" "paged"];
-    "media-type": [Named MediaTypes CMediaType];
-    "connector": [Named Connectors CConnector];
-    "vendor": [Text CVendor];
-    "oui": [Oui COui];
-    "part": [Text CPart];
-    "part-revision": [Text CPartRevision];
-    "serial": [Text CSerial];
-    "date": [Text CDate];
-    "clei": [Text CClei];
-    "power-class": [Number CPowerClass 1];
-    "max-power": [Amount CMaxPower];
-    "length": [TenthsIfAny CLengthBase CLengthMultiplier Metre];
-    "technology": [Named MediaTechnologies CTechnology];
-    "attenuation-at-5000-mhz": [StepsIfAny CAttenuation 1000 Decibel] [Outside CTechnology 1 10 15];
-    "attenuation-at-7000-mhz": [StepsIfAny CAttenuation 1000 Decibel] (value 2) [Outside CTechnology 1 10 15];
-    "attenuation-at-12900-mhz": [StepsIfAny CAttenuation 1000 Decibel] (value 3) [Outside CTechnology 1 10 15];
-    "attenuation-at-25800-mhz": [StepsIfAny CAttenuation 1000 Decibel] (value 4) [Outside CTechnology 1 10 15];
-    "firmware": [Version CActiveFirmware] [Cmis3];
+    "identifier": [Named Identifiers Identifier];
+    "revision": [Revision Revision];
+    "memory": [Either FlatMemory "flat" "paged"];
+    "media-type": [Named MediaTypes MediaType];
+    "connector": [Named Connectors Connector];
+    "vendor": [Text Vendor];
+    "oui": [Oui Oui];
+    "part": [Text Part];
+    "part-revision": [Text PartRevision];
+    "serial": [Text Serial];
+    "date": [Text Date];
+    "clei": [Text Clei];
+    "power-class": [Number PowerClass 1];
+    "max-power": [Amount MaxPower];
+    "length": [TenthsIfAny LengthBase LengthMultiplier Metre];
+    "technology": [Named MediaTechnologies Technology];
+    "attenuation-at-5000-mhz": [StepsIfAny Attenuation 1000 Decibel] [Outside Technology 1 10 15];
+    "attenuation-at-7000-mhz": [StepsIfAny Attenuation 1000 Decibel] (value 2) [Outside Technology 1 10 15];
+    "attenuation-at-12900-mhz": [StepsIfAny Attenuation 1000 Decibel] (value 3) [Outside Technology 1 10 15];
+    "attenuation-at-25800-mhz": [StepsIfAny Attenuation 1000 Decibel] (value 4) [Outside Technology 1 10 15];
+    "firmware": [Version ActiveFirmware] [Cmis3];
 };
 
 /// What it is.
@@ -45,26 +46,27 @@ pub fn identity() -> &'static [Line]
 }
 
 const CHARACTERISTICS: &[Line] = detail_table! {
-    "inactive-firmware": [Version CInactiveFirmware] paged [Cmis3];
-    "hardware": [Version CHardware] paged;
-    "length-smf": [TenthsIfAny CLengthSmf CLengthSmfMultiplier Kilometre] paged [Outside CLengthSmfMultiplier 1 0 1];
-    "length-om5": [StepsIfAny CLengths 2000 Metre] paged;
-    "length-om4": [StepsIfAny CLengths 2000 Metre] (value 2) paged;
-    "length-om3": [StepsIfAny CLengths 2000 Metre] (value 3) paged;
-    "length-om2": [StepsIfAny CLengths 1000 Metre] (value 4) paged;
-    "wavelength": [StepsIfAny CWavelength 50 Nanometre] paged [Within CTechnology 1 10 15];
-    "wavelength-tolerance": [StepsIfAny CWavelengthTolerance 5 Nanometre] paged [Within CTechnology 1 10 15];
-    "cooled": [Yes CCooled] paged;
-    "detector": [Either CDetectorIsApd "APD" "PIN"] paged;
-    "rx-power-type": [Either CRxPowerIsAverage "average" "OMA"] paged;
-    "case-temperature-max": [Celsius CTempRange] paged [Within CTempRange 1 0 0];
-    "case-temperature-min": [Celsius CTempRange] (value 2) paged [Within CTempRange 1 0 0];
-    "max-duration-module-pwr-up": [Named Durations CMaxDurationModulePwrUp] paged [Cmis3];
-    "max-duration-module-pwr-dn": [Named Durations CMaxDurationModulePwrDn] paged [Cmis3];
-    "max-duration-dp-init": [Named Durations CMaxDurationDPInit] paged;
-    "max-duration-dp-deinit": [Named Durations CMaxDurationDPDeinit] paged;
-    "max-duration-dp-tx-turn-on": [Named Durations CMaxDurationDPTxTurnOn] paged [Cmis3];
-    "max-duration-dp-tx-turn-off": [Named Durations CMaxDurationDPTxTurnOff] paged [Cmis3];
+    Cmis;
+    "inactive-firmware": [Version InactiveFirmware] paged [Cmis3];
+    "hardware": [Version Hardware] paged;
+    "length-smf": [TenthsIfAny LengthSmf LengthSmfMultiplier Kilometre] paged [Outside LengthSmfMultiplier 1 0 1];
+    "length-om5": [StepsIfAny Lengths 2000 Metre] paged;
+    "length-om4": [StepsIfAny Lengths 2000 Metre] (value 2) paged;
+    "length-om3": [StepsIfAny Lengths 2000 Metre] (value 3) paged;
+    "length-om2": [StepsIfAny Lengths 1000 Metre] (value 4) paged;
+    "wavelength": [StepsIfAny Wavelength 50 Nanometre] paged [Within Technology 1 10 15];
+    "wavelength-tolerance": [StepsIfAny WavelengthTolerance 5 Nanometre] paged [Within Technology 1 10 15];
+    "cooled": [Yes Cooled] paged;
+    "detector": [Either DetectorIsApd "APD" "PIN"] paged;
+    "rx-power-type": [Either RxPowerIsAverage "average" "OMA"] paged;
+    "case-temperature-max": [Celsius TempRange] paged [Within TempRange 1 0 0];
+    "case-temperature-min": [Celsius TempRange] (value 2) paged [Within TempRange 1 0 0];
+    "max-duration-module-pwr-up": [Named Durations MaxDurationModulePwrUp] paged [Cmis3];
+    "max-duration-module-pwr-dn": [Named Durations MaxDurationModulePwrDn] paged [Cmis3];
+    "max-duration-dp-init": [Named Durations MaxDurationDPInit] paged;
+    "max-duration-dp-deinit": [Named Durations MaxDurationDPDeinit] paged;
+    "max-duration-dp-tx-turn-on": [Named Durations MaxDurationDPTxTurnOn] paged [Cmis3];
+    "max-duration-dp-tx-turn-off": [Named Durations MaxDurationDPTxTurnOff] paged [Cmis3];
 };
 
 /// What it is like.
@@ -77,31 +79,32 @@ pub fn characteristics() -> &'static [Line]
 }
 
 const CONTROLS: &[Line] = detail_table! {
-    "tunable": [Yes CLaserControls] paged;
-    "wavelength-control": [Yes CLaserControls] (value 2) paged;
-    "tx-squelch": [Named SquelchMethods CTxSquelchMethod] paged;
-    "tx-polarity-flip": [Yes CTxControls] paged;
-    "tx-disable-control": [Yes CTxControls] (value 2) paged;
-    "tx-squelch-disable": [Yes CTxControls] (value 3) paged;
-    "tx-forced-squelch": [Yes CTxControls] (value 4) paged;
-    "rx-polarity-flip": [Yes CRxControls] paged;
-    "rx-disable-control": [Yes CRxControls] (value 2) paged;
-    "rx-squelch-disable": [Yes CRxControls] (value 3) paged;
-    "tx-fault-flag": [Yes CTxFlags] paged;
-    "tx-los-flag": [Yes CTxFlags] (value 2) paged;
-    "tx-lol-flag": [Yes CTxFlags] (value 3) paged;
-    "tx-eq-fail-flag": [Yes CTxFlags] (value 4) paged;
-    "rx-los-flag": [Yes CRxFlags] paged;
-    "rx-lol-flag": [Yes CRxFlags] (value 2) paged;
-    "tx-cdr": [Yes CTxSignalControls] paged;
-    "tx-cdr-control": [Yes CTxSignalControls] (value 2) paged;
-    "tx-eq-fixed": [Yes CTxSignalControls] (value 3) paged;
-    "tx-eq-adaptive": [Yes CTxSignalControls] (value 4) paged;
-    "tx-eq-freeze": [Yes CTxSignalControls] (value 5) paged;
-    "rx-cdr": [Yes CRxSignalControls] paged;
-    "rx-cdr-control": [Yes CRxSignalControls] (value 2) paged;
-    "rx-amplitude-control": [Yes CRxSignalControls] (value 3) paged;
-    "rx-eq-control": [Named OutputEqualizers CRxEqControl] paged;
+    Cmis;
+    "tunable": [Yes LaserControls] paged;
+    "wavelength-control": [Yes LaserControls] (value 2) paged;
+    "tx-squelch": [Named SquelchMethods TxSquelchMethod] paged;
+    "tx-polarity-flip": [Yes TxControls] paged;
+    "tx-disable-control": [Yes TxControls] (value 2) paged;
+    "tx-squelch-disable": [Yes TxControls] (value 3) paged;
+    "tx-forced-squelch": [Yes TxControls] (value 4) paged;
+    "rx-polarity-flip": [Yes RxControls] paged;
+    "rx-disable-control": [Yes RxControls] (value 2) paged;
+    "rx-squelch-disable": [Yes RxControls] (value 3) paged;
+    "tx-fault-flag": [Yes TxFlags] paged;
+    "tx-los-flag": [Yes TxFlags] (value 2) paged;
+    "tx-lol-flag": [Yes TxFlags] (value 3) paged;
+    "tx-eq-fail-flag": [Yes TxFlags] (value 4) paged;
+    "rx-los-flag": [Yes RxFlags] paged;
+    "rx-lol-flag": [Yes RxFlags] (value 2) paged;
+    "tx-cdr": [Yes TxSignalControls] paged;
+    "tx-cdr-control": [Yes TxSignalControls] (value 2) paged;
+    "tx-eq-fixed": [Yes TxSignalControls] (value 3) paged;
+    "tx-eq-adaptive": [Yes TxSignalControls] (value 4) paged;
+    "tx-eq-freeze": [Yes TxSignalControls] (value 5) paged;
+    "rx-cdr": [Yes RxSignalControls] paged;
+    "rx-cdr-control": [Yes RxSignalControls] (value 2) paged;
+    "rx-amplitude-control": [Yes RxSignalControls] (value 3) paged;
+    "rx-eq-control": [Named OutputEqualizers RxEqControl] paged;
 };
 
 /// Which controls and flags it has.
@@ -114,18 +117,19 @@ pub fn controls() -> &'static [Line]
 }
 
 const STATUS: &[Line] = detail_table! {
-    "state": [ModuleState CModuleState];
-    "fault-cause": [Named ModuleFaults CFaultCause] [Outside CModuleState 1 5 5] [Cmis3];
-    "low-power-allow-hw": [Yes CLowPwrAllowHW];
-    "low-power-request-sw": [Yes CLowPwrRequestSW];
-    "software-reset": [Yes CSoftwareReset];
-    "temperature": [Amount CTemperature] paged [Within CModuleMonitors 1 0 0];
-    "vcc": [Amount CVcc] paged [Within CModuleMonitors 2 0 0];
-    "aux-1-tec-current": [Percent CAux1] paged [Within CModuleMonitors 3 0 0] [Within CAuxKinds 1 0 0];
-    "aux-2-tec-current": [Percent CAux2] paged [Within CModuleMonitors 4 0 0] [Within CAuxKinds 2 0 0];
-    "aux-2-laser-temperature": [Temperature CAux2] paged [Within CModuleMonitors 4 0 0] [Within CAuxKinds 2 1 1];
-    "aux-3-laser-temperature": [Temperature CAux3] paged [Within CModuleMonitors 5 0 0] [Within CAuxKinds 3 1 1];
-    "aux-3-vcc": [Steps CAux3 100 Millivolt] paged [Within CModuleMonitors 5 0 0] [Within CAuxKinds 3 0 0];
+    Cmis;
+    "state": [ModuleState ModuleState];
+    "fault-cause": [Named ModuleFaults FaultCause] [Outside ModuleState 1 5 5] [Cmis3];
+    "low-power-allow-hw": [Yes LowPwrAllowHW];
+    "low-power-request-sw": [Yes LowPwrRequestSW];
+    "software-reset": [Yes SoftwareReset];
+    "temperature": [Amount Temperature] paged [Within ModuleMonitors 1 0 0];
+    "vcc": [Amount Vcc] paged [Within ModuleMonitors 2 0 0];
+    "aux-1-tec-current": [Percent Aux1] paged [Within ModuleMonitors 3 0 0] [Within AuxKinds 1 0 0];
+    "aux-2-tec-current": [Percent Aux2] paged [Within ModuleMonitors 4 0 0] [Within AuxKinds 2 0 0];
+    "aux-2-laser-temperature": [Temperature Aux2] paged [Within ModuleMonitors 4 0 0] [Within AuxKinds 2 1 1];
+    "aux-3-laser-temperature": [Temperature Aux3] paged [Within ModuleMonitors 5 0 0] [Within AuxKinds 3 1 1];
+    "aux-3-vcc": [Steps Aux3 100 Millivolt] paged [Within ModuleMonitors 5 0 0] [Within AuxKinds 3 0 0];
 };
 
 /// How it is.
@@ -138,17 +142,18 @@ pub fn status() -> &'static [Line]
 }
 
 const LANES: &[Line] = detail_table! {
-    "path-state": [PathState CPathStates] (lanes 8) paged;
-    "config-status": [ConfigStatus CConfigStatus] (lanes 8) paged;
-    "application": [Number CActiveAppSel 0] (lanes 8) paged;
-    "path-from": [FirstLane CActiveAppSel CActivePathId] (lanes 8) paged;
-    "tx-output": [Yes CTxOutputStatus] (lanes 8) paged [Cmis3];
-    "rx-output": [Yes CRxOutputStatus] (lanes 8) paged [Cmis3];
-    "tx-power": [Level CTxPower] (lanes 8) paged [Within CTxPowerMonitor 1 0 0];
-    "tx-power-mw": [Milliwatts CTxPower] (lanes 8) paged [Within CTxPowerMonitor 1 0 0];
-    "tx-bias": [Amount CTxBias CBiasMultiplier] (lanes 8) paged [Within CTxBiasMonitor 1 0 0] [Within CBiasMultiplier 1 3 3];
-    "rx-power": [Level CRxPower] (lanes 8) paged [Within CRxPowerMonitor 1 0 0];
-    "rx-power-mw": [Milliwatts CRxPower] (lanes 8) paged [Within CRxPowerMonitor 1 0 0];
+    Cmis;
+    "path-state": [PathState PathStates] (lanes 8) paged;
+    "config-status": [ConfigStatus ConfigStatus] (lanes 8) paged;
+    "application": [Number ActiveAppSel 0] (lanes 8) paged;
+    "path-from": [FirstLane ActiveAppSel ActivePathId] (lanes 8) paged;
+    "tx-output": [Yes TxOutputStatus] (lanes 8) paged [Cmis3];
+    "rx-output": [Yes RxOutputStatus] (lanes 8) paged [Cmis3];
+    "tx-power": [Level TxPower] (lanes 8) paged [Within TxPowerMonitor 1 0 0];
+    "tx-power-mw": [Milliwatts TxPower] (lanes 8) paged [Within TxPowerMonitor 1 0 0];
+    "tx-bias": [Amount TxBias BiasMultiplier] (lanes 8) paged [Within TxBiasMonitor 1 0 0] [Within BiasMultiplier 1 3 3];
+    "rx-power": [Level RxPower] (lanes 8) paged [Within RxPowerMonitor 1 0 0];
+    "rx-power-mw": [Milliwatts RxPower] (lanes 8) paged [Within RxPowerMonitor 1 0 0];
 };
 
 /// How its lanes are.

@@ -7,40 +7,41 @@ ghost use Rattle.module_details.specs.RowTables.{rows_in};
 
 use crate::item::{Case, Item, Line, Row, Values};
 use code_names::Table;
-use field_tables::{Field, TextField};
+use field_tables::{field, text_of};
 use report_entries::PrintedUnit;
 
 const IDENTITY: &[Line] = detail_table! {
+    Sff8636;
     "family": [Word "SFF-8636"];
-    "identifier": [Named Identifiers QIdentifier];
-    "revision": [Named Sff8636Revisions QRevision];
-    "memory": [Either QFlatMemory "flat" "paged"];
-    "connector": [Named Connectors QConnector];
-    "vendor": [Text QVendor];
-    "oui": [Oui QOui];
-    "part": [Text QPart];
-    "part-revision": [Text QPartRevision];
-    "serial": [Text QSerial];
-    "date": [Text QDate];
+    "identifier": [Named Identifiers Identifier];
+    "revision": [Named Sff8636Revisions Revision];
+    "memory": [Either FlatMemory "flat" "paged"];
+    "connector": [Named Connectors Connector];
+    "vendor": [Text Vendor];
+    "oui": [Oui Oui];
+    "part": [Text Part];
+    "part-revision": [Text PartRevision];
+    "serial": [Text Serial];
+    "date": [Text Date];
     "power-class": [PowerClass];
     "max-power": [ClassPower];
-    "encoding": [Named Sff8636Encodings QEncoding];
-    "bit-rate": [BitRate QBitRate QBitRateMore];
-    "rate-select-type": [Named Sff8636RateSelects QRateSelectType];
-    "length-smf": [StepsIfAny QLengths 1000 Kilometre];
-    "length-om3": [StepsIfAny QLengths 2000 Metre] (value 2);
-    "length-om2": [StepsIfAny QLengths 1000 Metre] (value 3);
-    "length-om1": [StepsIfAny QLengths 1000 Metre] (value 4);
-    "length": [StepsIfAny QLengths 1000 Metre] (value 5) [Within QTechnology 1 0 0];
-    "length-om4": [StepsIfAny QLengths 2000 Metre] (value 5) [Outside QTechnology 1 0 0];
-    "technology": [Named MediaTechnologies QTechnology];
-    "wavelength": [PairIfAny QWavelengthOrAttenuation 50 Nanometre] [Within QTechnology 1 10 15];
-    "wavelength-tolerance": [PairIfAny QWavelengthOrAttenuation 5 Nanometre] (value 3) [Within QTechnology 1 10 15];
-    "attenuation-at-2500-mhz": [StepsIfAny QWavelengthOrAttenuation 1000 Decibel] [Outside QTechnology 1 10 15];
-    "attenuation-at-5000-mhz": [StepsIfAny QWavelengthOrAttenuation 1000 Decibel] (value 2) [Outside QTechnology 1 10 15];
-    "attenuation-at-7000-mhz": [StepsIfAny QWavelengthOrAttenuation 1000 Decibel] (value 3) [Outside QTechnology 1 10 15];
-    "attenuation-at-12900-mhz": [StepsIfAny QWavelengthOrAttenuation 1000 Decibel] (value 4) [Outside QTechnology 1 10 15];
-    "case-temperature-max": [StepsIfAny QTempMax 1000 Celsius];
+    "encoding": [Named Sff8636Encodings Encoding];
+    "bit-rate": [BitRate BitRate BitRateMore];
+    "rate-select-type": [Named Sff8636RateSelects RateSelectType];
+    "length-smf": [StepsIfAny Lengths 1000 Kilometre];
+    "length-om3": [StepsIfAny Lengths 2000 Metre] (value 2);
+    "length-om2": [StepsIfAny Lengths 1000 Metre] (value 3);
+    "length-om1": [StepsIfAny Lengths 1000 Metre] (value 4);
+    "length": [StepsIfAny Lengths 1000 Metre] (value 5) [Within Technology 1 0 0];
+    "length-om4": [StepsIfAny Lengths 2000 Metre] (value 5) [Outside Technology 1 0 0];
+    "technology": [Named MediaTechnologies Technology];
+    "wavelength": [PairIfAny WavelengthOrAttenuation 50 Nanometre] [Within Technology 1 10 15];
+    "wavelength-tolerance": [PairIfAny WavelengthOrAttenuation 5 Nanometre] (value 3) [Within Technology 1 10 15];
+    "attenuation-at-2500-mhz": [StepsIfAny WavelengthOrAttenuation 1000 Decibel] [Outside Technology 1 10 15];
+    "attenuation-at-5000-mhz": [StepsIfAny WavelengthOrAttenuation 1000 Decibel] (value 2) [Outside Technology 1 10 15];
+    "attenuation-at-7000-mhz": [StepsIfAny WavelengthOrAttenuation 1000 Decibel] (value 3) [Outside Technology 1 10 15];
+    "attenuation-at-12900-mhz": [StepsIfAny WavelengthOrAttenuation 1000 Decibel] (value 4) [Outside Technology 1 10 15];
+    "case-temperature-max": [StepsIfAny TempMax 1000 Celsius];
 };
 
 /// What it is.
@@ -53,16 +54,17 @@ pub fn identity() -> &'static [Line]
 }
 
 const COMPLIANCE: &[Line] = detail_table! {
-    "ethernet": [Names Sff8636Compliance QEthernet 0];
-    "sonet": [Names Sff8636Compliance QSonet 8];
-    "sas": [Names Sff8636Compliance QSas 16];
-    "gigabit-ethernet": [Names Sff8636Compliance QGigabitEthernet 24];
-    "fc-length": [Names Sff8636Compliance QFcLength 32];
-    "fc-technology": [Names Sff8636Compliance QFcTechnology 40];
-    "fc-media": [Names Sff8636Compliance QFcMedia 48];
-    "fc-speed": [Names Sff8636Compliance QFcSpeed 56];
-    "infiniband": [Names InfinibandSpeeds QInfiniband 0];
-    "extended-compliance": [Named ExtendedCompliance QExtendedCompliance];
+    Sff8636;
+    "ethernet": [Names Sff8636Compliance Ethernet 0];
+    "sonet": [Names Sff8636Compliance Sonet 8];
+    "sas": [Names Sff8636Compliance Sas 16];
+    "gigabit-ethernet": [Names Sff8636Compliance GigabitEthernet 24];
+    "fc-length": [Names Sff8636Compliance FcLength 32];
+    "fc-technology": [Names Sff8636Compliance FcTechnology 40];
+    "fc-media": [Names Sff8636Compliance FcMedia 48];
+    "fc-speed": [Names Sff8636Compliance FcSpeed 56];
+    "infiniband": [Names InfinibandSpeeds Infiniband 0];
+    "extended-compliance": [Named ExtendedCompliance ExtendedCompliance];
 };
 
 /// Which specifications it complies with.
@@ -75,36 +77,37 @@ pub fn compliance() -> &'static [Line]
 }
 
 const OPTIONS: &[Line] = detail_table! {
-    "tunable": [Yes QTransmitter];
-    "detector": [Either QTransmitter "APD" "PIN"] (value 2);
-    "cooled": [Yes QTransmitter] (value 3);
-    "wavelength-control": [Yes QTransmitter] (value 4);
-    "tx-cdr": [Yes QTxCdr];
-    "rx-cdr": [Yes QRxCdr];
-    "clei-present": [Yes QCleiPresent];
-    "rx-amplitude-control": [Yes QEqualizers];
-    "rx-emphasis-control": [Yes QEqualizers] (value 2);
-    "tx-eq-fixed": [Yes QEqualizers] (value 3);
-    "tx-eq-adaptive": [Yes QEqualizers] (value 4);
-    "tx-eq-freeze": [Yes QEqualizers] (value 5);
-    "tx-squelch-method": [Either QOptionsMore "average power" "OMA"] (value 2) [Within QOptions 1 0 0];
-    "tx-squelch-disable": [Yes QOptions] (value 2);
-    "rx-disable-control": [Yes QOptions] (value 3);
-    "rx-squelch-disable": [Yes QOptions] (value 4);
-    "rx-lol-flag": [Yes QOptions] (value 5);
-    "tx-lol-flag": [Yes QOptions] (value 6);
-    "rx-cdr-control": [Yes QOptions] (value 7);
-    "tx-cdr-control": [Yes QOptions] (value 8);
-    "tx-los-flag": [Yes QOptionsMore];
-    "tx-fault-flag": [Yes QOptionsMore] (value 3);
-    "tx-disable-control": [Yes QOptionsMore] (value 4);
-    "rate-select": [Yes QOptionsMore] (value 5);
-    "page-01h": [Yes QOptionsMore] (value 6);
-    "page-02h": [Yes QOptionsMore] (value 7);
-    "application-select": [Yes QEnhancedOptions];
-    "rate-select-extended": [Yes QEnhancedOptions] (value 2);
-    "initialization-flag": [Yes QEnhancedOptions] (value 3);
-    "rx-power-type": [Either QMonitors "average" "OMA"] (value 2);
+    Sff8636;
+    "tunable": [Yes Transmitter];
+    "detector": [Either Transmitter "APD" "PIN"] (value 2);
+    "cooled": [Yes Transmitter] (value 3);
+    "wavelength-control": [Yes Transmitter] (value 4);
+    "tx-cdr": [Yes TxCdr];
+    "rx-cdr": [Yes RxCdr];
+    "clei-present": [Yes CleiPresent];
+    "rx-amplitude-control": [Yes Equalizers];
+    "rx-emphasis-control": [Yes Equalizers] (value 2);
+    "tx-eq-fixed": [Yes Equalizers] (value 3);
+    "tx-eq-adaptive": [Yes Equalizers] (value 4);
+    "tx-eq-freeze": [Yes Equalizers] (value 5);
+    "tx-squelch-method": [Either OptionsMore "average power" "OMA"] (value 2) [Within Options 1 0 0];
+    "tx-squelch-disable": [Yes Options] (value 2);
+    "rx-disable-control": [Yes Options] (value 3);
+    "rx-squelch-disable": [Yes Options] (value 4);
+    "rx-lol-flag": [Yes Options] (value 5);
+    "tx-lol-flag": [Yes Options] (value 6);
+    "rx-cdr-control": [Yes Options] (value 7);
+    "tx-cdr-control": [Yes Options] (value 8);
+    "tx-los-flag": [Yes OptionsMore];
+    "tx-fault-flag": [Yes OptionsMore] (value 3);
+    "tx-disable-control": [Yes OptionsMore] (value 4);
+    "rate-select": [Yes OptionsMore] (value 5);
+    "page-01h": [Yes OptionsMore] (value 6);
+    "page-02h": [Yes OptionsMore] (value 7);
+    "application-select": [Yes EnhancedOptions];
+    "rate-select-extended": [Yes EnhancedOptions] (value 2);
+    "initialization-flag": [Yes EnhancedOptions] (value 3);
+    "rx-power-type": [Either Monitors "average" "OMA"] (value 2);
 };
 
 /// Which controls and flags it has.
@@ -117,22 +120,23 @@ pub fn options() -> &'static [Line]
 }
 
 const STATUS: &[Line] = detail_table! {
-    "data-not-ready": [Yes QDataNotReady];
-    "software-reset": [Yes QSoftwareReset];
-    "power-override": [Yes QPowerControls];
-    "power-set": [Yes QPowerControls] (value 2);
-    "power-classes-5-to-7-enabled": [Yes QPowerControls] (value 3);
-    "power-class-8-enabled": [Yes QPowerControls] (value 4);
-    "temperature": [Amount QTemperature] [LacksSince QMonitors 4 QRevision 8] [Within QTechnology 1 10 11];
-    "vcc": [Amount QVcc] [LacksSince QMonitors 3 QRevision 8] [Within QTechnology 1 10 11];
-    "tx-disabled": [Yes QTxDisable] (lanes 4);
-    "tx-cdr-on": [Yes QTxCdrOn] (lanes 4) [Within QTxCdr 1 0 0];
-    "rx-cdr-on": [Yes QRxCdrOn] (lanes 4) [Within QRxCdr 1 0 0];
-    "tx-power": [Level QTxPower] (lanes 4) [Within QMonitors 1 0 0];
-    "tx-power-mw": [Milliwatts QTxPower] (lanes 4) [Within QMonitors 1 0 0];
-    "tx-bias": [Amount QTxBias] (lanes 4) [Within QTechnology 1 10 11];
-    "rx-power": [Level QRxPower] (lanes 4) [Within QTechnology 1 10 11];
-    "rx-power-mw": [Milliwatts QRxPower] (lanes 4) [Within QTechnology 1 10 11];
+    Sff8636;
+    "data-not-ready": [Yes DataNotReady];
+    "software-reset": [Yes SoftwareReset];
+    "power-override": [Yes PowerControls];
+    "power-set": [Yes PowerControls] (value 2);
+    "power-classes-5-to-7-enabled": [Yes PowerControls] (value 3);
+    "power-class-8-enabled": [Yes PowerControls] (value 4);
+    "temperature": [Amount Temperature] [LacksSince Monitors 4 Revision 8] [Within Technology 1 10 11];
+    "vcc": [Amount Vcc] [LacksSince Monitors 3 Revision 8] [Within Technology 1 10 11];
+    "tx-disabled": [Yes TxDisable] (lanes 4);
+    "tx-cdr-on": [Yes TxCdrOn] (lanes 4) [Within TxCdr 1 0 0];
+    "rx-cdr-on": [Yes RxCdrOn] (lanes 4) [Within RxCdr 1 0 0];
+    "tx-power": [Level TxPower] (lanes 4) [Within Monitors 1 0 0];
+    "tx-power-mw": [Milliwatts TxPower] (lanes 4) [Within Monitors 1 0 0];
+    "tx-bias": [Amount TxBias] (lanes 4) [Within Technology 1 10 11];
+    "rx-power": [Level RxPower] (lanes 4) [Within Technology 1 10 11];
+    "rx-power-mw": [Milliwatts RxPower] (lanes 4) [Within Technology 1 10 11];
 };
 
 /// How it is.
