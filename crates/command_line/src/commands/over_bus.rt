@@ -18,7 +18,9 @@ const ROOM: usize = 3 * MAX_STEPS as usize;
 
 /// The image of this text, or, over a bus, what is read of the module that has it.
 pub fn image_to_report(alloc: Global, text: &[u8], is_over_bus: bool) -> Result<LargeImage, Fault>
-    ensures { MatchResult result (λ read. IsReading IsFetchedFrom is_over_bus text.now (Ok read)) (IsInputRefusal IsFetchedFrom is_over_bus text.now) }
+    ensures { MatchResult result
+        (λ read. IsReading IsFetchedFrom is_over_bus text.now (Ok read))
+        (IsInputRefusal IsFetchedFrom is_over_bus text.now) }
 {
     let image = LargeImage::read(text)?;
     if is_over_bus {
@@ -30,7 +32,9 @@ pub fn image_to_report(alloc: Global, text: &[u8], is_over_bus: bool) -> Result<
 
 /// The same for its details, observables and metrics: over a bus also what is read of the module's statistics (VDM).
 pub fn image_to_observe(alloc: Global, text: &[u8], is_over_bus: bool) -> Result<LargeImage, Fault>
-    ensures { MatchResult result (λ read. IsReading IsObservedFrom is_over_bus text.now (Ok read)) (IsInputRefusal IsObservedFrom is_over_bus text.now) }
+    ensures { MatchResult result
+        (λ read. IsReading IsObservedFrom is_over_bus text.now (Ok read))
+        (IsInputRefusal IsObservedFrom is_over_bus text.now) }
 {
     let image = LargeImage::read(text)?;
     if is_over_bus {
