@@ -139,6 +139,7 @@ fn amount(quantity: Quantity, correction: Correction, word: u16) -> Option<Strin
 struct Place<'a> {
     quantity: Quantity,
     scope: Scope,
+    first: u8,
     count: u8,
     values: Option<(&'a Page, u8)>,
     limits: Option<(Option<&'a Page>, u8)>,
@@ -160,7 +161,7 @@ fn push<'a>(all: &mut Vec<Observation>, place: Place<'a>, passed: impl Fn(u8, u8
             quantity: place.quantity,
             figure: "now",
             scope: place.scope,
-            number: lane + 1,
+            number: place.first + lane,
             amount: amount(place.quantity, place.correction, page.word(at + 2 * lane)),
             limits,
             flags: place.limits.map(|_| std::array::from_fn(|level| passed(lane, level as u8))),
@@ -171,11 +172,12 @@ fn push<'a>(all: &mut Vec<Observation>, place: Place<'a>, passed: impl Fn(u8, u8
 
 fn cmis(image: &Image, lower: &Page, all: &mut Vec<Observation>) {
     let page = |page: u8| image.get(Key::upper(0, page));
-    let (advertising, limits, lanes) = (page(0x01), page(0x02), page(0x11));
+    let (advertising, limits) = (page(0x01), page(0x02));
     let has = |at: u8, bit: u8| advertising.map_or(false, |page| page.bit(at, bit));
     let of_module = |quantity, at, limits, advertised| Place {
         quantity,
         scope: Scope::Module,
+        first: 1,
         count: 1,
         values: Some((lower, at)),
         limits,
@@ -197,20 +199,29 @@ fn cmis(image: &Image, lower: &Page, all: &mut Vec<Observation>) {
         3 => None,
         multiplier => Some(1 << multiplier),
     };
+    let banks = match advertising.map_or(0, |page| page.bits(142, 1, 0)) {
+        1 => 2,
+        2 => 4,
+        _ => 1,
+    };
     for (quantity, at, limits_at, flags_at, bit) in
         [(TX_POWER, 154, 176, 139, 1), (TX_BIAS, 170, 184, 143, 0), (RX_POWER, 186, 192, 149, 2)]
     {
         let correction = if bit == 0 { Correction::Multiplied(multiplier) } else { Correction::Plain };
-        let place = Place {
-            quantity,
-            scope: Scope::MediaLane,
-            count: 8,
-            values: lanes.map(|page| (page, at)),
-            limits: Some((limits, limits_at)),
-            correction,
-            advertised: has(160, bit),
-        };
-        push(all, place, |lane, level| lanes.map_or(false, |page| page.bit(flags_at + level, lane)));
+        for bank in 0..banks {
+            let lanes = image.get(Key::upper(bank, 0x11));
+            let place = Place {
+                quantity,
+                scope: Scope::MediaLane,
+                first: 8 * bank + 1,
+                count: 8,
+                values: lanes.map(|page| (page, at)),
+                limits: Some((limits, limits_at)),
+                correction,
+                advertised: has(160, bit),
+            };
+            push(all, place, |lane, level| lanes.map_or(false, |page| page.bit(flags_at + level, lane)));
+        }
     }
     (0..4).for_each(|bank| push_instances(image, bank, has(142, 6), all));
 }
@@ -221,6 +232,7 @@ fn sff8636(image: &Image, lower: &Page, all: &mut Vec<Observation>) {
     let place = |quantity, scope, count, at, limits_at, advertised| Place {
         quantity,
         scope,
+        first: 1,
         count,
         values: Some((lower, at)),
         limits: Some((limits, limits_at)),
@@ -247,6 +259,7 @@ fn sff8472(image: &Image, lower: &Page, all: &mut Vec<Observation>) {
     let place = |quantity, scope, at, limits_at, monitor| Place {
         quantity,
         scope,
+        first: 1,
         count: 1,
         values: Some((page, at)),
         limits: Some((Some(page), limits_at)),
@@ -337,7 +350,7 @@ fn push_instances(image: &Image, bank: u8, advertised: bool, all: &mut Vec<Obser
                 quantity,
                 figure,
                 scope,
-                number: (descriptors.byte(at) & 15) + 1,
+                number: 8 * bank + (descriptors.byte(at) & 15) + 1,
                 amount: sample.map(|word| quantity.text(word, 1)),
                 limits: std::array::from_fn(|level| limits.map(|page| quantity.text(page.word(set + 2 * level as u8), 1))),
                 flags: passed.map(|page| {
