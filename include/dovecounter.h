@@ -1674,9 +1674,9 @@ static inline uint32_t dovecounter_explicit_run(struct dovecounter_explicit *pro
    Whatever the bus refuses, and wherever it stops, the statistics aren't left frozen, or the member `release` names it. Reading
    clears the flags of page 2Ch.
 
-   Begin only with a CMIS module that has pages. Read bank 0, and then, unless it has no statistics (DOVECOUNTER_VDM_UNSUPPORTED), each
-   further bank that the module advertises, one after the other, since each is frozen by itself: bank 1, 2 or 3 if bit 0, 1 or 2
-   is 1 in what dovecounter_further_banks writes.
+   Begin only with a CMIS module that has pages. Read bank 0, and then, unless the module advertises no statistics
+   (DOVECOUNTER_VDM_UNSUPPORTED), each further bank that it advertises, one after the other, since each is frozen by itself: bank 1,
+   2 or 3 if bit 0, 1 or 2 is 1 in what dovecounter_further_banks writes.
 
    For all that the module measures, read it by dovecounter_read_begin too (with lanes above 8 also as dovecounter_further_banks
    says), and ask once and for each bank, each time until *place is 0: dovecounter_observables of those halves, from place 0 on

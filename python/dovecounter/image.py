@@ -331,8 +331,8 @@ class Image:
             observed.append(observable_of(found))
 
     def banks(self) -> Tuple[int, ...]:
-        """The banks of eight lanes that the module advertises, from bank 0 on, for which there are
-        readings of statistics (`VdmReading`). Needs the lower half of 0xA0 and page 01h."""
+        """The banks of eight lanes that the module advertises, from bank 0 on, whose statistics a
+        `VdmReading` reads. Needs the lower half of 0xA0 and page 01h."""
         requested = c_uint8()
         self.take(_further_banks(*self.arguments(), byref(requested)))
         return (0, *(bank for bank in (1, 2, 3) if requested.value >> (bank - 1) & 1))

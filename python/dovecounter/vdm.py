@@ -54,6 +54,7 @@ class VdmEnd:
     missing: Tuple[int, ...]
     """the advertised pages of the bank that couldn't be read"""
     bank: int = 0
+    """the bank that was read"""
 
 
 class VdmFault(Exception):
