@@ -1678,10 +1678,10 @@ static inline uint32_t dovecounter_explicit_run(struct dovecounter_explicit *pro
    (DOVECOUNTER_VDM_UNSUPPORTED), each further bank that it advertises, one after the other, since each is frozen by itself: bank 1,
    2 or 3 if bit 0, 1 or 2 is 1 in what dovecounter_further_banks writes.
 
-   For all that the module measures, read it by dovecounter_read_begin too (with lanes above 8 also as dovecounter_further_banks
-   says), and ask once and for each bank, each time until *place is 0: dovecounter_observables of those halves, from place 0 on
-   while *place is at most DOVECOUNTER_FIRST_INSTANCE; then of the halves of each of these readings and the lower half of 0xA0,
-   16 at most, from DOVECOUNTER_FIRST_INSTANCE on. */
+   For all that the module measures, also read it by dovecounter_read_begin, and for lanes above 8 as dovecounter_further_banks says.
+   Then ask dovecounter_observables several times, each time until *place is 0. First pass the halves of those readings, begin at place
+   0, and stop once *place is above DOVECOUNTER_FIRST_INSTANCE. Then for each bank pass the halves of its reading and the lower half of
+   0xA0, 16 at most, and begin at DOVECOUNTER_FIRST_INSTANCE. */
 
 /* The most halves of a reading: page 01h, and of the bank pages 2Fh and 20h to 2Ch. */
 #define DOVECOUNTER_MOST_VDM 15
