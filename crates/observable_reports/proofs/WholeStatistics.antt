@@ -41,7 +41,7 @@ use Rattle.vdm_reading.specs.BankPages.{bank_pages, groups_page}
 use Rattle.vdm_reading.specs.VdmAccounts.{IsAmong}
 use Rattle.vdm_reading.specs.VdmStages.{key_of}
 use Rattle.observable_reports.specs.FetchedObservables.{IsObserving}
-use Rattle.observable_reports.specs.SameStatistics.{HasOwnStatistics, IsAdvertised, IsStatistics, ObservedReportsSame, StatisticsWhole}
+use Rattle.observable_reports.specs.SameStatistics.{AdvertisedRead, HasOwnStatistics, IsAdvertised, IsStatistics, ObservedReportsSame, StatisticsWhole}
 use Rattle.observable_reports.proofs.BankReadings.{SeenWindow, ran_unscripted}
 use Rattle.observable_reports.proofs.WindowStatistics.{statistics_of, statistics_same}
 
@@ -127,17 +127,28 @@ no_instance memory bank n none =
     instance_is memory bank n
     ∙ ap (λ (half : Option (List ℕ)). instance_from n half (page_of memory bank (0x24 + n / 64)) (page_of memory bank (0x28 + n / 64)) (page_of memory bank 0x2C)) none
 
-module _ (memory before all : Memory) (own : HasOwnStatistics memory) (lanes : LanesAgree before memory) (all_lanes : LanesAgree all memory) (read : IsWhole memory before all)
-    (within : (page : ℕ) (bytes : List ℕ) → 0x20 ≤ page → map.get all (key_of page) ≡ Some bytes → map.get memory (key_of page) ≡ Some bytes)
-    (managed : managed_by (number memory (fields.Cmis cmis_fields.Identifier)) ≡ Some Cmis) where
+-- a page that is advertised is read if it is there
+module _ (memory before all : Memory) (lanes : LanesAgree before memory) (read : IsWhole memory before all) (managed : managed_by (number memory (fields.Cmis cmis_fields.Identifier)) ≡ Some Cmis) where
   id_before : managed_by (number before (fields.Cmis cmis_fields.Identifier)) ≡ Some Cmis
   id_before = ap managed_by (same_number before memory (fields.Cmis cmis_fields.Identifier) (low_agrees before memory lanes.all) refl refl) ∙ managed
 
-  id_all : managed_by (number all (fields.Cmis cmis_fields.Identifier)) ≡ Some Cmis
-  id_all = ap managed_by (same_number all memory (fields.Cmis cmis_fields.Identifier) (low_agrees all memory all_lanes.all) refl refl) ∙ managed
-
   flat_before : is_flat memory ≡ false → is_flat before ≡ false
   flat_before flat = ap (λ (n : ℕ). n == 1) (same_number before memory (fields.Cmis cmis_fields.FlatMemory) (low_agrees before memory lanes.all) refl refl) ∙ flat
+
+  there_too : (page : ℕ) (bytes : List ℕ) → 0x20 ≤ page → IsAdvertised memory page → map.get memory (key_of page) ≡ Some bytes → map.get all (key_of page) ≡ Some bytes
+  there_too page bytes above advert there =
+      let first = first_agrees before memory lanes.all id_before (flat_before advert.paged) in
+      let offered : has_observables before ≡ true = offered_same before memory first ∙ advert.offered in
+      let cmis : is_cmis before ≡ true = ap (is_family Cmis) id_before in
+      let count : statistics_banks before ≡ bank_count memory = (λ i. if cmis i && offered i then bank_count before else 0) ∙ same_count before memory (low_agrees before memory lanes.all) first in
+      let few = advert.banked in
+      read (lower_there memory managed) advert.offered (page / 256) (omega (arith, count, few)) page bytes above advert.listed there
+
+module _ (memory before all : Memory) (own : HasOwnStatistics memory) (lanes : LanesAgree before memory) (all_lanes : LanesAgree all memory) (read : IsWhole memory before all)
+    (within : (page : ℕ) (bytes : List ℕ) → 0x20 ≤ page → map.get all (key_of page) ≡ Some bytes → map.get memory (key_of page) ≡ Some bytes)
+    (managed : managed_by (number memory (fields.Cmis cmis_fields.Identifier)) ≡ Some Cmis) where
+  id_all : managed_by (number all (fields.Cmis cmis_fields.Identifier)) ≡ Some Cmis
+  id_all = ap managed_by (same_number all memory (fields.Cmis cmis_fields.Identifier) (low_agrees all memory all_lanes.all) refl refl) ∙ managed
 
   flat_all : is_flat memory ≡ false → is_flat all ≡ false
   flat_all flat = ap (λ (n : ℕ). n == 1) (same_number all memory (fields.Cmis cmis_fields.FlatMemory) (low_agrees all memory all_lanes.all) refl refl) ∙ flat
@@ -155,14 +166,7 @@ module _ (memory before all : Memory) (own : HasOwnStatistics memory) (lanes : L
       by : (one other : Option (List ℕ)) → map.get all (key_of page) ≡ one → map.get memory (key_of page) ≡ other → one ≡ other
       by None None held there = refl
       by (Some bytes) other held there = sym (within page bytes above held) ∙ there
-      by None (Some bytes) held there =
-          let advert = advertised page bytes is there in
-          let first = first_agrees before memory lanes.all id_before (flat_before advert.paged) in
-          let offered : has_observables before ≡ true = offered_same before memory first ∙ advert.offered in
-          let cmis : is_cmis before ≡ true = ap (is_family Cmis) id_before in
-          let count : statistics_banks before ≡ bank_count memory = (λ i. if cmis i && offered i then bank_count before else 0) ∙ same_count before memory (low_agrees before memory lanes.all) first in
-          let few = advert.banked in
-          sym held ∙ read (lower_there memory managed) advert.offered (page / 256) (omega (arith, count, few)) page bytes above advert.listed there
+      by None (Some bytes) held there = sym held ∙ there_too memory before all lanes read managed page bytes above (advertised page bytes is there) there
 
   banked : (bank page : ℕ) → 0x20 ≤ page → page < 0x30 → page_of all bank page ≡ page_of memory bank page
   banked bank page above below =
@@ -218,6 +222,15 @@ module _ (memory before all : Memory) (own : HasOwnStatistics memory) (lanes : L
       sides false e x y u v same = same
 
 -- ---- the whole
+
+pub advertised_read : AdvertisedRead
+advertised_read old new memory all image start (inl (fault, refused, fetched)) cmis page bytes is advert there = absurd cc
+advertised_read old new memory all image start (inr (mid, before, fetched, read_so)) cmis page bytes is advert there =
+    let window : old.state.1 ≡ started memory = ap (λ (state : List Directive × Windowed). state.1) start in
+    let is_fetched = fetched_is old mid memory before image window fetched in
+    let none = fetch_unscripted old mid before fetched (ap (λ (state : List Directive × Windowed). state.0) start) in
+    there_too memory before all is_fetched.lanes ((statistics_of memory before image mid is_fetched new all read_so).whole none)
+    (cmis_is (managed_by (number memory (fields.Cmis cmis_fields.Identifier))) cmis) page bytes (omega (arith, is.0)) advert there
 
 pub whole_read : StatisticsWhole
 whole_read old new memory all image own start (inl (fault, refused, fetched)) place above = absurd cc

@@ -57,7 +57,19 @@ HasOwnStatistics memory =
     is_family Cmis (managed_by (number memory (fields.Cmis cmis.Identifier))) ≡ true
     → (page : ℕ) (bytes : List ℕ) → IsStatistics page → map.get memory (key_of page) ≡ Some bytes → IsAdvertised memory page
 
--- without a script, all that the module lists itself is read as it is in the image
+-- of a CMIS module each page of statistics that it advertises is read as the memory has it, whatever others that has
+abbrev pub HasAdvertised : Memory → Memory → Type 0
+HasAdvertised memory all =
+    is_family Cmis (managed_by (number memory (fields.Cmis cmis.Identifier))) ≡ true
+    → (page : ℕ) (bytes : List ℕ) → IsStatistics page → IsAdvertised memory page → map.get memory (key_of page) ≡ Some bytes → map.get all (key_of page) ≡ Some bytes
+
+-- so it is without a script
+abbrev pub AdvertisedRead : Type 0
+AdvertisedRead =
+    (old new : Seen (List Directive × Windowed)) (memory all : Memory) → IsImage memory → old.state ≡ ([], started memory)
+    → IsObserving (script_rules window_conduct) old new (Ok all) → HasAdvertised memory all
+
+-- and all that the module lists itself is read as it is in the image, if that has no others
 abbrev pub StatisticsWhole : Type 0
 StatisticsWhole =
     (old new : Seen (List Directive × Windowed)) (memory all : Memory) → IsImage memory → HasOwnStatistics memory → old.state ≡ ([], started memory)

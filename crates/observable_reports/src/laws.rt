@@ -1,5 +1,5 @@
 //! What holds of the amounts that reports show, and of statistics that are read over a bus. Each function is a theorem: its contract says it, and its body is empty.
-ghost use Rattle.observable_reports.specs.SameStatistics.{ObservedReportsSame, StatisticsSame, StatisticsWhole};
+ghost use Rattle.observable_reports.specs.SameStatistics.{AdvertisedRead, ObservedReportsSame, StatisticsSame, StatisticsWhole};
 ghost use Rattle.observable_reports.specs.WrittenAmounts.{EachAmountIsWritten, EachWordIsANumber};
 
 /// The text of an amount writes exactly that number, or, if it has no end in decimal, that number rounded down to thousandths.
@@ -25,8 +25,9 @@ pub fn statistics_change_no_report()
     ensures { ObservedReportsSame }
 {}
 
-/// Over a bus without a script, with a new window of an image that has no other statistics than those that its banks advertise: each instance
-/// that `fetch_observables` answers is as the image has it.
+/// Over a bus without a script, with a new window of an image: `fetch_observables` answers each page of statistics that a CMIS module advertises
+/// and the image has. If the image has no others, each instance that it answers is as the image has it.
 pub fn statistics_are_read_whole()
-    ensures { StatisticsWhole }
+    ensures pages { AdvertisedRead }
+    ensures instances { StatisticsWhole }
 {}
