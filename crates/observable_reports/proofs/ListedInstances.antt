@@ -1,9 +1,11 @@
--- The instances that a module lists: one more, and those of memories that have the same.
-use Rattle.std.proofs.Common.{◌≡◌, ◌∙◌, ℕ, zero, suc, ◌+◌, ◌-◌, ◌<◌, ◌≤◌, Option, None, Some, ◌++◌, refl, sym, ap, append-nil, arith}
+-- The instances that a module lists: one more, what holds of all, and those of memories that have the same.
+use Rattle.std.proofs.Common.{◌≡◌, ◌∙◌, ℕ, zero, suc, ◌+◌, ◌-◌, ◌<◌, ◌≤◌, Bool, true, false, Option, None, Some, List, [], ◌∷◌, ◌++◌, refl, sym, ap, subst, append-nil, if◌then◌else◌, arith}
+use Rattle.std.specs.List.{AllByRecursion}
 use Rattle.paged_memory.specs.Images.{Memory}
 use Rattle.observables.specs.declared.observation.Observation.{Observation}
 use Rattle.observables.specs.Observations.{IsNextObservation, all_places, instance_places, monitor_places, observation_at}
 use Rattle.observable_reports.specs.ListedInstances.{all_listed, listed, listed_before}
+use Rattle.observable_reports.specs.declared.listed_instances.Seen.{Seen}
 
 abbrev NoneUpTo : Memory → ℕ → ℕ → Type 0
 NoneUpTo memory from to = (k : ℕ) → from ≤ k → k < to → observation_at memory k ≡ None
@@ -39,6 +41,32 @@ one_more memory from place found after next =
 pub no_more : (memory : Memory) (from : ℕ) → monitor_places ≤ from → from ≤ all_places → NoneUpTo memory from all_places → all_listed memory ≡ listed_before memory (from - monitor_places)
 no_more memory from after within none =
     same_up_to memory (from - monitor_places) instance_places (omega (arith, within)) (λ k above below. none k (omega (arith, above, after)) (omega (arith, below)))
+
+-- ---- what holds of all instances
+
+pub all_append : {A : Type 0} (P : A → Type 0) (xs ys : List A) → AllByRecursion P xs → AllByRecursion P ys → AllByRecursion P (xs ++ ys)
+all_append P [] ys all more = more
+all_append P (x ∷ xs) ys all more = (all.0, all_append P xs ys all.1 more)
+
+-- it holds of none, and still where a number has no instance, or one more
+module _ (P : ℕ → List Seen → Type 0) (none : P 0 []) (without : (n : ℕ) (seen : List Seen) → P n seen → P (suc n) seen)
+    (with_one : (n : ℕ) (seen : List Seen) (found : Observation) → P n seen → P (suc n) (seen ++ record { number = suc n; observation = found } ∷ [])) where
+  passed : (n : ℕ) (seen : List Seen) → P n seen → P (suc n) (seen ++ [])
+  passed n seen holds = subst (λ (all : List Seen). P (suc n) all) (sym (append-nil seen)) (without n seen holds)
+
+  if_advertised : (n : ℕ) (seen : List Seen) (found : Observation) (advertised : Bool) → P n seen
+      → P (suc n) (seen ++ (if advertised then record { number = suc n; observation = found } ∷ [] else []))
+  if_advertised n seen found false holds = passed n seen holds
+  if_advertised n seen found true holds = with_one n seen found holds
+
+  if_there : (n : ℕ) (seen : List Seen) (found : Option Observation) → P n seen → P (suc n) (seen ++ listed (suc n) found)
+  if_there n seen None holds = passed n seen holds
+  if_there n seen (Some found) holds = if_advertised n seen found found.advertised holds
+
+  pub each_listed : (memory : Memory) (n : ℕ) → P n (listed_before memory n)
+  unfolding listed_before
+  each_listed memory zero = none
+  each_listed memory (suc n) = if_there n (listed_before memory n) (observation_at memory (monitor_places + n)) (each_listed memory n)
 
 -- ---- memories with the same instances
 

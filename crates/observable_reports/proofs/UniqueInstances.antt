@@ -1,5 +1,5 @@
 -- The key of an instance ends in its number, behind the last dash, and begins as none of another line does.
-use Rattle.std.proofs.Common.{◌≡◌, ◌≢◌, ◌∙◌, ◌+◌, ◌<◌, ◌≤◌, ◌^◌, ◌==◌, ◌&&◌, ℕ, zero, suc, Bool, true, false, not, nat_lt, List, [], ◌∷◌, ◌++◌, append_assoc, Option, None, Some, length, map, get_or, decimal, codes, refl, sym, ap, subst, append-nil, if◌then◌else◌, arith}
+use Rattle.std.proofs.Common.{◌≡◌, ◌≢◌, ◌∙◌, ◌+◌, ◌<◌, ◌≤◌, ◌^◌, ◌==◌, ◌&&◌, ℕ, zero, suc, Bool, true, false, not, nat_lt, List, [], ◌∷◌, ◌++◌, append_assoc, length, map, get_or, decimal, codes, refl, sym, ap, subst, if◌then◌else◌, arith}
 use Rattle.std.proofs.lemmas.Bool.{false≢true, ne_eqb}
 use Rattle.std.proofs.lemmas.Fmt.{decimal_injective, decimal_is_IsNumeral}
 use Rattle.std.proofs.lemmas.List.{map-append}
@@ -18,7 +18,7 @@ use Rattle.module_details.specs.CmisDetails as cmis
 use Rattle.module_details.specs.Families.{cmis_entries, lacks_diagnostics, qsfp_entries, sfp_entries, tables_entries}
 use Rattle.module_details.specs.QsfpDetails as qsfp
 use Rattle.module_details.specs.SfpDetails as sfp
-use Rattle.observables.specs.Observations.{instance_places, monitor_places, observation_at}
+use Rattle.observables.specs.Observations.{instance_places}
 use Rattle.observables.specs.declared.observation.Observation.{Observation}
 use Rattle.paged_memory.specs.Images.{Memory}
 use Rattle.paged_memory.specs.declared.family.Family.{Family}
@@ -30,7 +30,8 @@ use Rattle.reports.proofs.UniqueDetails.{each_passes, keys_of}
 use Rattle.reports.specs.Details.{details_entries, entries_in}
 use Rattle.reports.specs.UniqueDetails.{entry_key}
 use Rattle.observable_reports.specs.Details.{instance_key, observed_name}
-use Rattle.observable_reports.specs.ListedInstances.{listed, listed_before}
+use Rattle.observable_reports.specs.ListedInstances.{all_listed}
+use Rattle.observable_reports.proofs.ListedInstances.{all_append, each_listed}
 use Rattle.observable_reports.specs.UniqueInstances.{InstancesHaveUniqueKeys}
 use Rattle.observable_reports.specs.declared.listed_instances.Seen.{Seen}
 
@@ -97,47 +98,30 @@ unlike n (s ∷ seen) last few is below =
     let last_fits : last.number < 2 ^ 64 = omega (arith, is, few) in
     (λ same. let clash = same_number s last fits last_fits same in absurd (omega (arith, clash, is, below.0)), unlike n seen last few is below.1)
 
-one_with : (n : ℕ) (seen : List Seen) (found : Observation) (advertised : Bool) → n < 1024 → AreUpTo n seen → AreDistinct seen
-    → AreDistinct (seen ++ (if advertised then record { number = suc n; observation = found } ∷ [] else []))
-one_with n seen found false few below apart = subst (λ (all : List Seen). AreDistinct all) (sym (append-nil seen)) apart
-one_with n seen found true few below apart =
-    let last : Seen = record { number = suc n; observation = found } in
-    subst (λ (ks : List (List ℕ)). AllPairs (λ (one other : List ℕ). one ≢ other) ks) (sym (map-append instance_key seen (last ∷ [])))
-    (all_pairs_push (λ (one other : List ℕ). one ≢ other) (keys seen) (instance_key last) apart
-    (at (λ (key : List ℕ). key ≢ instance_key last) (keys seen) (unlike n seen last few refl below)))
-
-with_one : (n : ℕ) (seen : List Seen) (found : Option Observation) → n < 1024 → AreUpTo n seen → AreDistinct seen → AreDistinct (seen ++ listed (suc n) found)
-with_one n seen None few below apart = subst (λ (all : List Seen). AreDistinct all) (sym (append-nil seen)) apart
-with_one n seen (Some found) few below apart = one_with n seen found found.advertised few below apart
-
-all_append : {A : Type 0} (P : A → Type 0) (xs ys : List A) → AllByRecursion P xs → AllByRecursion P ys → AllByRecursion P (xs ++ ys)
-all_append P [] ys all more = more
-all_append P (x ∷ xs) ys all more = (all.0, all_append P xs ys all.1 more)
-
 more_up_to : (n : ℕ) (seen : List Seen) → AreUpTo n seen → AreUpTo (suc n) seen
 more_up_to n [] below = tt
 more_up_to n (s ∷ seen) below = (omega (arith, below.0), more_up_to n seen below.1)
 
-one_up_to : (n : ℕ) (found : Observation) (advertised : Bool) → AreUpTo (suc n) (if advertised then record { number = suc n; observation = found } ∷ [] else [])
-one_up_to n found true = (omega arith, tt)
-one_up_to n found false = tt
+record AreNumbered (n : ℕ) (seen : List Seen) : Type 0 where
+  pub below : AreUpTo n seen
+  pub apart : n ≤ 1024 → AreDistinct seen
 
-last_up_to : (n : ℕ) (found : Option Observation) → AreUpTo (suc n) (listed (suc n) found)
-last_up_to n None = tt
-last_up_to n (Some found) = one_up_to n found found.advertised
+numbered_one : (n : ℕ) (seen : List Seen) (found : Observation) → AreNumbered n seen → AreNumbered (suc n) (seen ++ record { number = suc n; observation = found } ∷ [])
+numbered_one n seen found are =
+    let last : Seen = record { number = suc n; observation = found } in
+    record {
+      below = all_append (λ (s : Seen). s.number ≤ suc n) seen (last ∷ []) (more_up_to n seen are.below) (omega arith, tt);
+      apart = λ few.
+          subst (λ (ks : List (List ℕ)). AllPairs (λ (one other : List ℕ). one ≢ other) ks) (sym (map-append instance_key seen (last ∷ [])))
+          (all_pairs_push (λ (one other : List ℕ). one ≢ other) (keys seen) (instance_key last) (are.apart (omega (arith, few)))
+          (at (λ (key : List ℕ). key ≢ instance_key last) (keys seen) (unlike n seen last (omega (arith, few)) refl are.below)));
+    }
 
-up_to : (memory : Memory) (n : ℕ) → AreUpTo n (listed_before memory n)
-unfolding listed_before
-up_to memory zero = tt
-up_to memory (suc n) =
-    all_append (λ (s : Seen). s.number ≤ suc n) (listed_before memory n) (listed (suc n) (observation_at memory (monitor_places + n)))
-    (more_up_to n (listed_before memory n) (up_to memory n)) (last_up_to n (observation_at memory (monitor_places + n)))
-
-distinct : (memory : Memory) (n : ℕ) → n ≤ 1024 → AreDistinct (listed_before memory n)
-unfolding listed_before
-distinct memory zero few = λ i j d before last. absurd (omega (arith, last))
-distinct memory (suc n) few =
-    with_one n (listed_before memory n) (observation_at memory (monitor_places + n)) (omega (arith, few)) (up_to memory n) (distinct memory n (omega (arith, few)))
+numbered_all : (memory : Memory) → AreNumbered instance_places (all_listed memory)
+numbered_all memory =
+    each_listed AreNumbered (record { below = tt; apart = λ few i j d before last. absurd (omega (arith, last)) })
+    (λ n seen are. record { below = more_up_to n seen are.below; apart = λ few. are.apart (omega (arith, few)) })
+    numbered_one memory instance_places
 
 -- ---- other lines
 
@@ -203,6 +187,6 @@ family_apart families.Sff8472 memory = each_passes is_apart [] refl sfp.tables_o
 pub instances_have_unique_keys : InstancesHaveUniqueKeys
 unfolding details_entries
 instances_have_unique_keys = record {
-  among = λ memory. distinct memory instance_places (omega arith);
+  among = λ memory. (numbered_all memory).apart (omega arith);
   beside = λ memory seen. each_apart seen (entries_in (detail_family_of memory) memory) (family_apart (detail_family_of memory) memory);
 }
