@@ -11,7 +11,7 @@ use Rattle.module_metrics.specs.declared.label_fault.LabelFault.TheVariants.{Bad
 use Rattle.module_metrics.specs.Exposition.{Label, label}
 use Rattle.module_metrics.specs.Grammar.{is_name, is_reserved}
 use Rattle.module_metrics.specs.WellFormed.{AreApart, keys}
-use Rattle.module_metrics.proofs.RightMetrics.{all_append}
+use Rattle.observable_reports.proofs.ListedInstances.{all_append}
 
 -- ---- what a key without a fault is
 

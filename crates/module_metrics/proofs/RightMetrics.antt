@@ -9,6 +9,7 @@ use Rattle.module_metrics.specs.CommonLabels.{is_taken}
 use Rattle.module_metrics.specs.Exposition.{Label}
 use Rattle.module_metrics.specs.Grammar.{is_name, is_reserved}
 use Rattle.module_metrics.specs.WellFormed.{AreApart, AreLabels, keys}
+use Rattle.observable_reports.proofs.ListedInstances.{all_append}
 
 -- ---- labels of a sample after those that were added
 
@@ -37,10 +38,6 @@ each_unlike key [] free all = tt
 each_unlike key (own ∷ owns) free all =
     let parts = and_parts (is_own own) (list_all is_own owns) all in
     (free_unlike key own free parts.0, each_unlike key owns free parts.1)
-
-pub all_append : {A : Type 0} (P : A → Type 0) (xs ys : List A) → AllByRecursion P xs → AllByRecursion P ys → AllByRecursion P (xs ++ ys)
-all_append P [] ys all more = more
-all_append P (x ∷ xs) ys all more = (all.0, all_append P xs ys all.1 more)
 
 pub all_then : {A : Type 0} (P Q : A → Type 0) → ((x : A) → P x → Q x) → (xs : List A) → AllByRecursion P xs → AllByRecursion Q xs
 all_then P Q then [] all = tt

@@ -17,7 +17,8 @@ use Rattle.module_metrics.specs.VdmNames.{measures, vdm_name}
 use Rattle.module_metrics.specs.WellFormed.{AreApart, AreLabels, IsMetric}
 use Rattle.observable_reports.specs.declared.listed_instances.Seen.{Seen}
 use Rattle.module_metrics.specs.declared.vdm_name.Measure.{Measure}
-use Rattle.module_metrics.proofs.RightMetrics.{all_append, all_then, is_own, labels_right}
+use Rattle.observable_reports.proofs.ListedInstances.{all_append}
+use Rattle.module_metrics.proofs.RightMetrics.{all_then, is_own, labels_right}
 use Rattle.module_metrics.proofs.RowMetrics.{made_flat, names_of}
 use Rattle.module_metrics.proofs.ContentMetrics.{labels_of}
 use Rattle.module_metrics.proofs.SeenInstances.{AreNumbered, apart_append, numbers}
