@@ -6,7 +6,7 @@ use Rattle.observable_reports.specs.Details.{details_text}
 use Rattle.observable_reports.specs.ListedInstances.{all_listed}
 use Rattle.observable_reports.specs.SameStatistics.{HasOwnStatistics}
 use Rattle.observable_reports.proofs.ListedInstances.{listed_same}
-use Rattle.observable_reports.proofs.WholeStatistics.{observed_reports, whole_read}
+use Rattle.observable_reports.proofs.WholeStatistics.{advertised_read, observed_reports, whole_read}
 use Rattle.observable_reports.proofs.WindowStatistics.{statistics_same}
 use Rattle.reports.specs.Details.{details_entries, details_fault}
 use Rattle.reports.specs.SameReports.{IsSame}
@@ -74,6 +74,7 @@ module _ (options : Options) where
           is_text = ap text_in same;
           whole = whole input more (is.0, is.1, (Ok memory, copy.is_text, plain)) (λ clash. cc) (λ clash. cc);
           pages = statistics_same (window_at_start memory) copy.is_read.0 memory copy.copy copy.is_text.image refl copy.is_read.1;
+          advertised = advertised_read (window_at_start memory) copy.is_read.0 memory copy.copy copy.is_text.image refl copy.is_read.1;
           own = own_same memory copy.copy copy.is_text.image copy.is_read;
         }
     told (Some g) some same = absurd cc

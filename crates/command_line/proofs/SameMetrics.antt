@@ -14,7 +14,7 @@ use Rattle.module_metrics.specs.Unless.{unless}
 use Rattle.module_metrics.specs.VdmMetrics.{vdm_metrics, vdm_seen}
 use Rattle.module_metrics.proofs.SameListed.{listed_same}
 use Rattle.observable_reports.specs.SameStatistics.{HasOwnStatistics}
-use Rattle.observable_reports.proofs.WholeStatistics.{observed_lanes, observed_reports, whole_read}
+use Rattle.observable_reports.proofs.WholeStatistics.{advertised_read, observed_lanes, observed_reports, whole_read}
 use Rattle.observable_reports.proofs.WindowStatistics.{statistics_same}
 use Rattle.reports.specs.Reports.{all_lanes_entries, all_lanes_flag_states, flags_fault, inventory_entries, inventory_fault, monitors_fault}
 use Rattle.reports.specs.SameReports.{IsSame, ReportsSame}
@@ -118,6 +118,7 @@ module _ (options : Options) where
         is_text = text_is;
         whole = whole input (Ok more) (is.0, is.1, (Ok memory, copy.is_text, λ i. Ok (text_too i, fault_is i))) (λ clash. cc) (λ clash. cc);
         pages = statistics_same (window_at_start memory) copy.is_read.0 memory copy.copy image refl copy.is_read.1;
+        advertised = advertised_read (window_at_start memory) copy.is_read.0 memory copy.copy image refl copy.is_read.1;
         own = own_same memory copy.copy image copy.is_read;
       }
 

@@ -6,7 +6,7 @@ use Rattle.text_lines.specs.Lines.{lines_of}
 use Rattle.paged_memory.specs.Images as images
 use Rattle.paged_memory.specs.ImageText.{IsTextOf}
 use Rattle.paged_memory.specs.Keys.{page_key}
-use Rattle.observable_reports.specs.SameStatistics.{HasOwnStatistics}
+use Rattle.observable_reports.specs.SameStatistics.{HasAdvertised, HasOwnStatistics}
 use Rattle.module_metrics.specs.Exposition.{Label, exposition}
 use Rattle.module_metrics.specs.VdmMetrics.{vdm_metrics}
 use Rattle.observable_reports.specs.Details.{printed_with}
@@ -65,7 +65,8 @@ metrics_with labels reports seen = reports ++ exposition labels (vdm_metrics see
 abbrev pub details_with : Options → List Entry → List Seen → List ℕ
 details_with options entries seen = shown_as options.coloring options.json (printed_with options.json entries seen)
 
--- over a bus that is told of the statistics that were read, which are the image's; without `--bus` of all that the image has
+-- with `--bus` it tells of the statistics that were read, which are the image's, and all that this advertises; without `--bus` of all that the image
+-- has
 pub record IsFollowed {T : Type 0} (seen_in : images.Memory → List Seen) (printed : T → List Seen → List ℕ) (request : Bool → Request) (input text : List ℕ) (reported : Option ReportedFault) : Type 0 where
   pub memory : images.Memory
   pub read : images.Memory
@@ -74,6 +75,7 @@ pub record IsFollowed {T : Type 0} (seen_in : images.Memory → List Seen) (prin
   pub is_text : text ≡ printed beside (seen_in read)
   pub whole : IsPlainAnswer request input (Ok (printed beside (seen_in memory), reported))
   pub pages : (page : ℕ) (bytes : List ℕ) → 0x20 ≤ page → map.get read (page_key page) ≡ Some bytes → map.get memory (page_key page) ≡ Some bytes
+  pub advertised : HasAdvertised memory read
   pub own : HasOwnStatistics memory → seen_in read ≡ seen_in memory
 
 abbrev pub IsFollowedAnswer : {T : Type 0} → (images.Memory → List Seen) → (T → List Seen → List ℕ) → (Bool → Request) → List ℕ → Answer → Type 0
