@@ -12,7 +12,7 @@ pub const VERSION: &str = version!();
 
 /// The same, and the versions of the texts that are read and printed.
 pub const VERSION_WITH_TEXTS: &str = version!(
-    " (texts: module-image 1, certificate 1, certificate 2, certificate 3, certificate 4)"
+    " (texts: module-image 1, module-image 2, certificate 1, certificate 2, certificate 3, certificate 4)"
 );
 
 /// The version, for C.
