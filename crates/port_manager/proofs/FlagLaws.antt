@@ -16,6 +16,7 @@ use Rattle.port_manager.specs.declared.flags.FlagKeeper.{FlagKeeper}
 use Rattle.port_manager.specs.declared.port.Outcome.{Outcome}
 use Rattle.port_manager.specs.Flags.{counted, counted_at, counts_since, dated, dated_at, flags_by, identifier_by, is_cmis, is_raised, last_since, noted, since_at}
 use Rattle.port_manager.specs.KeptFlags.{IsHeld, IsUnacknowledged, NoFlagIsLost, ShowsCmis, ShowsLane, ShowsModule, identifier_in, identifier_read}
+use Rattle.port_manager.specs.KeptLanes.{IsUnknown, LaneEvent, NoLaneFlagIsLost, know, lanes_in, show}
 use Rattle.port_manager.specs.Stories.{Story, acknowledge, ask, drop, keeper_in, make, plug, pull, reconsider, hold, demand, hear}
 
 -- ---- one list of counts and one of moments
@@ -75,7 +76,7 @@ abbrev HeldModule : Flags → ℕ → ℕ → Type 0
 HeldModule flags now place = IsHeld flags.module_counts flags.module_last now place
 
 abbrev HeldLane : Flags → ℕ → ℕ → Type 0
-HeldLane flags now place = IsHeld flags.lane_counts flags.lane_last now place
+HeldLane flags now place = IsHeld flags.lanes.counts flags.lanes.last now place
 
 module_by : (cmis known : Bool) (flags : Flags) (offset : ℕ) (bytes : List ℕ) (now moment place : ℕ) → place < 32 → HeldModule flags now place → HeldModule (flags_by cmis known flags offset bytes moment) now place
 module_by true true flags offset bytes now moment place within held = still 32 flags.module_counts flags.module_last offset bytes 8 now moment place within held
@@ -83,7 +84,7 @@ module_by true false flags offset bytes now moment place within held = still 32 
 module_by false known flags offset bytes now moment place within held = held
 
 lane_by : (cmis known : Bool) (flags : Flags) (offset : ℕ) (bytes : List ℕ) (now moment place : ℕ) → place < 152 → HeldLane flags now place → HeldLane (flags_by cmis known flags offset bytes moment) now place
-lane_by true true flags offset bytes now moment place within held = still 152 flags.lane_counts flags.lane_last offset bytes 134 now moment place within held
+lane_by true true flags offset bytes now moment place within held = still 152 flags.lanes.counts flags.lanes.last offset bytes 134 now moment place within held
 lane_by true false flags offset bytes now moment place within held = held
 lane_by false known flags offset bytes now moment place within held = held
 
@@ -121,7 +122,7 @@ module _ (keeper : FlagKeeper) (identifier : ℕ) (same : keeper.identifier ≡ 
   module_shown false known flags offset bytes now place e within raised = absurd (let same : false ≡ true = e in cc)
 
   lane_shown : (cmis known : Bool) (flags : Flags) (offset : ℕ) (bytes : List ℕ) (now place : ℕ) → cmis ≡ true → known ≡ true → place < 152 → is_raised offset bytes 134 place ≡ true → HeldLane (flags_by cmis known flags offset bytes now) now place
-  lane_shown true true flags offset bytes now place e is within raised = new 152 flags.lane_counts flags.lane_last offset bytes 134 now place within raised
+  lane_shown true true flags offset bytes now place e is within raised = new 152 flags.lanes.counts flags.lanes.last offset bytes 134 now place within raised
   lane_shown true false flags offset bytes now place e is within raised = absurd (let same : false ≡ true = is in cc)
   lane_shown false known flags offset bytes now place e is within raised = absurd (let same : false ≡ true = e in cc)
 
@@ -202,7 +203,7 @@ lane_held (ask asked moment ∷ more) before op reply wanted now result place wi
 lane_held (drop ∷ more) before op reply wanted now result place within cmis shows unknown = lane_held more before op reply wanted now result place within cmis shows unknown
 lane_held (acknowledge past ∷ more) before op reply wanted now result place within cmis shows unknown =
     let keeper = keeper_in (more ++ (make op reply wanted now result ∷ before)) in
-    stays 152 keeper.flags.lane_counts keeper.flags.lane_last now past place within unknown.0 (lane_held more before op reply wanted now result place within cmis shows unknown.1)
+    stays 152 keeper.flags.lanes.counts keeper.flags.lanes.last now past place within unknown.0 (lane_held more before op reply wanted now result place within cmis shows unknown.1)
 lane_held (make other given weights moment led ∷ more) before op reply wanted now result place within cmis shows unknown =
     lane_noted (keeper_in (more ++ (make op reply wanted now result ∷ before))) other given now moment place within (lane_held more before op reply wanted now result place within cmis shows unknown)
 
@@ -212,3 +213,18 @@ no_flag_is_lost = record {
   lane_flags = lane_held;
   of_another = λ before op reply wanted now result other. none_counted (keeper_in before) (identifier_in before) (identified before) op reply now other;
 }
+
+-- ---- the lanes of a bank
+
+lane_stays : (more before : List LaneEvent) (offset : ℕ) (bytes : List ℕ) (now place : ℕ) → place < 152 → is_raised offset bytes 134 place ≡ true → IsUnknown now more
+    → IsHeld (lanes_in (more ++ (show offset bytes now ∷ before))).counts (lanes_in (more ++ (show offset bytes now ∷ before))).last now place
+lane_stays [] before offset bytes now place within raised unknown = new 152 (lanes_in before).counts (lanes_in before).last offset bytes 134 now place within raised
+lane_stays (show other given moment ∷ more) before offset bytes now place within raised unknown =
+    let held = lanes_in (more ++ (show offset bytes now ∷ before)) in
+    still 152 held.counts held.last other given 134 now moment place within (lane_stays more before offset bytes now place within raised unknown)
+lane_stays (know past ∷ more) before offset bytes now place within raised unknown =
+    let held = lanes_in (more ++ (show offset bytes now ∷ before)) in
+    stays 152 held.counts held.last now past place within unknown.0 (lane_stays more before offset bytes now place within raised unknown.1)
+
+pub no_flag_of_a_bank_is_lost : NoLaneFlagIsLost
+no_flag_of_a_bank_is_lost = lane_stays

@@ -20,19 +20,17 @@ use Rattle.field_tables.specs.declared.field.Field.TheVariants as fields
 use Rattle.field_tables.specs.declared.table.cmis.CmisField.TheVariants as cmis_fields
 use Rattle.field_tables.specs.FieldValues.{number_in_byte}
 use Rattle.port_manager.specs.declared.flags.Flags.{Flags}
+use Rattle.port_manager.specs.declared.lane_flags.LaneFlags.{LaneFlags}
 use Rattle.port_manager.specs.Codes.{no_codes, with_codes}
 use Rattle.port_manager.specs.Counts.{later_of, one_more}
 use Rattle.port_manager.specs.declared.flags.FlagKeeper.{FlagKeeper}
 
+-- of a bank's eight lanes
+abbrev pub no_lanes : LaneFlags
+no_lanes = record { counts = replicate 152 0; last = replicate 152 0; states = no_codes; statuses = no_codes }
+
 abbrev pub no_flags : Flags
-no_flags = record {
-  module_counts = replicate 32 0;
-  module_last = replicate 32 0;
-  lane_counts = replicate 152 0;
-  lane_last = replicate 152 0;
-  states = no_codes;
-  statuses = no_codes;
-}
+no_flags = record { module_counts = replicate 32 0; module_last = replicate 32 0; lanes = no_lanes }
 
 -- so often they were raised, and nothing is known of the module: an identifier of 0 is none's
 abbrev pub unread : Flags → FlagKeeper
@@ -67,15 +65,18 @@ abbrev pub with_module : Flags → ℕ → List ℕ → ℕ → Flags
 with_module held offset bytes now =
     record held { module_counts = counted 32 held.module_counts offset bytes 8; module_last = dated 32 held.module_last offset bytes 8 now }
 
--- page 11h has them from byte 134 on, the data path states from 128 on, and the configuration statuses from 202 on
-abbrev pub with_lanes : Flags → ℕ → List ℕ → ℕ → Flags
-with_lanes held offset bytes now =
-    record held {
-      lane_counts = counted 152 held.lane_counts offset bytes 134;
-      lane_last = dated 152 held.lane_last offset bytes 134 now;
+-- page 11h of a bank has them from byte 134 on, the data path states from 128 on, and the configuration statuses from 202 on
+abbrev pub lanes_with : LaneFlags → ℕ → List ℕ → ℕ → LaneFlags
+lanes_with held offset bytes now =
+    record {
+      counts = counted 152 held.counts offset bytes 134;
+      last = dated 152 held.last offset bytes 134 now;
       states = with_codes held.states offset bytes 128 now;
       statuses = with_codes held.statuses offset bytes 202 now;
     }
+
+abbrev pub with_lanes : Flags → ℕ → List ℕ → ℕ → Flags
+with_lanes held offset bytes now = record held { lanes = lanes_with held.lanes offset bytes now }
 
 -- the page that the lower memory shows as selected, unless the module has no other page than 00h
 abbrev pub shown_page : List ℕ → KnownPage
@@ -127,15 +128,17 @@ counts_since count counts last moment = map (since_at counts last moment) (range
 unfoldable pub last_since : ℕ → List ℕ → ℕ → List ℕ
 last_since count last moment = map (since_at last last moment) (range_with_len 0 count)
 
+-- codes stay as they are
+abbrev pub lanes_since : LaneFlags → ℕ → LaneFlags
+lanes_since held moment =
+    record { counts = counts_since 152 held.counts held.last moment; last = last_since 152 held.last moment; states = held.states; statuses = held.statuses }
+
 abbrev pub since : Flags → ℕ → Flags
 since held moment =
     record {
       module_counts = counts_since 32 held.module_counts held.module_last moment;
       module_last = last_since 32 held.module_last moment;
-      lane_counts = counts_since 152 held.lane_counts held.lane_last moment;
-      lane_last = last_since 152 held.lane_last moment;
-      states = held.states;
-      statuses = held.statuses;
+      lanes = lanes_since held.lanes moment;
     }
 
 abbrev pub acknowledged : FlagKeeper → ℕ → FlagKeeper

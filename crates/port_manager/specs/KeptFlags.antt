@@ -86,6 +86,6 @@ pub record NoFlagIsLost : Type 0 where
   pub module_flags : (more before : Story) (op : Op) (reply : Reply) (wanted : Wanted) (now : ℕ) (result : Outcome) (place : ℕ) → place < 32 → ShowsCmis op reply before → ShowsModule op reply place → IsUnacknowledged now more
       → IsHeld (keeper_in (more ++ (make op reply wanted now result ∷ before))).flags.module_counts (keeper_in (more ++ (make op reply wanted now result ∷ before))).flags.module_last now place
   pub lane_flags : (more before : Story) (op : Op) (reply : Reply) (wanted : Wanted) (now : ℕ) (result : Outcome) (place : ℕ) → place < 152 → ShowsCmis op reply before → ShowsLane (keeper_in before).selected op reply place → IsUnacknowledged now more
-      → IsHeld (keeper_in (more ++ (make op reply wanted now result ∷ before))).flags.lane_counts (keeper_in (more ++ (make op reply wanted now result ∷ before))).flags.lane_last now place
+      → IsHeld (keeper_in (more ++ (make op reply wanted now result ∷ before))).flags.lanes.counts (keeper_in (more ++ (make op reply wanted now result ∷ before))).flags.lanes.last now place
   pub of_another : (before : Story) (op : Op) (reply : Reply) (wanted : Wanted) (now : ℕ) (result : Outcome) → ShowsOther op reply before
       → (keeper_in (make op reply wanted now result ∷ before)).flags ≡ (keeper_in before).flags

@@ -25,6 +25,7 @@ pub mod CameUp
 pub mod LeftReasons
 pub mod Idle
 pub mod KeptFlags
+pub mod KeptLanes
 pub mod Progress
 pub mod Presences
 pub mod Requested

@@ -5,7 +5,7 @@ ghost use Rattle.bus_model.specs.Operations.{Answers};
 ghost use Rattle.port_manager.specs.Counts as counts;
 ghost use Rattle.port_manager.specs.Flags as spec;
 
-use crate::codes::LaneCodes;
+use crate::lane_flags::LaneFlags;
 use bus_model::{Dev, Op, Reply};
 use field_tables::{field, number_in_byte};
 use paged_memory::{Family, KnownPage, PageAddressing};
@@ -17,12 +17,8 @@ pub struct Flags {
     /// Bytes 8 to 11 of the lower memory.
     pub module_counts: [u16; 32],
     pub module_last: [u64; 32],
-    /// Bytes 134 to 152 of page 11h, which have a bit for each lane.
-    pub lane_counts: [u16; 152],
-    pub lane_last: [u64; 152],
-    /// The lanes' data path states, and their configuration statuses, of page 11h.
-    pub states: LaneCodes,
-    pub statuses: LaneCodes,
+    /// Those of the lanes of bank 0.
+    pub lanes: LaneFlags,
 }
 
 /// Which flags were read as raised.
@@ -43,25 +39,25 @@ impl Flags {
         Flags {
             module_counts: [0; 32],
             module_last: [0; 32],
-            lane_counts: [0; 152],
-            lane_last: [0; 152],
-            states: LaneCodes::none(),
-            statuses: LaneCodes::none(),
+            lanes: LaneFlags::none(),
         }
     }
 
-    /// Without those that were last read as raised at this moment or before it.
-    fn since(&self, moment: u64) -> Flags
-        ensures { result ≡ spec.since self.now moment }
+    // Those that were last read as raised at this moment or before it are known.
+    fn acknowledge_to(&mut self, moment: u64)
+        ensures { self.new ≡ spec.since self.old moment }
     {
-        Flags {
-            module_counts: counts_since(&self.module_counts, &self.module_last, moment),
-            module_last: last_since(&self.module_last, moment),
-            lane_counts: counts_since(&self.lane_counts, &self.lane_last, moment),
-            lane_last: last_since(&self.lane_last, moment),
-            states: self.states,
-            statuses: self.statuses,
-        }
+        self.module_counts = counts_since(&self.module_counts, &self.module_last, moment);
+        self.module_last = last_since(&self.module_last, moment);
+        self.lanes.acknowledge(moment);
+    }
+
+    // Bytes from this address on were read of the lower memory, or of an upper half.
+    fn take_module(&mut self, offset: u8, bytes: &[u8], now: u64)
+        ensures { self.new ≡ spec.with_module self.old offset bytes.now now }
+    {
+        self.module_counts = counted(&self.module_counts, offset, bytes, 8);
+        self.module_last = dated(&self.module_last, offset, bytes, 8, now);
     }
 }
 
@@ -102,7 +98,7 @@ impl FlagKeeper {
     pub fn acknowledge(&mut self, moment: u64)
         ensures { self.new ≡ spec.acknowledged self.old moment }
     {
-        self.flags = self.flags.since(moment);
+        self.flags.acknowledge_to(moment);
     }
 
     fn take_bytes(&mut self, offset: u8, count: u8, bytes: &[u8], now: u64)
@@ -113,9 +109,9 @@ impl FlagKeeper {
             self.identifier = bytes[0];
         }
         if is_cmis(self.identifier) {
-            self.flags = with_module(&self.flags, offset, bytes, now);
+            self.flags.take_module(offset, bytes, now);
             if self.selected == KnownPage::Page(0x11) {
-                self.flags = with_lanes(&self.flags, offset, bytes, now);
+                self.flags.lanes.take(offset, bytes, now);
             }
         }
         if offset == 0 && count == 128 {
@@ -145,36 +141,8 @@ fn shown_page(lower: &[u8]) -> KnownPage
     }
 }
 
-// With what bytes from this address on show of the lower memory.
-fn with_module(held: &Flags, offset: u8, bytes: &[u8], now: u64) -> Flags
-    ensures { result ≡ spec.with_module held.now offset bytes.now now }
-{
-    Flags {
-        module_counts: counted(&held.module_counts, offset, bytes, 8),
-        module_last: dated(&held.module_last, offset, bytes, 8, now),
-        lane_counts: held.lane_counts,
-        lane_last: held.lane_last,
-        states: held.states,
-        statuses: held.statuses,
-    }
-}
-
-// With what they show of page 11h, which is selected.
-fn with_lanes(held: &Flags, offset: u8, bytes: &[u8], now: u64) -> Flags
-    ensures { result ≡ spec.with_lanes held.now offset bytes.now now }
-{
-    Flags {
-        module_counts: held.module_counts,
-        module_last: held.module_last,
-        lane_counts: counted(&held.lane_counts, offset, bytes, 134),
-        lane_last: dated(&held.lane_last, offset, bytes, 134, now),
-        states: held.states.with(offset, bytes, 128, now),
-        statuses: held.statuses.with(offset, bytes, 202, now),
-    }
-}
-
-// How often each flag from an address on was raised, with what bytes from another address on show.
-fn counted<const N: usize>(held: &[u16; N], offset: u8, bytes: &[u8], first: u8) -> [u16; N]
+/// How often each flag from an address on was raised, with what bytes from another address on show.
+pub fn counted<const N: usize>(held: &[u16; N], offset: u8, bytes: &[u8], first: u8) -> [u16; N]
     requires { N ≤ 256 }
     ensures { result ≡ spec.counted N held.now offset bytes.now first }
 {
@@ -192,8 +160,14 @@ pub fn one_more(held: u16, read: bool) -> u16
     if read { held.saturating_add(1) } else { held }
 }
 
-// When each was last raised.
-fn dated<const N: usize>(held: &[u64; N], offset: u8, bytes: &[u8], first: u8, now: u64) -> [u64; N]
+/// When each was last raised.
+pub fn dated<const N: usize>(
+    held: &[u64; N],
+    offset: u8,
+    bytes: &[u8],
+    first: u8,
+    now: u64,
+) -> [u64; N]
     requires { N ≤ 256 }
     ensures { result ≡ spec.dated N held.now offset bytes.now first now }
 {
@@ -225,8 +199,8 @@ fn is_raised(offset: u8, bytes: &[u8], first: u8, place: usize) -> bool
     }
 }
 
-// The counts of those that were last raised after a moment.
-fn counts_since<const N: usize>(counts: &[u16; N], last: &[u64; N], moment: u64) -> [u16; N]
+/// The counts of those that were last raised after a moment.
+pub fn counts_since<const N: usize>(counts: &[u16; N], last: &[u64; N], moment: u64) -> [u16; N]
     ensures { result ≡ spec.counts_since N counts.now last.now moment }
 {
     let mut kept = [0; N];
@@ -240,7 +214,8 @@ fn counts_since<const N: usize>(counts: &[u16; N], last: &[u64; N], moment: u64)
     kept
 }
 
-fn last_since<const N: usize>(last: &[u64; N], moment: u64) -> [u64; N]
+/// When those were last raised.
+pub fn last_since<const N: usize>(last: &[u64; N], moment: u64) -> [u64; N]
     ensures { result ≡ spec.last_since N last.now moment }
 {
     let mut kept = [0; N];

@@ -20,6 +20,7 @@ ghost use Rattle.port_manager.specs.Decisions.{IsDecision};
 ghost use Rattle.port_manager.specs.Goals.{IsGoalBy, is_deactivated, kept_of, wanted_of};
 ghost use Rattle.port_manager.specs.Idle.{LeavesWhatIsUp};
 ghost use Rattle.port_manager.specs.KeptFlags.{NoFlagIsLost};
+ghost use Rattle.port_manager.specs.KeptLanes.{NoLaneFlagIsLost};
 ghost use Rattle.port_manager.specs.LeftAlone.{IsReadAgain};
 ghost use Rattle.port_manager.specs.LeftReasons.{LeftAsFound};
 ghost use Rattle.port_manager.specs.Ports.{next_at};
@@ -125,6 +126,12 @@ pub fn one_decision()
 /// read, counts and dates nothing.
 pub fn no_flag_is_lost()
     ensures { NoFlagIsLost }
+{}
+
+/// Each flag that what is read of a bank's page 11h shows as raised is counted, and dated no earlier, until what was read at that moment is
+/// acknowledged, whatever is read meanwhile.
+pub fn no_flag_of_a_bank_is_lost()
+    ensures { NoLaneFlagIsLost }
 {}
 
 /// No store of a goal has a bit of DPDeinit or ApplyDPInit of a lane that a kept path takes.

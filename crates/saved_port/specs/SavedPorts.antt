@@ -28,6 +28,7 @@ use Rattle.port_manager.specs.declared.deciding.LeftBecause.TheVariants.{Advert,
 use Rattle.port_manager.specs.declared.deciding.LeftBecause.TheVariants as reasons
 use Rattle.port_manager.specs.declared.codes.LaneCodes.{LaneCodes}
 use Rattle.port_manager.specs.declared.flags.Flags.{Flags}
+use Rattle.port_manager.specs.declared.lane_flags.LaneFlags.{LaneFlags}
 use Rattle.port_manager.specs.declared.job.Job.{Job}
 use Rattle.port_manager.specs.declared.job.Job.TheVariants.{Reading, Waking, Sleeping, Provisioning, Activating, Confirming, Watching}
 use Rattle.port_manager.specs.declared.look.Look.{Look}
@@ -45,6 +46,7 @@ use Rattle.port_manager.specs.Patients.{Patient}
 use Rattle.saved_port.specs.declared.numbers.SavedCodes.{SavedCodes}
 use Rattle.saved_port.specs.declared.numbers.SavedFlags.{SavedFlags}
 use Rattle.saved_port.specs.declared.numbers.SavedGoal.{SavedGoal}
+use Rattle.saved_port.specs.declared.numbers.SavedLanes.{SavedLanes}
 use Rattle.saved_port.specs.declared.numbers.SavedLeft.{SavedLeft}
 use Rattle.saved_port.specs.declared.numbers.SavedPort.{SavedPort}
 use Rattle.saved_port.specs.declared.numbers.SavedTimes.{SavedTimes}
@@ -60,15 +62,11 @@ times_in saved = record { settle = saved.settle; period = saved.period; first = 
 abbrev pub codes_in : SavedCodes → LaneCodes
 codes_in saved = record { codes = saved.codes; changes = saved.changes; last = saved.last }
 
+abbrev pub lane_flags_in : SavedLanes → LaneFlags
+lane_flags_in saved = record { counts = saved.counts; last = saved.last; states = codes_in saved.states; statuses = codes_in saved.statuses }
+
 abbrev pub flags_in : SavedFlags → Flags
-flags_in saved = record {
-  module_counts = saved.module_counts;
-  module_last = saved.module_last;
-  lane_counts = saved.lane_counts;
-  lane_last = saved.lane_last;
-  states = codes_in saved.states;
-  statuses = codes_in saved.statuses;
-}
+flags_in saved = record { module_counts = saved.module_counts; module_last = saved.module_last; lanes = lane_flags_in saved.lanes }
 
 -- 2 if this page was read back, 1 if that is awaited
 abbrev pub page_in : ℕ → ℕ → KnownPage

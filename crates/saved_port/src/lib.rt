@@ -10,8 +10,10 @@ mod saving;
 mod work;
 
 pub use known::take_known;
-pub use numbers::{SavedCodes, SavedFlags, SavedGoal, SavedLeft, SavedPort, SavedTimes, SavedWork};
+pub use numbers::{
+    SavedCodes, SavedFlags, SavedGoal, SavedLanes, SavedLeft, SavedPort, SavedTimes, SavedWork,
+};
 pub use outcome::{SavedOutcome, outcome_of};
 pub use place::place_of;
-pub use restoring::{request_in, restore};
-pub use saving::save;
+pub use restoring::{put_lanes, request_in, restore};
+pub use saving::{numbers_of_lanes, save};

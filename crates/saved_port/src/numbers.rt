@@ -22,16 +22,23 @@ pub struct SavedCodes {
     pub codes: [u8; 8],
 }
 
-/// How often each flag was read as raised, and when last; and the lanes' data path states and configuration statuses.
+/// How often each flag of a bank's lanes was read as raised, and when last; and those lanes' data path states and configuration statuses.
+#[repr(C)]
+#[derive(Clone, Copy)]
+pub struct SavedLanes {
+    pub counts: [u16; 152],
+    pub last: [u64; 152],
+    pub states: SavedCodes,
+    pub statuses: SavedCodes,
+}
+
+/// How often each flag of the module was read as raised, and when last; and the same of the lanes of bank 0.
 #[repr(C)]
 #[derive(Clone, Copy)]
 pub struct SavedFlags {
     pub module_counts: [u16; 32],
     pub module_last: [u64; 32],
-    pub lane_counts: [u16; 152],
-    pub lane_last: [u64; 152],
-    pub states: SavedCodes,
-    pub statuses: SavedCodes,
+    pub lanes: SavedLanes,
 }
 
 /// Why a module is left alone: a number, what the memory shows, or the place of a half that is absent.

@@ -10,7 +10,7 @@ ghost use Rattle.saved_port.specs.SavedPorts.{port_in};
 ghost use Rattle.saved_port.specs.SavedPorts as spec;
 
 use crate::numbers::{
-    SavedCodes, SavedFlags, SavedGoal, SavedLeft, SavedPort, SavedTimes, SavedWork,
+    SavedCodes, SavedFlags, SavedGoal, SavedLanes, SavedLeft, SavedPort, SavedTimes, SavedWork,
 };
 use crate::work;
 use applications::AdvertFault;
@@ -18,7 +18,8 @@ use bus_model::Dev;
 use field_tables::LaneSet;
 use paged_memory::{Key, KnownPage, SmallImage};
 use port_manager::{
-    Flags, Goal, Job, LaneCodes, LeftBecause, Outstanding, Port, Request, Silence, Stage, Times,
+    Flags, Goal, Job, LaneCodes, LaneFlags, LeftBecause, Outstanding, Port, Request, Silence,
+    Stage, Times,
 };
 
 /// What stands in each port, so that other memory is not taken for one: `DCP1`.
@@ -78,10 +79,17 @@ fn put_flags(saved: &SavedFlags, flags: &mut Flags)
 {
     flags.module_counts = saved.module_counts;
     flags.module_last = saved.module_last;
-    flags.lane_counts = saved.lane_counts;
-    flags.lane_last = saved.lane_last;
-    flags.states = codes_in(&saved.states);
-    flags.statuses = codes_in(&saved.statuses);
+    put_lanes(&saved.lanes, &mut flags.lanes);
+}
+
+/// Makes what was read of a bank's lanes what these numbers say.
+pub fn put_lanes(saved: &SavedLanes, lanes: &mut LaneFlags)
+    ensures { lanes.new ≡ spec.lane_flags_in saved.now }
+{
+    lanes.counts = saved.counts;
+    lanes.last = saved.last;
+    lanes.states = codes_in(&saved.states);
+    lanes.statuses = codes_in(&saved.statuses);
 }
 
 fn codes_in(saved: &SavedCodes) -> LaneCodes

@@ -12,7 +12,7 @@ ghost use Rattle.saved_port.specs.Shown as shown;
 ghost use Rattle.saved_port.specs.Shown.{IsShown};
 
 use crate::numbers::{
-    SavedCodes, SavedFlags, SavedGoal, SavedLeft, SavedPort, SavedTimes, SavedWork,
+    SavedCodes, SavedFlags, SavedGoal, SavedLanes, SavedLeft, SavedPort, SavedTimes, SavedWork,
 };
 use crate::restoring::PORT;
 use crate::work;
@@ -20,7 +20,7 @@ use applications::AdvertFault;
 use bus_model::Dev;
 use paged_memory::{Half, Key};
 use port_manager::{
-    Flags, Goal, Job, LaneCodes, LeftBecause, Outstanding, Port, Request, Stage, Times,
+    Flags, Goal, Job, LaneCodes, LaneFlags, LeftBecause, Outstanding, Port, Request, Stage, Times,
 };
 
 /// The numbers of a port, and how many halves its reading has read.
@@ -82,10 +82,19 @@ fn numbers_of_flags(flags: &Flags) -> SavedFlags
     SavedFlags {
         module_counts: flags.module_counts,
         module_last: flags.module_last,
-        lane_counts: flags.lane_counts,
-        lane_last: flags.lane_last,
-        states: numbers_of_codes(&flags.states),
-        statuses: numbers_of_codes(&flags.statuses),
+        lanes: numbers_of_lanes(&flags.lanes),
+    }
+}
+
+/// The numbers of what was read of a bank's lanes.
+pub fn numbers_of_lanes(lanes: &LaneFlags) -> SavedLanes
+    ensures { spec.lane_flags_in result ≡ lanes.now }
+{
+    SavedLanes {
+        counts: lanes.counts,
+        last: lanes.last,
+        states: numbers_of_codes(&lanes.states),
+        statuses: numbers_of_codes(&lanes.statuses),
     }
 }
 
