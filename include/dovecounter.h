@@ -74,6 +74,7 @@ extern "C" {
      explicit_run                            31 34
      port_plug to port_next                  31
      port_take                               31 34
+     bank_count                              2
      update_next                             31 32
      update_reply                            31 32 34
      update_end                              31 33
@@ -111,7 +112,8 @@ enum dovecounter_status {
 
     /* halves */
     DOVECOUNTER_TOO_MANY_HALVES = 1, /* more than 16, or of a simulated module more than 64 */
-    DOVECOUNTER_NO_PLACE = 2,        /* a device other than 0xA0 and 0xA2, upper above 1, or upper 0 with a bank or a page */
+    DOVECOUNTER_NO_PLACE = 2,        /* a device other than 0xA0 and 0xA2, upper above 1, or upper 0 with a bank or a page; for
+                                        dovecounter_bank_count any but page 11h of bank 1, 2 or 3 of 0xA0 */
 
     /* texts */
     DOVECOUNTER_NO_TEXT = 3,   /* this number has no text */
@@ -1829,7 +1831,7 @@ struct dovecounter_left {
     uint8_t page;
 };
 
-/* A code of lanes 1 to 8 as last read (0 before that), how often it was read to differ from the one before (at most
+/* A code of a bank's lanes as last read (0 before that), how often it was read to differ from the one before (at most
    65535), and when last (0: never). Neither a pull nor an acknowledgement changes these. */
 struct dovecounter_lane_codes {
     uint64_t last[8];
@@ -2036,6 +2038,23 @@ struct dovecounter_port_outcome {
 uint32_t dovecounter_port_take(struct dovecounter_port *port, uint8_t reply, const uint8_t *bytes, size_t byte_count,
                                const struct dovecounter_wanted *wanted, uint64_t now,
                                struct dovecounter_port_outcome *outcome);
+
+/* What was counted of the eight lanes of a further bank, as a port's flags have it of bank 0. Keep one of each bank, of
+   zeros at first, as long as you keep the port. */
+struct dovecounter_bank_counts {
+    uint16_t lane_counts[152]; /* bytes 134 to 152 of page 11h: flag 8 * (byte - 134) + lane - 1 - 8 * bank */
+    uint64_t lane_last[152];
+    struct dovecounter_lane_codes states;   /* enum dovecounter_path_state, of the bank's lanes */
+    struct dovecounter_lane_codes statuses; /* enum dovecounter_config_status */
+};
+
+/* Counts what this half shows, which is page 11h of the bank and was fetched at this moment. Pass each one once: reading a
+   flag clears it. A reading of what dovecounter_further_banks answers has them; make one after each look of the port. */
+uint32_t dovecounter_bank_count(struct dovecounter_bank_counts *counts, const struct dovecounter_half *half,
+                                uint64_t moment);
+
+/* Flags that were last read as raised at this moment or before count from 0 again. */
+void dovecounter_bank_acknowledge(struct dovecounter_bank_counts *counts, uint64_t moment);
 
 /* ---- A simulated module ----
 

@@ -204,6 +204,15 @@ static void *keeps(void *x) {
     return x;
 }
 
+static struct dovecounter_bank_counts bank_counts;
+
+static void *counts_a_bank(void *x) {
+    static const struct dovecounter_half lanes = {0xA0, 1, 1, 0x11, {1}};
+    dovecounter_bank_count(&bank_counts, &lanes, 1);
+    dovecounter_bank_acknowledge(&bank_counts, 0);
+    return x;
+}
+
 static struct dovecounter_update update;
 static struct dovecounter_update_ending update_ending;
 static struct dovecounter_update_progress update_progress;
@@ -393,6 +402,8 @@ int main(void) {
     print_used("dovecounter_observables", observes, alone);
     print_used("the calls of a port", keeps, alone);
     if (port.stage != DOVECOUNTER_PORT_PROVISIONING && port.stage != DOVECOUNTER_PORT_WAKING) return 1;
+    print_used("the calls of a further bank", counts_a_bank, alone);
+    if (bank_counts.states.changes[0] == 0) return 1;
     print_used("the calls of an update", updates, alone);
     print_used("the calls of a change of lanes", switches, alone);
     print_used("the calls of a test of a link", tests_links, alone);

@@ -72,7 +72,8 @@ static void (*const calls[])(void) = {set_options,
                                       begin_explicit,
                                       go_on_with_explicit,
                                       call_explicit,
-                                      call_further_banks};
+                                      call_further_banks,
+                                      call_bank_counts};
 
 int LLVMFuzzerTestOneInput(const uint8_t *bytes, size_t size);
 
@@ -82,6 +83,7 @@ int LLVMFuzzerTestOneInput(const uint8_t *bytes, size_t size) {
     memset(weights, 0, 256 * sizeof *weights);
     memset(read_halves, 0, DOVECOUNTER_MOST_READ * sizeof *read_halves);
     memset(&module, 0, sizeof module), memset(&conversation, 0, sizeof conversation), memset(&port, 0, sizeof port);
+    memset(&bank_counts, 0, sizeof bank_counts);
     memset(&wanted, 0, sizeof wanted), memset(&update, 0, sizeof update);
     memset(&changing, 0, sizeof changing), memset(&testing, 0, sizeof testing), memset(&tuning, 0, sizeof tuning);
     memset(&provisioning, 0, sizeof provisioning);

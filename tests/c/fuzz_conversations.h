@@ -422,6 +422,26 @@ static void call_port(void) {
     port = *it;
 }
 
+static struct dovecounter_bank_counts bank_counts;
+
+/* Counts what is page 11h of a bank, or of none, and then forgets what was read before a moment. */
+static void call_bank_counts(void) {
+    struct dovecounter_bank_counts *it = copied(BYTES, &bank_counts, sizeof bank_counts);
+    struct dovecounter_half half = {0xA0, 1, byte(), 0x11, {0}};
+    uint8_t what = byte();
+    for (size_t i = 0; i < sizeof half.bytes; i++) half.bytes[i] = half_count > 0 ? halves[0].bytes[i] ^ what : what;
+    if (what == 255) change(&half, sizeof half);
+    uint32_t status = dovecounter_bank_count(it, copied(SMALL, &half, sizeof half), now);
+    judge(status, "bank_count", LIST(2), it, 0);
+    stop_if(status && memcmp(it, &bank_counts, sizeof bank_counts), "a refused half counts");
+    for (int flag = 0; flag < 152; flag++)
+        stop_if(it->lane_counts[flag] < bank_counts.lane_counts[flag], "a count falls");
+    dovecounter_bank_acknowledge(it, now - what);
+    for (int flag = 0; flag < 152; flag++)
+        stop_if(it->lane_counts[flag] && it->lane_last[flag] <= now - what, "a known flag counts");
+    bank_counts = *it;
+}
+
 static void take(uint8_t outcome, const uint8_t *bytes, size_t count) {
     struct dovecounter_port *it = copied(BYTES, &port, sizeof port);
     struct dovecounter_port_outcome *found = painted(OTHER, sizeof *found);

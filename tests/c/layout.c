@@ -254,6 +254,12 @@ AT(flag_counts, lane_last, 624);
 AT(flag_counts, states, 1840);
 AT(flag_counts, statuses, 1928);
 
+SIZE(bank_counts, 1696);
+AT(bank_counts, lane_counts, 0);
+AT(bank_counts, lane_last, 304);
+AT(bank_counts, states, 1520);
+AT(bank_counts, statuses, 1608);
+
 SIZE(goal, 10);
 AT(goal, control, 0);
 AT(goal, lanes, 8);

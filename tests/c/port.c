@@ -237,6 +237,101 @@ static void try_lane_codes(void) {
     expect_same("they outlive both", &later, &port.flags.states, sizeof later);
 }
 
+/* ---- the lanes of a further bank ---- */
+
+enum { BANK = 3, STATES = 0, FLAGS = 134 - 128, STATUSES = 202 - 128 }; /* where page 11h has them */
+
+static struct dovecounter_bank_counts further;
+static struct dovecounter_half lanes_of_bank;
+
+static void begin_bank(void) {
+    memset(&further, 0, sizeof further);
+    lanes_of_bank = (struct dovecounter_half){0xA0, 1, BANK, 0x11, {0}};
+}
+
+static void count_at(uint64_t moment) {
+    expect("it is counted", 0, dovecounter_bank_count(&further, &lanes_of_bank, moment));
+}
+
+/* Each flag counts by itself, as often as it is raised, and until it is known. */
+static void try_flags_of_bank(void) {
+    static const struct dovecounter_bank_counts none;
+    begin_bank();
+    count_at(5);
+    expect_same("no flag, and no code", &none, &further, sizeof none);
+    for (unsigned flag = 0; flag < 152; flag++) {
+        begin_bank();
+        lanes_of_bank.bytes[FLAGS + flag / 8] = (uint8_t)(1U << flag % 8);
+        count_at(7);
+        struct dovecounter_bank_counts wanted = none;
+        wanted.lane_counts[flag] = 1, wanted.lane_last[flag] = 7;
+        expect_same("this flag alone", &wanted, &further, sizeof wanted);
+        count_at(9);
+        wanted.lane_counts[flag] = 2, wanted.lane_last[flag] = 9;
+        expect_same("it was raised again", &wanted, &further, sizeof wanted);
+        count_at(8);
+        wanted.lane_counts[flag] = 3;
+        expect_same("an earlier moment isn't the last", &wanted, &further, sizeof wanted);
+        dovecounter_bank_acknowledge(&further, 8);
+        expect_same("known too early", &wanted, &further, sizeof wanted);
+        dovecounter_bank_acknowledge(&further, 9);
+        expect_same("known", &none, &further, sizeof none);
+    }
+    begin_bank();
+    memset(lanes_of_bank.bytes + FLAGS, 0xFF, 19);
+    for (unsigned raised = 1; raised <= 65537; raised++) count_at(raised);
+    for (unsigned flag = 0; flag < 152; flag++) {
+        expect("no more than fit", 65535, further.lane_counts[flag]);
+        expect("the last of all", 65537, (unsigned long)further.lane_last[flag]);
+    }
+}
+
+/* A lane's state and status, which an acknowledgement leaves. */
+static void try_codes_of_bank(void) {
+    begin_bank();
+    for (unsigned lane = 0; lane < 8; lane++) {
+        lanes_of_bank.bytes[STATES + lane / 2] |= (uint8_t)((lane + 1) << lane % 2 * 4);
+        lanes_of_bank.bytes[STATUSES + lane / 2] |= (uint8_t)(15 - lane) << lane % 2 * 4 & 0xFF;
+    }
+    count_at(3);
+    count_at(4);
+    lanes_of_bank.bytes[STATES] = 0x24;       /* lane 1 was 1, lane 2 is as it was */
+    lanes_of_bank.bytes[STATUSES + 3] = 0x19; /* lane 8 was 8, lane 7 is as it was */
+    count_at(6);
+    dovecounter_bank_acknowledge(&further, 100);
+    for (unsigned lane = 0; lane < 8; lane++) {
+        expect("its state", lane == 0 ? 4 : lane + 1, further.states.codes[lane]);
+        expect("has changed", lane == 0 ? 2 : 1, further.states.changes[lane]);
+        expect("then", lane == 0 ? 6 : 3, (unsigned long)further.states.last[lane]);
+        expect("its status", lane == 7 ? 1 : 15 - lane, further.statuses.codes[lane]);
+        expect("has changed too", lane == 7 ? 2 : 1, further.statuses.changes[lane]);
+        expect("at that moment", lane == 7 ? 6 : 3, (unsigned long)further.statuses.last[lane]);
+    }
+}
+
+/* Page 11h of bank 1, 2 or 3 of device A0h is counted, and no other half. */
+static void try_halves_of_bank(void) {
+    static const struct {
+        struct dovecounter_half half;
+        uint32_t status;
+    } cases[] = {
+        {{0xA0, 1, 1, 0x11, {0}}, 0}, {{0xA0, 1, 2, 0x11, {0}}, 0}, {{0xA0, 1, 3, 0x11, {0}}, 0},
+        {{0xA0, 1, 0, 0x11, {0}}, 2}, {{0xA0, 1, 4, 0x11, {0}}, 2}, {{0xA0, 1, 255, 0x11, {0}}, 2},
+        {{0xA2, 1, 1, 0x11, {0}}, 2}, {{0xA1, 1, 1, 0x11, {0}}, 2}, {{0xA0, 0, 1, 0x11, {0}}, 2},
+        {{0xA0, 2, 1, 0x11, {0}}, 2}, {{0xA0, 1, 1, 0x10, {0}}, 2}, {{0xA0, 1, 1, 0x12, {0}}, 2},
+    };
+    for (size_t i = 0; i < sizeof cases / sizeof cases[0]; i++) {
+        begin_bank();
+        lanes_of_bank = cases[i].half;
+        memset(lanes_of_bank.bytes, 0xFF, sizeof lanes_of_bank.bytes);
+        memset(&further, 0x5A, sizeof further);
+        const struct dovecounter_bank_counts before = further;
+        expect("a half", cases[i].status, dovecounter_bank_count(&further, &lanes_of_bank, 1));
+        if (cases[i].status != 0) expect_same("is refused", &before, &further, sizeof before);
+        if (cases[i].status == 0) expect("is counted", 0x5A5B, further.lane_counts[0]);
+    }
+}
+
 /* Other weights want lanes down that are up: only by permission. */
 static void try_permission(void) {
     begin();
@@ -628,6 +723,9 @@ int main(void) {
     try_flags();
     try_other_families();
     try_lane_codes();
+    try_flags_of_bank();
+    try_codes_of_bank();
+    try_halves_of_bank();
     try_permission();
     try_recheck();
     try_sleep();

@@ -31,3 +31,4 @@ pub mod SettingsTold
 pub mod ExplicitTold
 pub mod VdmTold
 pub mod FurtherBanks
+pub mod BankCounts

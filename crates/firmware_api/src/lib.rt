@@ -5,6 +5,7 @@
 #![tactic(auto)]
 
 mod advertisement;
+mod bank_counts;
 mod certificate;
 mod checking;
 mod code_texts;
