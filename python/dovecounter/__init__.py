@@ -47,6 +47,7 @@ from .planning import (
     read_weights,
 )
 from .port import (
+    FurtherLanes,
     Idle,
     Port,
     PortFlag,
@@ -131,6 +132,7 @@ __all__ = [
     "FirmwarePassword",
     "FirmwareUpdate",
     "Flags",
+    "FurtherLanes",
     "Hindrance",
     "Idle",
     "Image",

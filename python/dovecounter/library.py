@@ -478,6 +478,14 @@ class FlagCounts(Structure):
     ]
 
 
+class BankCounts(Structure):
+    _fields_ = [
+        ("lane_counts", c_uint16 * 152),
+        ("lane_last", c_uint64 * 152),
+        *_members(LaneCodes, "states statuses"),
+    ]
+
+
 class Goal(Structure):
     _fields_ = [("control", Lanes), *_members(c_uint8, "lanes outside")]
 
@@ -666,6 +674,8 @@ FUNCTIONS: Dict[str, Tuple[Any, Tuple[Any, ...]]] = {
         c_uint32,
         (POINTER(Port), c_uint8, *_BYTES, POINTER(Wanted), c_uint64, POINTER(PortOutcome)),
     ),
+    "bank_count": (c_uint32, (POINTER(BankCounts), POINTER(Half), c_uint64)),
+    "bank_acknowledge": (None, (POINTER(BankCounts), c_uint64)),
     "module_begin": (c_uint32, (*_HALVES, POINTER(Delays), POINTER(Module))),
     "module_fetch": (c_uint32, (*_HALVES, POINTER(Module), c_uint8, c_uint8, *_BUFFER)),
     "module_store": (c_uint32, (*_HALVES, POINTER(Module), c_uint8, c_uint8, *_BYTES)),

@@ -22,8 +22,8 @@ from typing import (
 )
 
 from . import library
-from .faults import CODES, look_at, look_at_choice, look_at_type
-from .image import Key
+from .faults import CODES, look_at, look_at_bytes, look_at_choice, look_at_type
+from .image import HALF, Key
 from .planning import weights_of
 from .procedures import Operation, Reply, outcome_of
 from .showing import Record
@@ -46,6 +46,8 @@ _hear = library.function("port_hear")
 _acknowledge = library.function("port_acknowledge")
 _next = library.function("port_next")
 _take = library.function("port_take")
+_count = library.function("bank_count")
+_acknowledge_bank = library.function("bank_acknowledge")
 
 
 @dataclass(frozen=True)
@@ -188,7 +190,7 @@ class PortFlag(Record):
     """A flag that was read as raised."""
 
     key: str
-    """where: "lower" or "page 11h" """
+    """where: "lower", "page 11h" or, of further lanes, such as "page 11h of bank 1" """
     address: int
     bit: int
     count: int
@@ -357,17 +359,7 @@ class Port:
     @property
     def lanes(self) -> Tuple[PortLane, ...]:
         """The lanes as they were read last, and since when."""
-        states, statuses = self._saved.flags.states, self._saved.flags.statuses
-        return tuple(
-            PortLane(
-                place + 1,
-                known(PathState, states.codes[place]) if states.codes[place] else None,
-                *_changes_of(states, place),
-                known(ConfigStatus, statuses.codes[place]),
-                *_changes_of(statuses, place),
-            )
-            for place in range(8)
-        )
+        return _lanes_of(self._saved.flags, 0)
 
     @property
     def goal(self) -> Optional[Tuple[bytes, int]]:
@@ -401,6 +393,55 @@ class Port:
             "due": self.due,
             "recheck_at": self.recheck_at,
             "goal": None if goal is None else {"control": goal[0].hex(), "lanes": goal[1]},
+            "lanes": [lane.to_dict() for lane in self.lanes],
+            "flags": [flag.to_dict() for flag in self.flags],
+        }
+
+
+class FurtherLanes:
+    """The lanes of one further bank, 1 to 3, counted as a `Port` counts lanes 1 to 8. Pass `count` each
+    page 11h of that bank which a Reading has, once, since reading a flag clears it; the lanes outlive a
+    pull, as those of a port do."""
+
+    def __init__(self, bank: int) -> None:
+        self._bank = look_at("the bank", bank, 3, least=1)
+        self._saved = library.BankCounts()
+
+    def __repr__(self) -> str:
+        return f"<FurtherLanes of bank {self._bank}>"
+
+    def __copy__(self) -> FurtherLanes:
+        return copy.deepcopy(self)
+
+    @property
+    def bank(self) -> int:
+        return self._bank
+
+    def count(self, data: bytes, now: int) -> None:
+        """The bank's page 11h was read: its 128 bytes."""
+        data = look_at_bytes(f"page 11h of bank {self._bank}", data, HALF)
+        half = library.Half(0xA0, 1, self._bank, 0x11, (c_uint8 * HALF)(*data))
+        _expect_done(_count(byref(self._saved), byref(half), _moment(now)))
+
+    def acknowledge(self, moment: int) -> None:
+        """The flags that were last read as raised at this moment or before it are known."""
+        _acknowledge_bank(byref(self._saved), _moment(moment))
+
+    @property
+    def lanes(self) -> Tuple[PortLane, ...]:
+        """The lanes as they were read last, and since when; lane 9 is the first one of bank 1."""
+        return _lanes_of(self._saved, 8 * self._bank)
+
+    @property
+    def flags(self) -> Tuple[PortFlag, ...]:
+        """Those that were read as raised and aren't acknowledged; bit 0 is the bank's first lane."""
+        key = f"page 11h of bank {self._bank}"
+        return tuple(_raised(key, 134, self._saved.lane_counts, self._saved.lane_last))
+
+    def to_dict(self) -> Dict[str, Any]:
+        """All that was counted, by names."""
+        return {
+            "bank": self._bank,
             "lanes": [lane.to_dict() for lane in self.lanes],
             "flags": [flag.to_dict() for flag in self.flags],
         }
@@ -457,6 +498,21 @@ def _raised(key: str, first: int, counts: Any, last: Any) -> Iterator[PortFlag]:
     for place, (count, moment) in enumerate(zip(counts, last)):
         if count:
             yield PortFlag(key, first + place // 8, place % 8, int(count), int(moment))
+
+
+def _lanes_of(counted: Any, before: int) -> Tuple[PortLane, ...]:
+    """The lanes of a bank, which has so many before it."""
+    states, statuses = counted.states, counted.statuses
+    return tuple(
+        PortLane(
+            before + place + 1,
+            known(PathState, states.codes[place]) if states.codes[place] else None,
+            *_changes_of(states, place),
+            known(ConfigStatus, statuses.codes[place]),
+            *_changes_of(statuses, place),
+        )
+        for place in range(8)
+    )
 
 
 def _expect_done(status: int) -> None:

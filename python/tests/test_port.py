@@ -14,6 +14,7 @@ from shared import example
 from dovecounter import (
     LOWER,
     ConfigStatus,
+    FurtherLanes,
     Idle,
     Image,
     Key,
@@ -180,6 +181,68 @@ def test_a_flag_has_its_place_and_moment() -> None:
     assert machine.port.to_dict()["flags"] == [lower.to_dict(), lane.to_dict()]
     machine.port.acknowledge(lower.last)
     assert machine.port.flags == (lane,)
+
+
+STATES, FLAGS, STATUSES = 128 - 128, 134 - 128, 202 - 128  # where page 11h has them
+
+
+def lanes_page(**parts: bytes) -> bytes:
+    """Page 11h with these bytes."""
+    data = bytearray(128)
+    for name, part in parts.items():
+        at = {"states": STATES, "flags": FLAGS, "statuses": STATUSES}[name]
+        data[at : at + len(part)] = part
+    return bytes(data)
+
+
+def test_lanes_of_a_further_bank_are_counted() -> None:
+    further = FurtherLanes(2)
+    assert (further.bank, further.flags, repr(further)) == (2, (), "<FurtherLanes of bank 2>")
+    assert [lane.lane for lane in further.lanes] == list(range(17, 25))
+    assert all(lane.state is None and lane.state_since is None for lane in further.lanes)
+    further.count(lanes_page(states=b"\x14", flags=b"\0\0\x08", statuses=b"\0\0\0\x10"), 7)
+    further.count(lanes_page(states=b"\x14", flags=b"\0\0\x88", statuses=b"\0\0\0\x10"), 9)
+    key = "page 11h of bank 2"
+    assert further.flags == (PortFlag(key, 136, 3, 2, 9), PortFlag(key, 136, 7, 1, 9))
+    first, second, last = further.lanes[0], further.lanes[1], further.lanes[7]
+    assert (first.state, first.state_changes, first.state_since) == (PathState.DPActivated, 1, 7)
+    assert (second.lane, second.state) == (18, PathState.DPDeactivated)
+    assert (last.status, last.status_changes) == (ConfigStatus.ConfigSuccess, 1)
+    said = further.to_dict()
+    assert json.loads(json.dumps(said)) == said and said["bank"] == 2
+    assert said["flags"] == [flag.to_dict() for flag in further.flags]
+    assert said["lanes"] == [lane.to_dict() for lane in further.lanes]
+    other = copy.copy(further)
+    other.acknowledge(8)
+    assert other.flags == further.flags
+    other.acknowledge(9)
+    assert other.flags == () and other.lanes == further.lanes and len(further.flags) == 2
+
+
+def test_a_port_and_a_further_bank_count_alike() -> None:
+    machine, further = Flagged(SimulatedModule(DR4)), FurtherLanes(1)
+    machine.port.plug(0)
+    machine.drive(lambda _: machine.port.place == page(0x11))
+    at = machine.now - 1
+    further.count(lanes_page(flags=b"\0\0\x08"), at)
+    (flag,) = further.flags
+    assert dataclasses.replace(flag, key="page 11h") == machine.port.flags[-1]
+
+
+@pytest.mark.parametrize(
+    "call, error",
+    [
+        (lambda: FurtherLanes(0), ValueError),
+        (lambda: FurtherLanes(4), ValueError),
+        (lambda: FurtherLanes(1).count(bytes(127), 0), ValueError),
+        (lambda: FurtherLanes(1).count(bytes(128), -1), ValueError),
+        (lambda: FurtherLanes(1).count("page", 0), TypeError),  # type: ignore[arg-type]
+        (lambda: FurtherLanes(1).acknowledge(2**64), ValueError),
+    ],
+)
+def test_what_is_no_page_of_a_further_bank(call: Callable[[], Any], error: Type[Exception]) -> None:
+    with pytest.raises(error):
+        call()
 
 
 class Rejecting(Machine):
