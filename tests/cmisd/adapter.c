@@ -18,7 +18,7 @@
 #include <time.h>
 #include <unistd.h>
 
-enum { BANKS = 4, GROUPS_PAGE = 0x2F };
+enum { BANKS = 4, GROUPS_PAGE = 0x2F, LANE_FLAGS = 19 };
 enum { SIZE = 1 << 18, LOW_POWER = 1, READY = 3, ACTIVATED = 4, INITIALIZED = 7, MOST_TICKS = 2000 };
 
 /* The numbers come first, in the order that `run` knows. */
@@ -48,12 +48,15 @@ struct adapter {
     uint32_t state_changes[8], status_changes[8]; /* how often a lane's code was answered to be another one */
     uint32_t silent;                              /* in how many milliseconds at most four in a row were refused */
     uint32_t steps, waits; /* asked for: no more transactions than so many, if it isn't 0; whether one waits for that */
+    uint32_t raises_further; /* asked for: in so many of 1000 transactions a flag of the lanes above 8 is raised */
+    uint32_t further_flags[BANKS - 1][152]; /* how often each was answered as raised */
     /* not the test's */
     uint32_t judged[8]; /* what was wanted as a transaction began */
     uint64_t random;
     int64_t ticked, silent_since;
     uint32_t refused_in_a_row;
     uint8_t states[8], statuses[8];
+    uint8_t further_raised[BANKS - 1][LANE_FLAGS];
     struct simulated simulated;
     struct two_banks banks;
     struct statistics statistics[BANKS];
@@ -126,6 +129,8 @@ static void let_time_pass(struct adapter *it) {
     if (it->raises > 1000) it->simulated.module.module_flags = 0xFF;
     if (below(it, 1000) < it->raises)
         it->simulated.module.lane_flags[1 + below(it, 18)] |= (uint8_t)(1U << below(it, 8));
+    if (below(it, 1000) < it->raises_further)
+        it->further_raised[below(it, BANKS - 1)][below(it, LANE_FLAGS)] |= (uint8_t)(1U << below(it, 8));
 }
 
 /* ---- what is judged */
@@ -265,6 +270,19 @@ static void show_outputs(const struct adapter *it, const struct i2c_rdwr_ioctl_d
     if (is_fetched && it->simulated.module.page == 0x10) data->msgs[1].buf[138 - offset] = (uint8_t)it->outputs;
 }
 
+/* Of further banks the simulated module keeps no flags: each one is answered once. */
+static void show_further_flags(struct adapter *it, unsigned offset, uint8_t *bytes, unsigned count) {
+    unsigned bank = it->simulated.module.bank;
+    if (it->simulated.module.page != 0x11 || bank == 0 || bank >= BANKS) return;
+    for (unsigned i = 0; i < count; i++) {
+        unsigned place = offset + i - 134;
+        if (place >= LANE_FLAGS) continue;
+        bytes[i] = it->further_raised[bank - 1][place];
+        it->further_raised[bank - 1][place] = 0;
+    }
+    count_flags(it->further_flags[bank - 1], 134, 8 * LANE_FLAGS, offset, bytes, count);
+}
+
 /* Whether this is an apply, and is refused. */
 static bool refuses_apply(struct adapter *it, const struct i2c_rdwr_ioctl_data *data) {
     bool is_apply = data->nmsgs == 1 && data->msgs[0].buf[0] == 143 && it->simulated.module.page == 0x10;
@@ -294,6 +312,8 @@ static bool transact(struct adapter *it, const struct i2c_rdwr_ioctl_data *data)
         data->msgs[1].buf[0] = (uint8_t)it->identifier;
     if (it->rejects && data->nmsgs == 2 && data->msgs[0].buf[0] == 202 && it->simulated.module.page == 0x11)
         memset(data->msgs[1].buf, 0x22, data->msgs[1].len); /* ConfigRejected */
+    if (data->nmsgs == 2 && is_answered)
+        show_further_flags(it, data->msgs[0].buf[0], data->msgs[1].buf, data->msgs[1].len);
     if (it->outputs && is_answered) show_outputs(it, data);
     if (it->drowsy && is_answered) show_low_power(data);
     if (it->shows && is_answered) show_state(it, data);

@@ -12,7 +12,7 @@
 #include <time.h>
 #include <unistd.h>
 
-enum { LINE_SIZE = 1 << 16, LETS_GO = 10000, BUS_SIZE = 128 }; /* bytes; milliseconds; bytes */
+enum { LINE_SIZE = 1 << 17, LETS_GO = 10000, BUS_SIZE = 128 }; /* bytes; milliseconds; bytes */
 enum { MOST_TOLD = 64 };                                       /* halves of an image */
 
 const char no_module[] = "there is no module, as cmisd has it";

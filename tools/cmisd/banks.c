@@ -1,6 +1,6 @@
 /* The lanes above 8 (page 11h of further banks): read after each reading of a module that has them, and each look at it, once the library
-   does nothing at the module before another moment. Only pages are selected for that, so it may end anywhere. The port manages, and counts
-   the flags of, the lanes of bank 0 alone. */
+   does nothing at the module before another moment, and counted as the port counts the lanes of bank 0, which alone it manages. Only pages
+   are selected for that, so it may end anywhere. */
 #include "cmisd.h"
 
 #include <string.h>
@@ -63,6 +63,15 @@ bool begin_banks(struct port *port) {
     return true;
 }
 
+/* What the half shows, as soon as it is read, since that has cleared its flags. */
+static void count_lanes(struct port *port, const struct dovecounter_half *half) {
+    struct dovecounter_bank_counts *counts = &port->counts[half->bank - 1];
+    const struct dovecounter_bank_counts was = *counts;
+    dovecounter_bank_count(counts, half, (uint64_t)now());
+    port->counted |= (uint8_t)(1U << (half->bank - 1));
+    tell_bank_flags(port, half->bank, &was);
+}
+
 /* A bank that isn't there, or can't be read, is left out. */
 static void take(struct port *port) {
     struct banks *it = &port->banks;
@@ -70,6 +79,7 @@ static void take(struct port *port) {
     for (uint8_t i = 0; i < it->reading.halves; i++)
         if (it->halves[i].bank != 0) it->read[count++] = it->halves[i];
     end(port, count);
+    if (port->has_new_counts) put_status(port);
 }
 
 /* Makes the next operation, waits as long as it asks, or takes what was read. */
@@ -79,6 +89,7 @@ void go_on_with_banks(struct port *port) {
     uint8_t bytes[128];
     if (dovecounter_next(&it->reading, it->halves, &operation) != DOVECOUNTER_DONE) return take(port);
     if (is_pausing(port, &operation)) return;
-    uint8_t outcome = make_aside(port, &operation, bytes);
+    uint8_t outcome = make_aside(port, &operation, bytes), known = it->reading.halves;
     dovecounter_reply(&it->reading, it->halves, outcome, bytes, operation.count);
+    if (it->reading.halves > known && !port->is_retired) count_lanes(port, &it->halves[0]);
 }

@@ -113,6 +113,8 @@ struct port {
     int64_t since, failed_at;
     char failure[WORDS_SIZE]; /* the last one, or "" */
     struct dovecounter_flag_counts flags;
+    struct dovecounter_bank_counts counts[FURTHER_BANKS]; /* of the lanes above 8, whatever module they were read of */
+    uint8_t counted;                                      /* a bit for each bank that was: 1 for bank 1 */
 };
 
 /* config.c */
@@ -164,6 +166,7 @@ void go_on_with_banks(struct port *port);
 void say_reason(char words[WORDS_SIZE], const struct dovecounter_left *left);
 void tell(struct port *port, const char *event, const char *words);
 void tell_flags(struct port *port);
+void tell_bank_flags(struct port *port, uint8_t bank, const struct dovecounter_bank_counts *was);
 void hear(struct port *port, const struct dovecounter_port_outcome *outcome);
 
 /* status.c */
@@ -172,6 +175,11 @@ struct raised {
     unsigned lane; /* 0 of a flag of the module */
     uint16_t count;
     int64_t last;
+};
+struct lane_counts {
+    const uint16_t *counts;
+    const uint64_t *last;
+    const struct dovecounter_lane_codes *states, *statuses;
 };
 extern const char *const requests[4];
 void print_text(FILE *out, const char *before, const char *name, const char *text);
@@ -182,7 +190,8 @@ void print_lane_list(FILE *out, const char *name, uint8_t lanes);
 void begin_port(FILE *out, const struct port *port);
 void print_port(FILE *out, const struct port *port);
 void print_memory(FILE *out, const struct port *port);
-void name_flag(char name[NAME_SIZE], size_t flag);
+struct lane_counts counts_of(const struct port *port, unsigned bank);
+size_t flag_count(const struct port *port);
 struct raised raised_of(const struct port *port, size_t flag);
 const struct dovecounter_half *half_of(const struct port *port, uint8_t upper, uint8_t page);
 

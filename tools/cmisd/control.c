@@ -98,6 +98,7 @@ static void answer_acknowledge(FILE *out, struct port *port, const char *word) {
     uint64_t moment = word != NULL ? strtoull(word, NULL, 10) : (uint64_t)now();
     if (!is_number || moment > (uint64_t)now()) return answer_error(out, "that is no moment that show has named");
     dovecounter_port_acknowledge(&port->core, moment);
+    for (unsigned i = 0; i < FURTHER_BANKS; i++) dovecounter_bank_acknowledge(&port->counts[i], moment);
     port->flags = port->core.flags;
     port->has_new_counts = true;
     tell(port, "acknowledged", "");

@@ -28,7 +28,7 @@ static void begin_sample(FILE *out, const char *name, const struct port *port, u
 
 /* How often flags were read as raised, or when last. */
 static void print_flags(FILE *out, const struct port *port, const char *name, bool counts) {
-    for (size_t flag = 0; flag < MODULE_FLAGS + LANE_FLAGS; flag++) {
+    for (size_t flag = 0, count = flag_count(port); flag < count; flag++) {
         const struct raised raised = raised_of(port, flag);
         if (raised.count == 0) continue;
         begin_sample(out, name, port, raised.lane, raised.name);
@@ -40,35 +40,50 @@ static void print_flags(FILE *out, const struct port *port, const char *name, bo
     }
 }
 
-/* How often a code of each lane was read to have changed, and when last. */
-static void print_codes(FILE *out, const struct port *port, const struct dovecounter_lane_codes *codes,
-                        const char *name, const char *about) {
-    char total[64], last[64];
-    snprintf(total, sizeof total, "dovecounter_lane_%s_changes_total", name);
-    begin_metric(out, total, "counter", about);
-    for (unsigned lane = 0; lane < 8; lane++) {
-        begin_sample(out, total, port, lane + 1, NULL);
+/* The states of a bank's lanes, or their statuses; NULL of a bank that was never read, if that isn't bank 0. */
+static const struct dovecounter_lane_codes *codes_of(const struct port *port, unsigned bank, bool of_states) {
+    const struct lane_counts counts = counts_of(port, bank);
+    bool is_there = bank == 0 || (port->counted >> (bank - 1) & 1) != 0;
+    return !is_there ? NULL : of_states ? counts.states : counts.statuses;
+}
+
+static void print_totals(FILE *out, const struct port *port, unsigned bank, const char *name, bool of_states) {
+    const struct dovecounter_lane_codes *codes = codes_of(port, bank, of_states);
+    for (unsigned lane = 0; lane < 8 && codes != NULL; lane++) {
+        begin_sample(out, name, port, 8 * bank + lane + 1, NULL);
         fprintf(out, "%u\n", codes->changes[lane]);
     }
-    snprintf(last, sizeof last, "dovecounter_lane_%s_changed_timestamp_seconds", name);
-    begin_metric(out, last, "gauge", "when cmisd last read that it has changed");
-    for (unsigned lane = 0; lane < 8; lane++) {
+}
+
+static void print_last(FILE *out, const struct port *port, unsigned bank, const char *name, bool of_states) {
+    const struct dovecounter_lane_codes *codes = codes_of(port, bank, of_states);
+    for (unsigned lane = 0; lane < 8 && codes != NULL; lane++) {
         if (codes->changes[lane] == 0) continue;
-        begin_sample(out, last, port, lane + 1, NULL);
+        begin_sample(out, name, port, 8 * bank + lane + 1, NULL);
         print_seconds(out, (int64_t)codes->last[lane]);
         fputc('\n', out);
     }
 }
 
+/* How often a code of each lane was read to have changed, and when last. */
+static void print_codes(FILE *out, const struct port *port, bool of_states, const char *name, const char *about) {
+    char total[64], last[64];
+    snprintf(total, sizeof total, "dovecounter_lane_%s_changes_total", name);
+    begin_metric(out, total, "counter", about);
+    for (unsigned bank = 0; bank < BANKS; bank++) print_totals(out, port, bank, total, of_states);
+    snprintf(last, sizeof last, "dovecounter_lane_%s_changed_timestamp_seconds", name);
+    begin_metric(out, last, "gauge", "when cmisd last read that it has changed");
+    for (unsigned bank = 0; bank < BANKS; bank++) print_last(out, port, bank, last, of_states);
+}
+
 static void print_metrics(FILE *out, const struct port *port) {
     static const char total[] = "dovecounter_flag_reads_total", last[] = "dovecounter_flag_read_timestamp_seconds";
-    const struct dovecounter_flag_counts *flags = &port->core.flags;
     begin_metric(out, total, "counter", "how often cmisd has read the flag as raised");
     print_flags(out, port, total, true);
     begin_metric(out, last, "gauge", "when cmisd last read the flag as raised");
     print_flags(out, port, last, false);
-    print_codes(out, port, &flags->states, "data_path_state", "how often cmisd has read another data path state");
-    print_codes(out, port, &flags->statuses, "config_status", "how often cmisd has read another configuration status");
+    print_codes(out, port, true, "data_path_state", "how often cmisd has read another data path state");
+    print_codes(out, port, false, "config_status", "how often cmisd has read another configuration status");
 }
 
 /* ---- all of them */

@@ -131,19 +131,47 @@ static void print_changes(FILE *out, const char *const names[2], const struct do
     print_number(out, ", ", names[1], codes->changes[lane]);
 }
 
-static void print_lanes(FILE *out, const struct port *port) {
+/* Page 11h of a bank as it was read last, or NULL. */
+static const struct dovecounter_half *lanes_page(const struct port *port, unsigned bank) {
+    const struct dovecounter_half *found = bank == 0 ? half_of(port, 1, LANES_PAGE) : NULL;
+    for (uint8_t i = 0; i < port->banks.read_count; i++)
+        if (port->banks.read[i].bank == bank) found = &port->banks.read[i];
+    return found;
+}
+
+/* What was counted of the lanes of a bank. */
+struct lane_counts counts_of(const struct port *port, unsigned bank) {
+    const struct dovecounter_flag_counts *first = &port->core.flags;
+    if (bank == 0) return (struct lane_counts){first->lane_counts, first->lane_last, &first->states, &first->statuses};
+    const struct dovecounter_bank_counts *further = &port->counts[bank - 1];
+    return (struct lane_counts){further->lane_counts, further->lane_last, &further->states, &further->statuses};
+}
+
+/* The lanes of a bank; `before` comes before the first. */
+static void print_bank(FILE *out, const struct port *port, unsigned bank, const char *before) {
     static const char *const of_state[] = {"since", "changes"}, *const of_status[] = {"status_since", "status_changes"};
-    const struct dovecounter_half *lower = half_of(port, 0, 0), *page = half_of(port, 1, LANES_PAGE);
-    if (lower != NULL) print_text(out, ", ", "state", module_states[lower->bytes[MODULE_STATE] >> 1 & 7]);
-    for (unsigned lane = 0; lane < 8 && page != NULL; lane++) {
-        print_number(out, lane == 0 ? ", \"lanes\": [{" : "}, {", "lane", lane + 1);
-        print_text(out, ", ", "state", path_states[code_of(page->bytes, lane)]);
-        print_changes(out, of_state, &port->core.flags.states, lane);
-        print_text(out, ", ", "status", config_statuses[code_of(page->bytes + CONFIG_STATUSES, lane)]);
-        print_changes(out, of_status, &port->core.flags.statuses, lane);
-        print_number(out, ", ", "active", page->bytes[ACTIVE + lane]);
+    const uint8_t *bytes = lanes_page(port, bank)->bytes;
+    const struct lane_counts counts = counts_of(port, bank);
+    for (unsigned lane = 0; lane < 8; lane++) {
+        print_number(out, lane == 0 ? before : "}, {", "lane", 8 * bank + lane + 1);
+        print_text(out, ", ", "state", path_states[code_of(bytes, lane)]);
+        print_changes(out, of_state, counts.states, lane);
+        print_text(out, ", ", "status", config_statuses[code_of(bytes + CONFIG_STATUSES, lane)]);
+        print_changes(out, of_status, counts.statuses, lane);
+        print_number(out, ", ", "active", bytes[ACTIVE + lane]);
     }
-    if (page != NULL) fputs("}]", out);
+}
+
+static void print_lanes(FILE *out, const struct port *port) {
+    const struct dovecounter_half *lower = half_of(port, 0, 0);
+    const char *before = ", \"lanes\": [{";
+    if (lower != NULL) print_text(out, ", ", "state", module_states[lower->bytes[MODULE_STATE] >> 1 & 7]);
+    for (unsigned bank = 0; bank < BANKS; bank++) {
+        if (lanes_page(port, bank) == NULL) continue;
+        print_bank(out, port, bank, before);
+        before = "}, {";
+    }
+    if (before[0] == '}') fputs("}]", out);
 }
 
 /* ---- flags */
@@ -175,25 +203,39 @@ static const char *const module_flags[] = {
     "vcc-high-alarm",         "vcc-low-alarm",         "vcc-high-warning",         "vcc-low-warning",
 };
 
-/* The name of a flag of the module, and after those of the lanes. The others of the module are named by their byte and bit. */
-void name_flag(char name[NAME_SIZE], size_t flag) {
+/* The name of a flag of the module, and after those of the lanes of each bank. The others of the module are named by their byte and bit. */
+static void name_flag(char name[NAME_SIZE], size_t flag) {
     bool is_named = flag / 8 == 1;
     if (flag >= MODULE_FLAGS)
-        snprintf(name, NAME_SIZE, "%s", lane_flags[(flag - MODULE_FLAGS) / 8]);
+        snprintf(name, NAME_SIZE, "%s", lane_flags[(flag - MODULE_FLAGS) % LANE_FLAGS / 8]);
     else if (is_named)
         snprintf(name, NAME_SIZE, "%s", module_flags[flag % 8]);
     else
         snprintf(name, NAME_SIZE, "module-flag-%zu.%zu", 8 + flag / 8, flag % 8);
 }
 
+/* Of the module, and of each bank up to the last one that was counted. */
+size_t flag_count(const struct port *port) {
+    size_t banks = 1;
+    while (port->counted >> (banks - 1) != 0) banks++;
+    return MODULE_FLAGS + banks * LANE_FLAGS;
+}
+
+static struct raised lane_raised(const struct port *port, unsigned bank, size_t at) {
+    const struct lane_counts counts = counts_of(port, bank);
+    return (struct raised){
+        .lane = 8 * bank + (unsigned)at % 8 + 1, .count = counts.counts[at], .last = (int64_t)counts.last[at]};
+}
+
 /* A flag, by the order of names, and how often and when it was raised; without its name if never. */
 struct raised raised_of(const struct port *port, size_t flag) {
     const struct dovecounter_flag_counts *flags = &port->core.flags;
-    bool of_lane = flag >= MODULE_FLAGS;
-    size_t at = of_lane ? flag - MODULE_FLAGS : flag;
-    struct raised raised = {.lane = of_lane ? (unsigned)(at % 8 + 1) : 0,
-                            .count = of_lane ? flags->lane_counts[at] : flags->module_counts[at],
-                            .last = (int64_t)(of_lane ? flags->lane_last[at] : flags->module_last[at])};
+    size_t of_lanes = flag - MODULE_FLAGS;
+    struct raised raised;
+    if (flag < MODULE_FLAGS)
+        raised = (struct raised){.count = flags->module_counts[flag], .last = (int64_t)flags->module_last[flag]};
+    else
+        raised = lane_raised(port, (unsigned)(of_lanes / LANE_FLAGS), of_lanes % LANE_FLAGS);
     if (raised.count > 0) name_flag(raised.name, flag);
     return raised;
 }
@@ -201,7 +243,7 @@ struct raised raised_of(const struct port *port, size_t flag) {
 static void print_flags(FILE *out, const struct port *port) {
     const char *before = "";
     fputs(", \"flags\": [", out);
-    for (size_t flag = 0; flag < MODULE_FLAGS + LANE_FLAGS; flag++) {
+    for (size_t flag = 0, count = flag_count(port); flag < count; flag++) {
         const struct raised raised = raised_of(port, flag);
         if (raised.count == 0) continue;
         fprintf(out, "%s{", before);

@@ -168,11 +168,17 @@ void hear(struct port *port, const struct dovecounter_port_outcome *outcome) {
 /* ---- flags */
 
 static void tell_flag(struct port *port, size_t flag) {
-    char name[NAME_SIZE], words[WORDS_SIZE];
-    name_flag(name, flag);
-    if (flag < MODULE_FLAGS) return tell(port, "flag", name);
-    snprintf(words, sizeof words, "%s of lane %zu", name, flag % 8 + 1);
+    const struct raised raised = raised_of(port, flag);
+    char words[WORDS_SIZE];
+    if (raised.lane == 0) return tell(port, "flag", raised.name);
+    snprintf(words, sizeof words, "%s of lane %u", raised.name, raised.lane);
     tell(port, "flag", words);
+}
+
+/* Of so many flags from the first on. */
+static void tell_raised(struct port *port, size_t first, size_t count, const uint16_t *is, const uint16_t *was) {
+    for (size_t i = 0; i < count; i++)
+        if (is[i] > 0 && was[i] == 0) tell_flag(port, first + i);
 }
 
 /* Those that were read as raised for the first time since they were acknowledged. */
@@ -182,8 +188,14 @@ void tell_flags(struct port *port) {
     const struct dovecounter_flag_counts was = port->flags;
     port->flags = *is;
     port->has_new_counts = true;
-    for (size_t flag = 0; flag < MODULE_FLAGS; flag++)
-        if (is->module_counts[flag] > 0 && was.module_counts[flag] == 0) tell_flag(port, flag);
-    for (size_t flag = 0; flag < LANE_FLAGS; flag++)
-        if (is->lane_counts[flag] > 0 && was.lane_counts[flag] == 0) tell_flag(port, MODULE_FLAGS + flag);
+    tell_raised(port, 0, MODULE_FLAGS, is->module_counts, was.module_counts);
+    tell_raised(port, MODULE_FLAGS, LANE_FLAGS, is->lane_counts, was.lane_counts);
+}
+
+/* The same of a further bank, which was counted. */
+void tell_bank_flags(struct port *port, uint8_t bank, const struct dovecounter_bank_counts *was) {
+    const struct dovecounter_bank_counts *is = &port->counts[bank - 1];
+    if (memcmp(was, is, sizeof *is) == 0) return;
+    port->has_new_counts = true;
+    tell_raised(port, MODULE_FLAGS + (size_t)bank * LANE_FLAGS, LANE_FLAGS, is->lane_counts, was->lane_counts);
 }
