@@ -1,34 +1,20 @@
 -- No bit belongs to two values: a computed test of all entries, by the span of each value, and what it says.
-use Rattle.std.proofs.Common.{◌≡◌, ℕ, zero, suc, ◌+◌, ◌*◌, ◌≤◌, ◌==◌, ◌&&◌, ◌||◌, Bool, true, false, List, [], ◌∷◌, ◌++◌, refl, sym, subst, ap, ◌∙◌, inl, inr, map, max, min, nat_lt, arith}
+use Rattle.std.proofs.Common.{◌≡◌, ℕ, zero, suc, ◌+◌, ◌*◌, ◌<◌, ◌≤◌, ◌==◌, ◌&&◌, ◌||◌, Bool, true, false, List, [], ◌∷◌, ◌++◌, Some, refl, sym, subst, ap, ◌∙◌, inl, inr, map, max, min, nat_lt, arith}
 use Rattle.std.specs.Prelude.{Contains}
 use Rattle.std.proofs.lemmas.Bool.{and_parts, eq-eqb, eqb-true, or_cases}
 use Rattle.std.proofs.lemmas.Bool.Decides.{nat_tests}
-use Rattle.std.proofs.lemmas.List.Folds.{list_all-map, list_all-append}
-use Rattle.std.specs.List.{list_all, range_with_len}
-use denote.Enum.Bare.{tag_one}
+use Rattle.std.proofs.lemmas.List.Folds.{list_all-map}
+use Rattle.std.specs.List.{AllByRecursion, list_all, range_with_len, slice_get}
 use denote.Enum.Declared.{tag_of}
 use Rattle.paged_memory.specs.declared.family.Family.{Family}
 use Rattle.paged_memory.specs.contracts.family.Family as family_enum
 use Rattle.paged_memory.specs.declared.key.Key.{Key}
 use Rattle.paged_memory.specs.KeyOrder.{device_rank, half_rank}
-use Rattle.field_tables.specs.contracts.field.CmisSum as cmis_sum
-use Rattle.field_tables.specs.contracts.field.CmisText as cmis_text
-use Rattle.field_tables.specs.contracts.field.Sff8472Sum as sff8472_sum
-use Rattle.field_tables.specs.contracts.field.Sff8636Sum as sff8636_sum
-use Rattle.field_tables.specs.contracts.field.SffText as sff_text
-use Rattle.field_tables.specs.contracts.table.cmis.CmisField as cmis_field
-use Rattle.field_tables.specs.contracts.table.sff8472.Sff8472Field as sff8472_field
-use Rattle.field_tables.specs.contracts.table.sff8636.Sff8636Field as sff8636_field
-use Rattle.field_tables.specs.declared.field.Field.TheVariants as fields
-use Rattle.field_tables.specs.declared.field.Sum.TheVariants as sums
-use Rattle.field_tables.specs.declared.field.TextField.TheVariants as texts
-use Rattle.field_tables.specs.FieldRows.{standard_of}
-use Rattle.field_tables.specs.Texts.{standard_of_text}
-use Rattle.field_tables.specs.Sums.{standard_of_sum}
 use Rattle.field_tables.specs.Layouts.{Place}
-use Rattle.field_tables.specs.Entries.{Entry, of_field, of_text, of_sum, NoBitTwice, WithinHalf, entry_count, entry_key, entry_place, entry_standard}
+use Rattle.field_tables.specs.Entries.{Entry, of_field, of_text, of_sum, IsBitOf, NoBitTwice, WithinHalf, entry_count, entry_key, entry_place, entry_standard}
 use Rattle.field_tables.specs.RowFits.{in_half}
-use Rattle.field_tables.proofs.EveryField.{fields as all_fields, texts as all_texts, sums as all_sums, every_field, every_text, every_sum}
+use Rattle.field_tables.proofs.EveryField.{fields as all_fields, texts as all_texts, sums as all_sums, each_field, each_text, each_sum}
+use Rattle.field_tables.proofs.EveryValue.{all_pass, of_both, of_mapped}
 use Rattle.field_tables.proofs.TrueTests.{all_in, in_range}
 
 -- ---- all entries
@@ -36,18 +22,31 @@ use Rattle.field_tables.proofs.TrueTests.{all_in, in_range}
 abbrev entries : List Entry
 entries = map of_field all_fields ++ (map of_text all_texts ++ map of_sum all_sums)
 
-every_entry : (test : Entry → Bool) → list_all test entries ≡ true → (entry : Entry) → test entry ≡ true
-every_entry test all entry =
-    let of_fields = map of_field all_fields in
-    let of_texts = map of_text all_texts in
-    let of_sums = map of_sum all_sums in
-    let first = and_parts (list_all test of_fields) (list_all test (of_texts ++ of_sums)) (sym (list_all-append test of_fields (of_texts ++ of_sums)) ∙ all) in
-    let later = and_parts (list_all test of_texts) (list_all test of_sums) (sym (list_all-append test of_texts of_sums) ∙ first.1) in
-    elim entry as (λ (e : Entry). test e ≡ true) [
-      | of_field field ↦ every_field (λ f. test (of_field f)) (sym (list_all-map test of_field all_fields) ∙ first.0) field
-      | of_text text ↦ every_text (λ t. test (of_text t)) (sym (list_all-map test of_text all_texts) ∙ later.0) text
-      | of_sum s ↦ every_sum (λ t. test (of_sum t)) (sym (list_all-map test of_sum all_sums) ∙ later.1) s
+each_entry : (P : Entry → Type 0) → AllByRecursion P entries → (entry : Entry) → P entry
+each_entry P all entry =
+    let first = of_both P (map of_field all_fields) (map of_text all_texts ++ map of_sum all_sums) all in
+    let later = of_both P (map of_text all_texts) (map of_sum all_sums) first.1 in
+    elim entry as (λ (e : Entry). P e) [
+      | of_field field ↦ each_field (λ f. P (of_field f)) (of_mapped of_field P all_fields first.0) field
+      | of_text text ↦ each_text (λ t. P (of_text t)) (of_mapped of_text P all_texts later.0) text
+      | of_sum s ↦ each_sum (λ t. P (of_sum t)) (of_mapped of_sum P all_sums later.1) s
     ]
+
+-- ---- where an entry is among all
+
+abbrev IsAt : List Entry → ℕ → Entry → Type 0
+IsAt entries k entry = slice_get entries k ≡ Some entry
+
+after : (first : Entry) (xs ys : List Entry) → AllByRecursion (λ (e : Entry). (k : ℕ) × IsAt xs k e) ys → AllByRecursion (λ (e : Entry). (k : ℕ) × IsAt (first ∷ xs) k e) ys
+after first xs [] all = tt
+after first xs (y ∷ ys) all = ((suc all.0.0, all.0.1), after first xs ys all.1)
+
+placed : (xs : List Entry) → AllByRecursion (λ (e : Entry). (k : ℕ) × IsAt xs k e) xs
+placed [] = tt
+placed (x ∷ xs) = ((0, refl), after x xs xs (placed xs))
+
+place_among : (entry : Entry) → (k : ℕ) × IsAt entries k entry
+place_among entry = each_entry (λ (e : Entry). (k : ℕ) × IsAt entries k e) (placed entries) entry
 
 -- ---- spans of places
 
@@ -71,34 +70,12 @@ in_span (b ∷ place) bit (suc k, below, is) = let rest = in_span place bit (k, 
 
 -- ---- the test
 
--- an entry's number among those of its kind and standard
-abbrev tag_in : Entry → ℕ
-tag_in (of_field (fields.Cmis field)) = tag_of cmis_field.the_type field
-tag_in (of_field (fields.Sff8636 field)) = tag_of sff8636_field.the_type field
-tag_in (of_field (fields.Sff8472 field)) = tag_of sff8472_field.the_type field
-tag_in (of_text (texts.Cmis text)) = tag_of cmis_text.the_type text
-tag_in (of_text (texts.Sff8636 text)) = tag_of sff_text.the_type text
-tag_in (of_text (texts.Sff8472 text)) = tag_of sff_text.the_type text
-tag_in (of_sum (sums.Cmis s)) = tag_of cmis_sum.the_type s
-tag_in (of_sum (sums.Sff8636 s)) = tag_of sff8636_sum.the_type s
-tag_in (of_sum (sums.Sff8472 s)) = tag_of sff8472_sum.the_type s
-
--- its kind and standard
-abbrev kind_of : Entry → ℕ
-kind_of (of_field field) = tag_of family_enum.the_type (standard_of field) * 3
-kind_of (of_text text) = tag_of family_enum.the_type (standard_of_text text) * 3 + 1
-kind_of (of_sum s) = tag_of family_enum.the_type (standard_of_sum s) * 3 + 2
-
-abbrev number_of : Entry → ℕ × ℕ
-number_of entry = (kind_of entry, tag_in entry)
-
 -- one number for each standard and half
 abbrev half_code : Family → Key → ℕ
 half_code standard key = ((tag_of family_enum.the_type standard * 2 + device_rank key.dev) * 2 + half_rank key.half) * 256 + key.page
 
--- the numbers of an entry, and its values with their spans
+-- the half of an entry, and its values with their spans
 record Claim : Type 0 where
-  number : ℕ × ℕ
   code : ℕ
   spans : List (ℕ × (ℕ × ℕ))
 
@@ -106,75 +83,113 @@ abbrev span_of : Entry → ℕ → ℕ × (ℕ × ℕ)
 span_of entry i = let place = entry_place entry i in (i, (lowest place, highest place))
 
 abbrev claim_of : Entry → Claim
-claim_of entry = record { number = number_of entry; code = half_code (entry_standard entry) (entry_key entry); spans = map (span_of entry) (range_with_len 1 (entry_count entry)) }
+claim_of entry = record { code = half_code (entry_standard entry) (entry_key entry); spans = map (span_of entry) (range_with_len 1 (entry_count entry)) }
 
 abbrev apart : ℕ × ℕ → ℕ × ℕ → Bool
 apart s t = nat_lt s.1 t.0 || nat_lt t.1 s.0
 
--- the same value of the same entry, or apart
-abbrev values_clear : Claim → Claim → ℕ × (ℕ × ℕ) → ℕ × (ℕ × ℕ) → Bool
-values_clear c d p q = (c.number.0 == d.number.0 && c.number.1 == d.number.1 && p.0 == q.0) || apart p.1 q.1
+-- the values of one entry
+abbrev same_or_apart : ℕ × (ℕ × ℕ) → ℕ × (ℕ × ℕ) → Bool
+same_or_apart p q = p.0 == q.0 || apart p.1 q.1
+
+abbrev own_clear : Claim → Bool
+own_clear c = list_all (λ p. list_all (same_or_apart p) c.spans) c.spans
+
+-- those of two
+abbrev both_apart : ℕ × (ℕ × ℕ) → ℕ × (ℕ × ℕ) → Bool
+both_apart p q = apart p.1 q.1
 
 abbrev clear_where : Bool → Claim → Claim → Bool
 clear_where false c d = true
-clear_where true c d = list_all (λ p. list_all (values_clear c d p) d.spans) c.spans
+clear_where true c d = list_all (λ p. list_all (both_apart p) d.spans) c.spans
 
 abbrev clear : Claim → Claim → Bool
 clear c d = clear_where (c.code == d.code) c d
 
-abbrev all_clear : List Claim → Bool
-all_clear claims = list_all (λ c. list_all (clear c) claims) claims
+-- each with itself and with those after it
+abbrev all_clear : List Entry → Bool
+all_clear [] = true
+all_clear (entry ∷ later) = own_clear (claim_of entry) && (list_all (λ e. clear (claim_of entry) (claim_of e)) later && all_clear later)
 
-entries_clear : all_clear (map claim_of entries) ≡ true
+entries_clear : all_clear entries ≡ true
 entries_clear = refl
 
 -- ---- what the test says
 
-pair_clear : (a b : Entry) → clear (claim_of a) (claim_of b) ≡ true
-pair_clear a b =
-    let claims = map claim_of entries in
-    let row : list_all (clear (claim_of a)) claims ≡ true = every_entry (λ e. list_all (clear (claim_of e)) claims) (sym (list_all-map (λ c. list_all (clear c) claims) claim_of entries) ∙ entries_clear) a in
-    every_entry (λ e. clear (claim_of a) (claim_of e)) (sym (list_all-map (clear (claim_of a)) claim_of entries) ∙ row) b
+own_at : (xs : List Entry) (k : ℕ) (a : Entry) → all_clear xs ≡ true → IsAt xs k a → own_clear (claim_of a) ≡ true
+own_at [] k a all at = absurd cc
+own_at (x ∷ xs) zero a all at = let same : x ≡ a = cc in ap (λ (e : Entry). own_clear (claim_of e)) (sym same) ∙ (and_parts _ _ all).0
+own_at (x ∷ xs) (suc k) a all at = own_at xs k a (and_parts _ _ (and_parts _ _ all).1).1 at
 
-values_clear_at : (a b : Entry) (i j : ℕ) → half_code (entry_standard a) (entry_key a) ≡ half_code (entry_standard b) (entry_key b) →
-    1 ≤ i → i ≤ entry_count a → 1 ≤ j → j ≤ entry_count b → values_clear (claim_of a) (claim_of b) (span_of a i) (span_of b j) ≡ true
-values_clear_at a b i j codes i_first i_last j_first j_last =
-    let c = claim_of a in
+test_at : (test : Entry → Bool) (xs : List Entry) (k : ℕ) (a : Entry) → list_all test xs ≡ true → IsAt xs k a → test a ≡ true
+test_at test [] k a all at = absurd cc
+test_at test (x ∷ xs) zero a all at = let same : x ≡ a = cc in ap test (sym same) ∙ (and_parts _ _ all).0
+test_at test (x ∷ xs) (suc k) a all at = test_at test xs k a (and_parts _ _ all).1 at
+
+pair_at : (xs : List Entry) (k m : ℕ) (a b : Entry) → all_clear xs ≡ true → k < m → IsAt xs k a → IsAt xs m b → clear (claim_of a) (claim_of b) ≡ true
+pair_at [] k m a b all order is at = absurd cc
+pair_at (x ∷ xs) k zero a b all order is at = absurd (omega (arith, order))
+pair_at (x ∷ xs) zero (suc m) a b all order is at =
+    let same : x ≡ a = cc in
+    subst (λ (e : Entry). clear (claim_of e) (claim_of b) ≡ true) same (test_at (λ e. clear (claim_of x) (claim_of e)) xs m b (and_parts _ _ (and_parts _ _ all).1).0 at)
+pair_at (x ∷ xs) (suc k) (suc m) a b all order is at = pair_at xs k m a b (and_parts _ _ (and_parts _ _ all).1).1 (omega (arith, order)) is at
+
+-- a test of all pairs of values says it of each pair
+values_at : (test : ℕ × (ℕ × ℕ) → ℕ × (ℕ × ℕ) → Bool) (a b : Entry) (i j : ℕ) → list_all (λ p. list_all (test p) (claim_of b).spans) (claim_of a).spans ≡ true →
+    1 ≤ i → i ≤ entry_count a → 1 ≤ j → j ≤ entry_count b → test (span_of a i) (span_of b j) ≡ true
+values_at test a b i j met i_first i_last j_first j_last =
     let d = claim_of b in
-    let met : clear_where true c d ≡ true = subst (λ (t : Bool). clear_where t c d ≡ true) (eq-eqb c.code d.code codes) (pair_clear a b) in
-    let of_a = in_range (λ (n : ℕ). list_all (values_clear c d (span_of a n)) d.spans) 1 (entry_count a) i
-    (sym (list_all-map (λ p. list_all (values_clear c d p) d.spans) (span_of a) (range_with_len 1 (entry_count a))) ∙ met) i_first (omega arith) in
-    in_range (λ (n : ℕ). values_clear c d (span_of a i) (span_of b n)) 1 (entry_count b) j
-    (sym (list_all-map (values_clear c d (span_of a i)) (span_of b) (range_with_len 1 (entry_count b))) ∙ of_a) j_first (omega arith)
+    let of_a = in_range (λ (n : ℕ). list_all (test (span_of a n)) d.spans) 1 (entry_count a) i
+    (sym (list_all-map (λ p. list_all (test p) d.spans) (span_of a) (range_with_len 1 (entry_count a))) ∙ met) i_first (omega arith) in
+    in_range (λ (n : ℕ). test (span_of a i) (span_of b n)) 1 (entry_count b) j
+    (sym (list_all-map (test (span_of a i)) (span_of b) (range_with_len 1 (entry_count b))) ∙ of_a) j_first (omega arith)
 
 -- no number is in two spans that are apart
 not_apart : (s t : ℕ × ℕ) (n : ℕ) → (s.0 ≤ n) × (n ≤ s.1) → (t.0 ≤ n) × (n ≤ t.1) → apart s t ≡ true → ⊥
 not_apart s t n in_s in_t e = elim (or_cases (nat_lt s.1 t.0) (nat_lt t.1 s.0) e) [ inl before ↦ grind (arith, nat_tests) | inr after ↦ grind (arith, nat_tests) ]
 
-same_entry : (a b : Entry) → kind_of a ≡ kind_of b → tag_in a ≡ tag_in b → a ≡ b
-same_entry (of_field (fields.Cmis x)) (of_field (fields.Cmis y)) kind tag = ap (λ z. of_field (fields.Cmis z)) (tag_one cmis_field.the_type tt x y tag)
-same_entry (of_field (fields.Sff8636 x)) (of_field (fields.Sff8636 y)) kind tag = ap (λ z. of_field (fields.Sff8636 z)) (tag_one sff8636_field.the_type tt x y tag)
-same_entry (of_field (fields.Sff8472 x)) (of_field (fields.Sff8472 y)) kind tag = ap (λ z. of_field (fields.Sff8472 z)) (tag_one sff8472_field.the_type tt x y tag)
-same_entry (of_text (texts.Cmis x)) (of_text (texts.Cmis y)) kind tag = ap (λ z. of_text (texts.Cmis z)) (tag_one cmis_text.the_type tt x y tag)
-same_entry (of_text (texts.Sff8636 x)) (of_text (texts.Sff8636 y)) kind tag = ap (λ z. of_text (texts.Sff8636 z)) (tag_one sff_text.the_type tt x y tag)
-same_entry (of_text (texts.Sff8472 x)) (of_text (texts.Sff8472 y)) kind tag = ap (λ z. of_text (texts.Sff8472 z)) (tag_one sff_text.the_type tt x y tag)
-same_entry (of_sum (sums.Cmis x)) (of_sum (sums.Cmis y)) kind tag = ap (λ z. of_sum (sums.Cmis z)) (tag_one cmis_sum.the_type tt x y tag)
-same_entry (of_sum (sums.Sff8636 x)) (of_sum (sums.Sff8636 y)) kind tag = ap (λ z. of_sum (sums.Sff8636 z)) (tag_one sff8636_sum.the_type tt x y tag)
-same_entry (of_sum (sums.Sff8472 x)) (of_sum (sums.Sff8472 y)) kind tag = ap (λ z. of_sum (sums.Sff8472 z)) (tag_one sff8472_sum.the_type tt x y tag)
-same_entry _ _ kind tag = absurd (omega (arith, kind))
+shared : (a b : Entry) (i j : ℕ) (bit : ℕ × ℕ) → IsBitOf a i bit → IsBitOf b j bit → apart (span_of a i).1 (span_of b j).1 ≡ true → ⊥
+shared a b i j bit in_a in_b e =
+    not_apart (span_of a i).1 (span_of b j).1 (position bit) (in_span (entry_place a i) bit in_a.2) (in_span (entry_place b j) bit in_b.2) e
+
+same_code : (a b : Entry) → entry_standard a ≡ entry_standard b → entry_key a ≡ entry_key b → (claim_of a).code ≡ (claim_of b).code
+same_code a b standards keys = ap (λ (s : Family). half_code s (entry_key a)) standards ∙ ap (half_code (entry_standard b)) keys
+
+-- no entry shares a bit with one after it
+none_later : (k m : ℕ) (a b : Entry) (i j : ℕ) (bit : ℕ × ℕ) → k < m → IsAt entries k a → IsAt entries m b → entry_standard a ≡ entry_standard b → entry_key a ≡ entry_key b →
+    IsBitOf a i bit → IsBitOf b j bit → ⊥
+none_later k m a b i j bit order is at standards keys in_a in_b =
+    let c = claim_of a in
+    let d = claim_of b in
+    let met : clear_where true c d ≡ true = subst (λ (t : Bool). clear_where t c d ≡ true) (eq-eqb c.code d.code (same_code a b standards keys)) (pair_at entries k m a b entries_clear order is at) in
+    shared a b i j bit in_a in_b (values_at both_apart a b i j met in_a.0 in_a.1 in_b.0 in_b.1)
+
+same_value : (k : ℕ) (a : Entry) (i j : ℕ) (bit : ℕ × ℕ) → IsAt entries k a → IsBitOf a i bit → IsBitOf a j bit → i ≡ j
+same_value k a i j bit is in_i in_j =
+    elim (or_cases (i == j) (apart (span_of a i).1 (span_of a j).1) (values_at same_or_apart a a i j (own_at entries k a entries_clear is) in_i.0 in_i.1 in_j.0 in_j.1)) [
+      | inl same ↦ eqb-true i j same
+      | inr away ↦ absurd (shared a a i j bit in_i in_j away)
+    ]
+
+by_order : (less more : Bool) (k m : ℕ) (a b : Entry) (i j : ℕ) (bit : ℕ × ℕ) → nat_lt k m ≡ less → nat_lt m k ≡ more → IsAt entries k a → IsAt entries m b →
+    entry_standard a ≡ entry_standard b → entry_key a ≡ entry_key b → IsBitOf a i bit → IsBitOf b j bit → (a ≡ b) × (i ≡ j)
+by_order true more k m a b i j bit before after is at standards keys in_a in_b =
+    let order : k < m = grind (arith, nat_tests) in
+    absurd (none_later k m a b i j bit order is at standards keys in_a in_b)
+by_order false true k m a b i j bit before after is at standards keys in_a in_b =
+    let order : m < k = grind (arith, nat_tests) in
+    absurd (none_later m k b a j i bit order at is (sym standards) (sym keys) in_b in_a)
+by_order false false k m a b i j bit before after is at standards keys in_a in_b =
+    let place : k ≡ m = grind (arith, nat_tests) in
+    let one : Some a ≡ Some b = sym is ∙ ap (λ (n : ℕ). slice_get entries n) place ∙ at in
+    let same : a ≡ b = cc in
+    (same, same_value k a i j bit is in_a (subst (λ (e : Entry). IsBitOf e j bit) (sym same) in_b))
 
 pub no_bit_twice : NoBitTwice
 no_bit_twice a b i j bit standards keys in_a in_b =
-    let c = claim_of a in
-    let d = claim_of b in
-    let codes : c.code ≡ d.code = ap (λ (s : Family). half_code s (entry_key a)) standards ∙ ap (half_code (entry_standard b)) keys in
-    elim (or_cases (c.number.0 == d.number.0 && c.number.1 == d.number.1 && i == j) (apart (span_of a i).1 (span_of b j).1) (values_clear_at a b i j codes in_a.0 in_a.1 in_b.0 in_b.1)) [
-      | inl same ↦
-          let parts = and_parts (c.number.0 == d.number.0 && c.number.1 == d.number.1) (i == j) same in
-          let numbers = and_parts (c.number.0 == d.number.0) (c.number.1 == d.number.1) parts.0 in
-          (same_entry a b (eqb-true c.number.0 d.number.0 numbers.0) (eqb-true c.number.1 d.number.1 numbers.1), eqb-true i j parts.1)
-      | inr away ↦ absurd (not_apart (span_of a i).1 (span_of b j).1 (position bit) (in_span (entry_place a i) bit in_a.2) (in_span (entry_place b j) bit in_b.2) away)
-    ]
+    let p = place_among a in
+    let q = place_among b in
+    by_order (nat_lt p.0 q.0) (nat_lt q.0 p.0) p.0 q.0 a b i j bit refl refl p.1 q.1 standards keys in_a in_b
 
 -- ---- within the half
 
@@ -186,6 +201,7 @@ entries_within = refl
 
 pub within_half : WithinHalf
 within_half entry i bit is_bit =
-    let values = every_entry (λ e. list_all (value_within e) (range_with_len 1 (entry_count e))) entries_within entry in
+    let test = λ (e : Entry). list_all (value_within e) (range_with_len 1 (entry_count e)) in
+    let values = each_entry (λ (e : Entry). test e ≡ true) (all_pass test entries entries_within) entry in
     let value = in_range (value_within entry) 1 (entry_count entry) i values is_bit.0 (omega (arith, is_bit.1)) in
     all_in (in_half (entry_key entry).half) (entry_place entry i) bit value is_bit.2
