@@ -13,14 +13,8 @@ pub enum Field {
 /// A field by its standard and its name, as in `field!(Cmis ModuleState)`.
 #[macro_export]
 macro_rules! field {
-    (Cmis $name:ident) => {
-        $crate::Field::Cmis($crate::CmisField::$name)
-    };
-    (Sff8636 $name:ident) => {
-        $crate::Field::Sff8636($crate::Sff8636Field::$name)
-    };
-    (Sff8472 $name:ident) => {
-        $crate::Field::Sff8472($crate::Sff8472Field::$name)
+    ($standard:ident $name:ident) => {
+        $crate::Field::$standard($crate::fields::$standard::$name)
     };
 }
 
@@ -35,17 +29,17 @@ macro_rules! text_of {
     };
 }
 
-/// A sum by its standard and its name, as in `sum_of!(Sff8636 SumBase)`.
+/// A sum by its standard and its name, as in `sum_of!(Sff8636 SumBase)`: of a standard without an arm of its own, a sum that SFF-8636 has too.
 #[macro_export]
 macro_rules! sum_of {
     (Cmis $name:ident) => {
         $crate::Sum::Cmis($crate::CmisSum::$name)
     };
-    (Sff8636 $name:ident) => {
-        $crate::Sum::Sff8636($crate::Sff8636Sum::$name)
-    };
     (Sff8472 $name:ident) => {
         $crate::Sum::Sff8472($crate::Sff8472Sum::$name)
+    };
+    ($standard:ident $name:ident) => {
+        $crate::Sum::$standard($crate::Sff8636Sum::$name)
     };
 }
 

@@ -4,6 +4,7 @@
 mod bits;
 mod fault;
 mod field;
+pub mod fields;
 mod halves;
 mod lane_number;
 mod lane_set;
@@ -38,7 +39,6 @@ pub use sums::sum_right;
 pub use table::cmis::CmisField;
 pub use table::row;
 pub use table::sff8472::Sff8472Field;
-pub use table::sff8636::Sff8636Field;
 pub use texts::text_field;
 pub use units::{Unit, millis};
 pub use values::{is_set, lane, number_in_byte, value};
