@@ -1,17 +1,9 @@
 -- The memory map of CMIS: the row of each field. (docs/fields.md, "Fields"; OIF-CMIS-05.0, chapter 8 "Module Management Memory
 -- Map")
-use Rattle.std.specs.Prelude.{Some, None}
-use Rattle.bus_model.specs.declared.device.Dev.TheVariants.{A0}
-use Rattle.paged_memory.specs.declared.key.Half.TheVariants.{Lower, Upper}
 use Rattle.field_tables.specs.declared.field.Register.TheVariants as registers
-use Rattle.field_tables.specs.declared.layout.Layout.TheVariants.{Single, Every, Bits, Nibbles}
-use Rattle.field_tables.specs.declared.layout.Part.TheVariants.{Byte, Word, Range}
-use Rattle.field_tables.specs.declared.layout.Row.{Row}
-use Rattle.field_tables.specs.declared.layout.Sign.TheVariants.{Unsigned, Signed}
 use Rattle.field_tables.specs.declared.table.cmis.CmisField.{CmisField}
 use Rattle.field_tables.specs.declared.table.cmis.CmisField.TheVariants as fields
-use Rattle.field_tables.specs.declared.units.Unit.TheVariants.{Temperature, Voltage, OpticalPower, Bias, ModulePower}
-use Rattle.field_tables.specs.RowLines.{line, part}
+use Rattle.field_tables.specs.RowLines.{Some, None, A0, Lower, Upper, Single, Every, Bits, Nibbles, Byte, Word, Range, Row, Unsigned, Signed, Temperature, Voltage, OpticalPower, Bias, ModulePower, line, part}
 
 -- device, half and page, offset, bits, layout, number of values, sign, unit; of numbers in a register: from which of its bytes on
 abbrev pub row_of : CmisField → Row

@@ -1,14 +1,20 @@
--- How a row of the memory map is written. (docs/fields.md, "Fields"; this project's own)
-use Rattle.std.specs.Prelude.{ℕ, ◌+◌, Option, None}
+-- How a row of the memory map is written, and the words for it. (docs/fields.md, "Fields"; this project's own)
+use Rattle.std.specs.Prelude.{ℕ, ◌+◌, Option}
+pub use Rattle.std.specs.Prelude.{Some, None}
 use Rattle.bus_model.specs.declared.device.Dev.{Dev}
+pub use Rattle.bus_model.specs.declared.device.Dev.TheVariants.{A0, A2}
 use Rattle.paged_memory.specs.declared.key.Half.{Half}
+pub use Rattle.paged_memory.specs.declared.key.Half.TheVariants.{Lower, Upper}
 use Rattle.field_tables.specs.declared.field.Register.{Register}
 use Rattle.field_tables.specs.declared.layout.Layout.{Layout}
+pub use Rattle.field_tables.specs.declared.layout.Layout.TheVariants.{Single, Every, Bits, Down, Nibbles, Quad}
 use Rattle.field_tables.specs.declared.layout.Part.{Part}
-use Rattle.field_tables.specs.declared.layout.Row.{Row}
+pub use Rattle.field_tables.specs.declared.layout.Part.TheVariants.{Byte, Word, Range}
+pub use Rattle.field_tables.specs.declared.layout.Row.{Row}
 use Rattle.field_tables.specs.declared.layout.Sign.{Sign}
-use Rattle.field_tables.specs.declared.layout.Sign.TheVariants.{Unsigned}
+pub use Rattle.field_tables.specs.declared.layout.Sign.TheVariants.{Unsigned, Signed}
 use Rattle.field_tables.specs.declared.units.Unit.{Unit}
+pub use Rattle.field_tables.specs.declared.units.Unit.TheVariants.{Temperature, Voltage, OpticalPower, Bias, ModulePower}
 use Rattle.field_tables.specs.Registers.{span_of}
 
 abbrev pub line : Dev → Half → ℕ → ℕ → Part → Layout → ℕ → Sign → Option Unit → Row

@@ -1,15 +1,7 @@
 -- The memory map of SFF-8472: the row of each field. (docs/fields.md, "Fields"; SFF-8472, "Memory Organization")
-use Rattle.std.specs.Prelude.{Some, None}
-use Rattle.bus_model.specs.declared.device.Dev.TheVariants.{A0, A2}
-use Rattle.paged_memory.specs.declared.key.Half.TheVariants.{Lower, Upper}
-use Rattle.field_tables.specs.declared.layout.Layout.TheVariants.{Single, Every, Bits, Down}
-use Rattle.field_tables.specs.declared.layout.Part.TheVariants.{Byte, Word, Range}
-use Rattle.field_tables.specs.declared.layout.Row.{Row}
-use Rattle.field_tables.specs.declared.layout.Sign.TheVariants.{Unsigned, Signed}
 use Rattle.field_tables.specs.declared.table.sff8472.Sff8472Field.{Sff8472Field}
 use Rattle.field_tables.specs.declared.table.sff8472.Sff8472Field.TheVariants as fields
-use Rattle.field_tables.specs.declared.units.Unit.TheVariants.{Temperature, Voltage, OpticalPower, Bias}
-use Rattle.field_tables.specs.RowLines.{line}
+use Rattle.field_tables.specs.RowLines.{Some, None, A0, A2, Lower, Single, Every, Bits, Down, Byte, Word, Range, Row, Unsigned, Signed, Temperature, Voltage, OpticalPower, Bias, line}
 
 -- device, half and page, offset, bits, layout, number of values, sign, unit
 abbrev pub row_of : Sff8472Field → Row

@@ -8,14 +8,14 @@ use crate::layout::{Layout, Part, Row, Sign};
 use crate::registers::register;
 
 macro_rules! part {
-    (byte) => { Part::Byte };
-    (word) => { Part::Word };
-    ($high:literal - $low:literal) => { Part::Range { high: $high, low: $low } };
+    (byte) => { $crate::layout::Part::Byte };
+    (word) => { $crate::layout::Part::Word };
+    ($high:literal - $low:literal) => { $crate::layout::Part::Range { high: $high, low: $low } };
 }
 
 macro_rules! unit {
     () => { None };
-    ($unit:ident) => { Some(Unit::$unit) };
+    ($unit:ident) => { Some($crate::units::Unit::$unit) };
 }
 
 // Each arm borrows a constant: if it built its row member by member, the proof would take minutes.
@@ -25,23 +25,23 @@ macro_rules! rows {
         $($name:ident: $dev:ident $half:ident $page:literal, $offset:literal [$($bits:tt)*], $layout:ident $(($number:literal))?, $count:literal, $sign:ident $($unit:ident)?;)*) => {
         match $field {
             $($fields::$part => {
-                return row_in(
-                    Register::$register,
+                return $crate::table::row_in(
+                    $crate::field::Register::$register,
                     $byte,
                     part!($($part_bits)*),
-                    Layout::$part_layout $(($part_number))?,
+                    $crate::layout::Layout::$part_layout $(($part_number))?,
                     $part_count,
                 );
             })*
-            $($fields::$name => &Row {
-                dev: Dev::$dev,
-                half: Half::$half,
+            $($fields::$name => &$crate::layout::Row {
+                dev: bus_model::Dev::$dev,
+                half: paged_memory::Half::$half,
                 page: $page,
                 offset: $offset,
                 bits: part!($($bits)*),
-                layout: Layout::$layout $(($number))?,
+                layout: $crate::layout::Layout::$layout $(($number))?,
                 count: $count,
-                sign: Sign::$sign,
+                sign: $crate::layout::Sign::$sign,
                 unit: unit!($($unit)?),
             },)*
         }

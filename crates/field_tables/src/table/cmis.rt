@@ -1,12 +1,7 @@
 ghost use Rattle.std.specs.Prelude.{◌≡◌};
 ghost use Rattle.field_tables.specs.CmisRows as spec;
 
-use crate::field::Register;
-use crate::layout::{Layout, Part, Row, Sign};
-use crate::table::row_in;
-use crate::units::Unit;
-use bus_model::Dev;
-use paged_memory::Half;
+use crate::layout::Row;
 
 /// A field of the memory map of CMIS.
 #[derive(Clone, Copy, Debug, PartialEq, Eq)]

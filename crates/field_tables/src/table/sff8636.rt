@@ -1,10 +1,7 @@
 ghost use Rattle.std.specs.Prelude.{◌≡◌};
 ghost use Rattle.field_tables.specs.Sff8636Rows as spec;
 
-use crate::layout::{Layout, Part, Row, Sign};
-use crate::units::Unit;
-use bus_model::Dev;
-use paged_memory::Half;
+use crate::layout::Row;
 
 /// A field of the memory map of SFF-8636.
 #[derive(Clone, Copy, Debug, PartialEq, Eq)]
