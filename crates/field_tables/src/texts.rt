@@ -13,15 +13,15 @@ use bus_model::Dev;
 use paged_memory::{Half, Image};
 
 macro_rules! texts {
-    ($text:ident; $($of:ident $name:ident: $dev:ident $half:ident $page:literal, $first:literal - $last:literal;)*) => {
+    ($text:ident; $($of:ident $half:ident $page:literal: $($name:ident $first:literal - $last:literal),*;)*) => {
         match $text {
-            $(text_of!($of $name) => Span {
-                dev: Dev::$dev,
+            $($(text_of!($of $name) => Span {
+                dev: Dev::A0,
                 half: Half::$half,
                 page: $page,
                 first: $first,
                 last: $last,
-            },)*
+            },)*)*
         }
     };
 }
@@ -43,23 +43,10 @@ fn span_of(text: TextField) -> Span
     ensures span { result ≡ text_span text }
     ensures fits { IsTrue (text_fits result) }
 {
-    // device, half and page, first and last byte
+    // half and page of device A0, first and last byte of each
     texts! { text;
-        Cmis Vendor: A0 Upper 0x00, 129-144;
-        Cmis Part: A0 Upper 0x00, 148-163;
-        Cmis PartRevision: A0 Upper 0x00, 164-165;
-        Cmis Serial: A0 Upper 0x00, 166-181;
-        Cmis Date: A0 Upper 0x00, 182-189;
-        Cmis Clei: A0 Upper 0x00, 190-199;
-        Sff8636 Vendor: A0 Upper 0x00, 148-163;
-        Sff8636 Part: A0 Upper 0x00, 168-183;
-        Sff8636 PartRevision: A0 Upper 0x00, 184-185;
-        Sff8636 Serial: A0 Upper 0x00, 196-211;
-        Sff8636 Date: A0 Upper 0x00, 212-219;
-        Sff8472 Vendor: A0 Lower 0x00, 20-35;
-        Sff8472 Part: A0 Lower 0x00, 40-55;
-        Sff8472 PartRevision: A0 Lower 0x00, 56-59;
-        Sff8472 Serial: A0 Lower 0x00, 68-83;
-        Sff8472 Date: A0 Lower 0x00, 84-91;
+        Cmis Upper 0x00: Vendor 129-144, Part 148-163, PartRevision 164-165, Serial 166-181, Date 182-189, Clei 190-199;
+        Sff8636 Upper 0x00: Vendor 148-163, Part 168-183, PartRevision 184-185, Serial 196-211, Date 212-219;
+        Sff8472 Lower 0x00: Vendor 20-35, Part 40-55, PartRevision 56-59, Serial 68-83, Date 84-91;
     }
 }
