@@ -5,7 +5,7 @@ pub mod FetchedLanes
 pub mod FetchedPages
 pub mod SameFamilies
 pub mod SameApps
-mod SameDetailRows
+pub mod SameDetailRows
 pub mod SameIf
 pub mod BankLanes
 pub mod SameBanks

@@ -54,7 +54,7 @@ module _ {a b : Memory} {keys : List Key} (agree : KeysAgree a b keys) where
   abbrev line_same : (i : ℕ) → SameIf (line_of a i) (line_of b i)
   line_same i = by_two (λ slope offset. record { slope = slope; offset = offset }) (number_read agree (fields.Sff8472 sff8472.Slopes) i) (value_read agree (fields.Sff8472 sff8472.Offsets) i)
 
-  abbrev constants_same : SameIf (constants_of a) (constants_of b)
+  unfoldable pub constants_same : SameIf (constants_of a) (constants_of b)
   unfolding constants_of
   constants_same =
       let power = pair (pair (coefficient_same 1) (coefficient_same 3)) (pair (coefficient_same 5) (pair (coefficient_same 7) (coefficient_same 9))) in

@@ -181,8 +181,8 @@ fn banks_in(all_lanes: bool, family: Family, image: &Image) -> &'static [u8]
     }
 }
 
-// A module with flat memory has no lines of paged memory.
-fn is_flat_in(family: Family, image: &Image) -> bool
+/// Whether a module of this family has no pages but 00h: then it has no lines of paged memory.
+pub fn is_flat_in(family: Family, image: &Image) -> bool
     ensures { result ≡ spec.is_flat_in family image.now }
 {
     match family {
