@@ -11,12 +11,13 @@ use Rattle.reports.specs.Answered.{IfMemory}
 use Rattle.reports.specs.declared.fault.ReportFault.{ReportFault}
 use Rattle.observable_reports.specs.ObservationJson.{observables_json}
 use Rattle.observable_reports.specs.ObservationText.{observed}
+use Rattle.observable_reports.specs.OwnHalves.{own_halves}
 
 -- this fault if there is one, else this value
 abbrev pub AnswersJson : Option ReportFault → Json → Result (Vec ℕ Global) ReportFault → Type 0
 AnswersJson refused value result =
     MatchOption refused (IfMemory (IsJsonText value) (result_map_both (λ written. written.items) (λ fault. fault) result)) (λ fault. result ≡ Err fault)
 
--- all that a module measures
+-- all that a module measures, of the halves that it has
 abbrev pub json_of : Memory → Json
-json_of memory = observables_json (observed memory) (absent_page memory 0)
+json_of memory = observables_json (observed (own_halves memory)) (absent_page (own_halves memory) 0)

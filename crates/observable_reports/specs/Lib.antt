@@ -1,4 +1,5 @@
 pub mod AmountTexts
+pub mod OwnHalves
 pub mod ObservationText
 pub mod ObservationJson
 pub mod ListedInstances

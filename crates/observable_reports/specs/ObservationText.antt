@@ -20,6 +20,7 @@ use Rattle.report_entries.specs.Shown.{byte_code}
 use Rattle.observable_reports.specs.declared.amount_text.ShownAmount.{ShownAmount}
 use Rattle.observable_reports.specs.AmountTexts as amounts
 use Rattle.observable_reports.specs.AmountTexts.{shown_as}
+use Rattle.observable_reports.specs.OwnHalves.{own_halves}
 
 -- ---- the words of a line
 
@@ -92,5 +93,6 @@ absent_lines (Some key) = absent_line key ∷ []
 abbrev pub lines_with : List Observation → Option Key → List (List ℕ)
 lines_with seen absent = (count_line (length seen) ∷ map observation_line seen) ++ absent_lines absent
 
+-- of the halves that the module has
 abbrev pub observables_lines : Memory → List (List ℕ)
-observables_lines memory = lines_with (observed memory) (absent_page memory 0)
+observables_lines memory = lines_with (observed (own_halves memory)) (absent_page (own_halves memory) 0)

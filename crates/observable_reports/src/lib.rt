@@ -9,6 +9,7 @@ pub mod laws;
 mod listed_instances;
 mod observation_json;
 mod observation_text;
+mod own_halves;
 mod report;
 
 pub use amount_text::{ShownAmount, shown_as};

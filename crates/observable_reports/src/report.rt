@@ -1,61 +1,69 @@
 //! What a module measures, as text and as JSON.
 ghost use Rattle.std.specs.Prelude.{◌≡◌, ◌++◌, ◌∷◌, [], map, IfOk, OnOk};
 ghost use Rattle.text_lines.specs.Lines.{text_of};
-ghost use Rattle.reports.specs.Families.{detail_fault, unread};
+ghost use Rattle.observables.specs.Pages.{absent_page};
+ghost use Rattle.reports.specs.Families.{detail_fault};
 ghost use Rattle.reports.specs.Answered.{Reports};
 ghost use Rattle.observable_reports.specs.Answered.{AnswersJson, json_of};
-ghost use Rattle.observable_reports.specs.ObservationText.{absent_line, absent_lines, count_line, lines_with, observables_lines, observation_line};
+ghost use Rattle.observable_reports.specs.OwnHalves.{own_of};
+ghost use Rattle.observable_reports.specs.ObservationText.{absent_line, absent_lines, count_line, lines_with, observables_lines, observation_line, observed};
 
 use crate::observation_json::json;
 use crate::observation_text::ObservationText;
-use module_decoding::{ModuleFault, detail_family_of};
+use crate::own_halves::{first_halves, has_no_more};
 use observables::{Observation, absent_page, all_observations, quantity_name};
-use paged_memory::{Image, Key};
+use paged_memory::{Family, Image, Key};
 use report_entries::{Code, ReportText};
-use reports::ReportFault;
+use reports::{ReportFault, detail_family_of};
 use std::alloc::{AllocError, Global};
 
 /// All that a module measures, line by line.
+#[tactic(auto, unfolding(crate::specs::OwnHalves::own_halves))]
 pub fn observables(alloc: Global, image: &Image) -> Result<Vec<u8>, ReportFault>
     ensures { Reports (detail_fault image.now) (observables_lines image.now) result }
 {
-    if let Some(fault) = refusal(image) {
-        return Err(fault);
-    }
-    let seen = all_observations(alloc, image)?;
-    Ok(text(alloc, &seen, absent_page(image, 0))?)
+    let family = detail_family_of(image)?;
+    let found = found_of(alloc, family, image)?;
+    Ok(text(alloc, &found.seen, found.absent)?)
 }
 
 /// The same as JSON.
+#[tactic(auto, unfolding(crate::specs::OwnHalves::own_halves))]
 pub fn observables_json(alloc: Global, image: &Image) -> Result<Vec<u8>, ReportFault>
     ensures { AnswersJson (detail_fault image.now) (json_of image.now) result }
 {
-    if let Some(fault) = refusal(image) {
-        return Err(fault);
-    }
-    let seen = all_observations(alloc, image)?;
-    Ok(json(alloc, &seen, absent_page(image, 0))?)
+    let family = detail_family_of(image)?;
+    let found = found_of(alloc, family, image)?;
+    Ok(json(alloc, &found.seen, found.absent)?)
 }
 
-// Why there is no list of a module: it is none of those that have details.
-#[tactic(auto, unfolding(reports::specs::Families::detail_fault))]
-fn refusal(image: &Image) -> Option<ReportFault>
-    ensures { result ≡ detail_fault image.now }
-{
-    match detail_family_of(image) {
-        Ok(_family) => None,
-        Err(fault) => Some(unread(fault)),
-    }
+// What is measured, and the page that is needed and not there.
+#[derive(Drop)]
+struct Found {
+    seen: Vec<Observation>,
+    absent: Option<Key>,
 }
 
-fn unread(fault: ModuleFault) -> ReportFault
-    ensures { result ≡ unread fault }
+// Of the halves that a module of this family has.
+fn found_of(alloc: Global, family: Family, image: &Image) -> Result<Found, AllocError>
+    ensures seen { IfOk result (λ found. found.seen.items ≡ observed (own_of family image.now)) }
+    ensures absent { IfOk result (λ found. found.absent ≡ absent_page (own_of family image.now) 0) }
 {
-    match fault {
-        ModuleFault::Absent(key) => ReportFault::Absent(key),
-        ModuleFault::Unknown(identifier) => ReportFault::Unknown(identifier),
-        ModuleFault::Revision(revision) => ReportFault::Revision(revision),
+    if has_no_more(family, image) {
+        let first = first_halves(image);
+        return found_in(alloc, &first.view());
     }
+    found_in(alloc, image)
+}
+
+fn found_in(alloc: Global, image: &Image) -> Result<Found, AllocError>
+    ensures seen { IfOk result (λ found. found.seen.items ≡ observed image.now) }
+    ensures absent { IfOk result (λ found. found.absent ≡ absent_page image.now 0) }
+{
+    Ok(Found {
+        seen: all_observations(alloc, image)?,
+        absent: absent_page(image, 0),
+    })
 }
 
 fn text(alloc: Global, seen: &[Observation], absent: Option<Key>) -> Result<Vec<u8>, AllocError>
