@@ -9,4 +9,7 @@ pub mod WindowStatistics
 mod BankReadings
 mod ObservingRuns
 pub mod WholeStatistics
+mod SameMonitors
+mod OwnHalves
+pub mod WholeObservables
 pub mod ObservingFaults

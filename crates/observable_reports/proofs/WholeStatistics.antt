@@ -122,7 +122,7 @@ instance_is : (memory : Memory) (bank n : ℕ) → instance_at memory bank n ≡
 unfolding instance_at descriptor_at
 instance_is memory bank n = refl
 
-no_instance : (memory : Memory) (bank n : ℕ) → page_of memory bank (0x20 + n / 64) ≡ None → instance_at memory bank n ≡ None
+pub no_instance : (memory : Memory) (bank n : ℕ) → page_of memory bank (0x20 + n / 64) ≡ None → instance_at memory bank n ≡ None
 no_instance memory bank n none =
     instance_is memory bank n
     ∙ ap (λ (half : Option (List ℕ)). instance_from n half (page_of memory bank (0x24 + n / 64)) (page_of memory bank (0x28 + n / 64)) (page_of memory bank 0x2C)) none
@@ -223,22 +223,42 @@ module _ (memory before all : Memory) (own : HasOwnStatistics memory) (lanes : L
 
 -- ---- the whole
 
-pub advertised_read : AdvertisedRead
-advertised_read old new memory all image start (inl (fault, refused, fetched)) cmis page bytes is advert there = absurd cc
-advertised_read old new memory all image start (inr (mid, before, fetched, read_so)) cmis page bytes is advert there =
-    let window : old.state.1 ≡ started memory = ap (λ (state : List Directive × Windowed). state.1) start in
-    let is_fetched = fetched_is old mid memory before image window fetched in
-    let none = fetch_unscripted old mid before fetched (ap (λ (state : List Directive × Windowed). state.0) start) in
-    there_too memory before all is_fetched.lanes ((statistics_of memory before image mid is_fetched new all read_so).whole none)
-    (cmis_is (managed_by (number memory (fields.Cmis cmis_fields.Identifier))) cmis) page bytes (omega (arith, is.0)) advert there
+-- what was read of an image without a script
+record IsReadWhole (memory all : Memory) : Type 0 where
+  pub before : Memory
+  pub lanes : LanesAgree before memory
+  pub all_lanes : LanesAgree all memory
+  pub read : IsWhole memory before all
+  pub within : (page : ℕ) (bytes : List ℕ) → 0x20 ≤ page → map.get all (key_of page) ≡ Some bytes → map.get memory (key_of page) ≡ Some bytes
 
-pub whole_read : StatisticsWhole
-whole_read old new memory all image own start (inl (fault, refused, fetched)) place above = absurd cc
-whole_read old new memory all image own start (inr (mid, before, fetched, read_so)) place above =
+read_whole : (old new : SeenWindow) (memory all : Memory) → IsImage memory → old.state ≡ ([], started memory) → IsObserving (script_rules window_conduct) old new (Ok all) → IsReadWhole memory all
+read_whole old new memory all image start (inl (fault, refused, fetched)) = absurd cc
+read_whole old new memory all image start (inr (mid, before, fetched, read_so)) =
     let window : old.state.1 ≡ started memory = ap (λ (state : List Directive × Windowed). state.1) start in
     let is_fetched = fetched_is old mid memory before image window fetched in
     let none = fetch_unscripted old mid before fetched (ap (λ (state : List Directive × Windowed). state.0) start) in
     let observing : IsObserving (script_rules window_conduct) old new (Ok all) = inr (mid, before, fetched, read_so) in
-    listed_same memory before all own is_fetched.lanes (observed_lanes old new memory all image window observing)
-    ((statistics_of memory before image mid is_fetched new all read_so).whole none)
-    (λ page bytes high there. statistics_same old new memory all image window observing page bytes high there) place above
+    record {
+      before = before;
+      lanes = is_fetched.lanes;
+      all_lanes = observed_lanes old new memory all image window observing;
+      read = (statistics_of memory before image mid is_fetched new all read_so).whole none;
+      within = λ page bytes high there. statistics_same old new memory all image window observing page bytes high there;
+    }
+
+pub advertised_read : AdvertisedRead
+advertised_read old new memory all image start observing cmis page bytes is advert there =
+    let it = read_whole old new memory all image start observing in
+    there_too memory it.before all it.lanes it.read (cmis_is (managed_by (number memory (fields.Cmis cmis_fields.Identifier))) cmis) page bytes (omega (arith, is.0)) advert there
+
+pub whole_read : StatisticsWhole
+whole_read old new memory all image own start observing place above =
+    let it = read_whole old new memory all image start observing in
+    listed_same memory it.before all own it.lanes it.all_lanes it.read it.within place above
+
+-- so is each of their pages
+pub whole_pages : (old new : SeenWindow) (memory all : Memory) → IsImage memory → HasOwnStatistics memory → old.state ≡ ([], started memory) → IsObserving (script_rules window_conduct) old new (Ok all)
+    → managed_by (number memory (fields.Cmis cmis_fields.Identifier)) ≡ Some Cmis → (bank page : ℕ) → 0x20 ≤ page → page < 0x30 → page_of all bank page ≡ page_of memory bank page
+whole_pages old new memory all image own start observing managed bank page above below =
+    let it = read_whole old new memory all image start observing in
+    banked memory it.before all own it.lanes it.all_lanes it.read it.within managed bank page above below

@@ -9,3 +9,4 @@ pub mod Answered
 pub mod WrittenAmounts
 pub mod FetchedObservables
 pub mod SameStatistics
+pub mod SameObservables

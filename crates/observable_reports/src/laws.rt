@@ -1,4 +1,5 @@
 //! What holds of the amounts that reports show, and of statistics that are read over a bus. Each function is a theorem: its contract says it, and its body is empty.
+ghost use Rattle.observable_reports.specs.SameObservables.{MonitorsSame, ObservablesWhole};
 ghost use Rattle.observable_reports.specs.SameStatistics.{AdvertisedRead, ObservedReportsSame, StatisticsSame, StatisticsWhole};
 ghost use Rattle.observable_reports.specs.WrittenAmounts.{EachAmountIsWritten, EachWordIsANumber};
 
@@ -30,4 +31,16 @@ pub fn statistics_change_no_report()
 pub fn statistics_are_read_whole()
     ensures pages { AdvertisedRead }
     ensures instances { StatisticsWhole }
+{}
+
+/// Over a scripted bus with a new window of an image, whatever the script refuses or cuts short: each monitor at a fixed place of what
+/// `fetch_observables` answers is as the image has it, of the halves that the module has.
+pub fn monitors_are_read_as_the_module_has_them()
+    ensures { MonitorsSame }
+{}
+
+/// Over a bus without a script, with a new window of an image that has no other statistics than those that its banks advertise: what `observables`
+/// and `observables_json` tell of what `fetch_observables` answers, the page that is absent among it, is what they tell of the image.
+pub fn observables_are_read_whole()
+    ensures { ObservablesWhole }
 {}
