@@ -1,5 +1,5 @@
 -- What the halves that a module has come to, of memories that agree in those that are read for reports.
-use Rattle.std.proofs.Common.{◌≡◌, ◌∙◌, ℕ, ◌+◌, ◌/◌, ◌%◌, ◌<◌, ◌≤◌, ◌&&◌, Bool, true, false, cond, List, [], ◌∷◌, Option, Some, None, refl, sym, ap, subst, if◌then◌else◌, take, arith}
+use Rattle.std.proofs.Common.{◌≡◌, ◌∙◌, ℕ, ◌%◌, ◌<◌, Bool, true, false, cond, List, Option, Some, None, refl, sym, ap, subst, if◌then◌else◌, take, arith}
 use Rattle.std.proofs.lemmas.Bool.{false_from_ne_true}
 use Rattle.std.specs.Prelude.{not, option_map}
 use Rattle.std.specs.FinMap as map
@@ -12,7 +12,7 @@ use Rattle.field_tables.specs.Readings.{number}
 use Rattle.field_tables.proofs.SameValues.{Agree, plain, same_number}
 use Rattle.module_decoding.specs.ModuleFamilies.{detail_family_of, known}
 use Rattle.module_reading.specs.Regions.{decides, has_diagnostics}
-use Rattle.module_reading.proofs.RegionLaws.{keys_are, not_true, same_decides, same_half}
+use Rattle.module_reading.proofs.RegionLaws.{keys_are, same_decides, same_half}
 use Rattle.observables.specs.Banks.{advertised_banks, bank_count, banks_by}
 use Rattle.observables.specs.Pages.{is_cmis}
 use Rattle.observables.specs.Words.{byte_in, page_of}
@@ -25,9 +25,9 @@ use Rattle.paged_memory.specs.Images.{Memory}
 use Rattle.paged_memory.specs.KeyOrder.{key_cmp}
 use Rattle.paged_memory.specs.Keys.{lower_key, upper_key}
 use Rattle.paged_memory.proofs.KeyLaws.{keys_total}
-use Rattle.reports.proofs.SameFamilies.{AllAgree, LanesAgree, family_agrees, keys_by, low_agrees}
+use Rattle.reports.proofs.SameFamilies.{LanesAgree, family_agrees, keys_by, low_agrees}
 use Rattle.reports.proofs.SameIf.{KeysAgree, each_agree}
-use Rattle.observable_reports.specs.OwnHalves.{first_halves, has_no_more, own_halves, own_of, with_half}
+use Rattle.observable_reports.specs.OwnHalves.{first_halves, has_no_more, own_halves, with_half}
 use Rattle.observable_reports.proofs.SameMonitors.{MonitorsAgree, if_all}
 
 -- ---- the lower half and page 00h

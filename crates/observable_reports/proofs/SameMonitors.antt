@@ -1,5 +1,5 @@
 -- Monitors at fixed places are the same of memories that agree in the halves that those of their family are read from.
-use Rattle.std.proofs.Common.{◌≡◌, ◌∙◌, ℕ, zero, suc, ◌+◌, ◌-◌, ◌/◌, ◌%◌, ◌<◌, ◌≤◌, ◌==◌, ◌&&◌, Bool, true, false, List, [], ◌∷◌, Option, Some, None, refl, sym, ap, if◌then◌else◌, nat_le, nat_lt, arith}
+use Rattle.std.proofs.Common.{◌≡◌, ◌∙◌, ℕ, zero, suc, ◌+◌, ◌-◌, ◌/◌, ◌%◌, ◌<◌, ◌≤◌, ◌==◌, ◌&&◌, Bool, true, false, List, Option, Some, None, refl, sym, ap, if◌then◌else◌, nat_le, nat_lt, arith}
 use Rattle.std.proofs.lemmas.Bool.{leb-false, leb-true, ltb-true}
 use Rattle.std.specs.Prelude.{not, option_and_then, option_map}
 use Rattle.std.specs.List.{list_all, range_with_len}
@@ -22,13 +22,12 @@ use Rattle.observables.specs.declared.monitor.Bounds.{Bounds}
 use Rattle.observables.specs.declared.monitor.Correction.{Correction}
 use Rattle.observables.specs.declared.monitor.Correction.TheVariants.{Plain, Multiplied, Calibrated}
 use Rattle.observables.specs.declared.monitor.Monitor.{Monitor}
-use Rattle.observables.specs.declared.observation.Observation.{Observation}
 use Rattle.observables.specs.declared.quantity.Quantity.{Quantity}
 use Rattle.observables.specs.declared.quantity.Scope.TheVariants.{Module}
 use Rattle.observables.specs.Amounts.{amount_of, amount_times}
 use Rattle.observables.specs.Banks.{advertised_banks, bank_count, lanes_of_bank}
 use Rattle.observables.specs.CmisMonitors.{auxiliary, cmis_monitor}
-use Rattle.observables.specs.Monitored.{amount_at, bit_in_lane, bits_in_lane, bits_of, calibrated, corrected, flags_in_lane, is_advertised, is_present, limit_amounts, limits_by, multiplier, no_limits, word_at}
+use Rattle.observables.specs.Monitored.{amount_at, bit_in_lane, bits_of, calibrated, corrected, flags_in_lane, is_advertised, is_present, limit_amounts, limits_by, multiplier, no_limits, word_at}
 use Rattle.observables.specs.Monitors.{advertised_by, monitor}
 use Rattle.observables.specs.Observations.{measured, measured_in_bank, monitor_by, monitor_observation, monitored}
 use Rattle.observables.specs.QsfpMonitors.{qsfp_monitor}

@@ -1,15 +1,13 @@
 -- All that a module measures is told of what is read of an image over a bus without a script as it is told of the image.
-use Rattle.std.proofs.Common.{◌≡◌, ◌∙◌, ℕ, zero, suc, ◌+◌, ◌-◌, ◌/◌, ◌%◌, ◌<◌, ◌≤◌, ◌==◌, ◌&&◌, Bool, true, false, cond, nat_le, nat_lt, List, [], ◌∷◌, ◌++◌, Option, Some, None, is_some, map, refl, sym, ap, subst, if◌then◌else◌, arith}
+use Rattle.std.proofs.Common.{◌≡◌, ◌∙◌, ℕ, zero, suc, ◌+◌, ◌-◌, ◌/◌, ◌%◌, ◌<◌, ◌≤◌, ◌==◌, ◌&&◌, Bool, true, false, cond, nat_le, nat_lt, List, [], ◌∷◌, ◌++◌, Option, Some, None, is_some, refl, sym, ap, subst, if◌then◌else◌, arith}
 use Rattle.std.proofs.lemmas.Bool.{and_parts, le-ltb, leb-true, lt-ltb, ltb-false, ltb-true}
 use Rattle.std.specs.Prelude.{not, option_and_then, option_map, option_to_list}
-use Rattle.std.specs.FinMap as map
 use Rattle.std.specs.List.{list_all}
 use Rattle.std.specs.Option.{option_map_or}
 use Rattle.bus_model.specs.declared.device.Dev.TheVariants.{A0}
 use Rattle.bus_model.specs.declared.script.Directive.{Directive}
 use Rattle.field_tables.specs.declared.field.Field.TheVariants as fields
 use Rattle.field_tables.specs.declared.table.cmis.CmisField.TheVariants as cmis_fields
-use Rattle.field_tables.specs.Halves.{is_absent}
 use Rattle.field_tables.specs.Readings.{number}
 use Rattle.field_tables.proofs.SameValues.{same_number}
 use Rattle.module_decoding.specs.ModuleFamilies.{detail_family_of, known}
@@ -21,14 +19,12 @@ use Rattle.observables.specs.Pages.{absent_page, first_absent, groups, has_obser
 use Rattle.observables.specs.Words.{byte_in, page_of}
 use Rattle.paged_memory.specs.declared.family.Family.{Family}
 use Rattle.paged_memory.specs.declared.family.Family.TheVariants.{Cmis}
-use Rattle.paged_memory.specs.declared.key.Key.{Key}
 use Rattle.paged_memory.specs.Families.{is_family, managed_by}
 use Rattle.paged_memory.specs.Images.{Memory}
 use Rattle.paged_memory.specs.Keys.{upper_key}
 use Rattle.paged_memory.specs.Windows.{Windowed}
 use Rattle.reports.proofs.BesideFetched.{detail_fault_same, first_agrees, offered_same}
 use Rattle.reports.proofs.SameFamilies.{LanesAgree, found_cmis, low_agrees}
-use Rattle.observable_reports.specs.Answered.{json_of}
 use Rattle.observable_reports.specs.ObservationJson.{observables_json}
 use Rattle.observable_reports.specs.ObservationText.{lines_with}
 use Rattle.observable_reports.specs.OwnHalves.{first_halves, has_no_more, own_halves}

@@ -1,6 +1,5 @@
 -- The statistics that are read of an image over a scripted bus are the image's.
-use Rattle.std.proofs.Common.{◌≡◌, ◌/◌, ◌%◌, ◌==◌, ◌&&◌, ℕ, Bool, true, false, List, Option, Some, None, is_some, inl, inr, refl, subst, sym, if◌then◌else◌}
-use Rattle.std.specs.FinMap as map
+use Rattle.std.proofs.Common.{◌≡◌, ◌&&◌, Bool, true, false, inl, inr, refl, subst, sym, if◌then◌else◌}
 use Rattle.bus_model.specs.ScriptedBus.{script_rules}
 use Rattle.observables.specs.Banks.{bank_count, statistics_banks}
 use Rattle.observables.specs.Pages.{has_observables, is_cmis}
@@ -8,7 +7,6 @@ use Rattle.paged_memory.specs.Images.{Memory}
 use Rattle.paged_memory.specs.ImageText.{IsImage}
 use Rattle.paged_memory.specs.Windows.{window_conduct}
 use Rattle.reports.proofs.FetchedLanes.{IsFetchedOf, fetched_is}
-use Rattle.vdm_reading.specs.VdmStages.{key_of}
 use Rattle.observable_reports.specs.FetchedObservables.{AreFirstRead}
 use Rattle.observable_reports.specs.SameStatistics.{StatisticsSame}
 use Rattle.observable_reports.proofs.BankReadings.{IsReadOf, SeenWindow, none_read, read_of}

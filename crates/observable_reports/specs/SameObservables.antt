@@ -1,6 +1,6 @@
 -- That what a module measures is told over a bus as it is told of the image.
 -- (docs/formats.md, "observables"; docs/observables.md, "Frozen statistics"; docs/bus.md, "Reading an image"; this project's own)
-use Rattle.std.specs.Prelude.{◌≡◌, ℕ, ◌<◌, List, [], ◌∷◌, Ok}
+use Rattle.std.specs.Prelude.{◌≡◌, ℕ, ◌<◌, List, [], Ok}
 use Rattle.bus_model.specs.declared.script.Directive.{Directive}
 use Rattle.bus_model.specs.Runs.{Seen}
 use Rattle.bus_model.specs.ScriptedBus.{script_rules}

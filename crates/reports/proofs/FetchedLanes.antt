@@ -1,5 +1,5 @@
 -- What is read over a scripted bus with a new window of an image behind, also of further banks, is the image's.
-use Rattle.std.proofs.Common.{◌≡◌, inl, inr, ℕ, zero, suc, ◌<◌, ◌≤◌, ◌%◌, ◌==◌, Bool, true, false, List, [], ◌∷◌, map, take, Option, Some, None, Ok, Err, is_some, nat_lt, reverse, refl, sym, ap, subst, ◌∙◌, arith}
+use Rattle.std.proofs.Common.{◌≡◌, inl, inr, ℕ, zero, suc, ◌<◌, ◌≤◌, ◌==◌, Bool, true, false, List, [], ◌∷◌, map, take, Option, Some, None, Ok, Err, is_some, nat_lt, reverse, refl, sym, ap, subst, ◌∙◌, arith}
 use Rattle.std.proofs.lemmas.Bool.{false≢true, lt-ltb, ltb-false, or_cases}
 use Rattle.std.specs.Prelude.{option_map, slice_index, unwrap_or}
 use Rattle.std.specs.FinMap as map

@@ -1,5 +1,5 @@
 -- Which pages are read for reports, and which of further banks.
-use Rattle.std.proofs.Common.{◌≡◌, inl, inr, ℕ, ◌<◌, ◌≤◌, ◌%◌, ◌==◌, Bool, true, false, not, List, [], ◌∷◌, Option, Some, None, is_some, nat_lt, refl, sym, ap, subst, if◌then◌else◌, arith}
+use Rattle.std.proofs.Common.{◌≡◌, inl, inr, ℕ, ◌<◌, ◌%◌, ◌==◌, Bool, true, false, not, List, [], ◌∷◌, Option, Some, None, is_some, nat_lt, refl, sym, ap, subst, if◌then◌else◌, arith}
 use Rattle.std.specs.FinMap as map
 use Rattle.std.proofs.lemmas.Bool.{and_parts, eq-eqb, ltb-true}
 use Rattle.std.specs.List.{AllByRecursion, list_all}
