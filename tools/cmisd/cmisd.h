@@ -5,9 +5,10 @@
 
 #include <poll.h>
 #include <pthread.h>
+#include <stddef.h>
 
 enum { NAME_SIZE = 32, TEXT_SIZE = 128, WORDS_SIZE = 512 };
-enum { LANES_PAGE = 0x11, MODULE_FLAGS = 32, LANE_FLAGS = 152, OUTPUTS = 2 };
+enum { ADVERTISED_PAGE = 0x01, LANES_PAGE = 0x11, MODULE_FLAGS = 32, LANE_FLAGS = 152, OUTPUTS = 2 };
 
 /* Of a module that is read again, and of another one that may have replaced it. */
 enum { MOST_HALVES = 2 * DOVECOUNTER_MOST_READ };
@@ -62,6 +63,11 @@ struct outputs {
     bool is_due, is_under_way, is_known;
 };
 
+/* What tells modules apart: all of a dovecounter_identity, and page 01h of one of CMIS. */
+struct known {
+    uint8_t identity[offsetof(struct dovecounter_identity, date) + 17], advertised[128];
+};
+
 struct configuration {
     struct entry *entries;
     size_t count;
@@ -87,6 +93,7 @@ struct port {
     unsigned operations, nacks; /* all transactions; all refused */
     struct dovecounter_half halves[MOST_HALVES];
     size_t half_count;
+    struct known known;           /* what was read last */
     int64_t read_at;              /* when one was read last as a whole */
     uint8_t page;                 /* that was read to be selected last */
     struct image image;           /* as its file has it; zeros if there is none */

@@ -79,7 +79,8 @@ void go_on_with_outputs(struct port *port) {
         take_outputs(port);
 }
 
+/* With the module's other memory, after which they are read. */
 void print_outputs(FILE *out, const struct port *port) {
-    for (size_t i = 0; i < OUTPUTS && port->outputs.is_known; i++)
-        print_lane_list(out, outputs[i].name, port->outputs.disabled[i]);
+    bool are_known = port->half_count > 0 && port->outputs.is_known;
+    for (size_t i = 0; i < OUTPUTS && are_known; i++) print_lane_list(out, outputs[i].name, port->outputs.disabled[i]);
 }

@@ -244,10 +244,10 @@ static void carry_out(struct port *port, const struct dovecounter_port_next *nex
     remember(port, next, outcome, bytes);
     must(dovecounter_port_take(&port->core, outcome, bytes, count, &port->entry.wanted, (uint64_t)now(), &led_to));
     port->is_rested = led_to.note >= DOVECOUNTER_PORT_CAME_UP || led_to.kind == DOVECOUNTER_PORT_FAILED;
-    port->outputs.is_due = port->outputs.is_due || may_have_other_outputs(port, &led_to);
     tell_flags(port);
     hear(port, &led_to);
-    if (led_to.kind == DOVECOUNTER_PORT_FAILED) forget(port);
+    port->outputs.is_due = port->outputs.is_due || may_have_other_outputs(port, &led_to);
+    if (led_to.kind == DOVECOUNTER_PORT_FAILED || led_to.note == DOVECOUNTER_PORT_WOKEN) forget(port);
     if (!is_of_module(port, &next->operation)) return;
     if (answered && port->entry.presence[0] == 0) port->looks_at = now() + SECOND;
     take_answer(port, answered, began);

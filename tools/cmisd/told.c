@@ -135,8 +135,18 @@ static bool has_image(const struct dovecounter_port_outcome *outcome) {
     return is_asleep || outcome->kind == DOVECOUNTER_PORT_LEAVES || outcome->note != DOVECOUNTER_PORT_QUIET;
 }
 
+/* What the module is known by, as it was read; zeros for what wasn't. */
+static void find_known(const struct port *port, struct known *known) {
+    struct dovecounter_identity identity;
+    const struct dovecounter_half *advertised = half_of(port, 1, ADVERTISED_PAGE);
+    memset(known, 0, sizeof *known);
+    if (dovecounter_identity(port->halves, port->half_count, &identity) == DOVECOUNTER_DONE)
+        memcpy(known->identity, &identity, sizeof known->identity);
+    if (advertised != NULL) memcpy(known->advertised, advertised->bytes, sizeof known->advertised);
+}
+
 /* What was only read of the module before goes: it may have been exchanged since. */
-static void forget_former(struct port *port) {
+static void keep_anew(struct port *port) {
     size_t count = 0;
     for (size_t i = 0; i < port->half_count; i++)
         if (port->anew >> i & 1) port->halves[count++] = port->halves[i];
@@ -144,11 +154,23 @@ static void forget_former(struct port *port) {
     port->banks.read_count = 0;
 }
 
+/* All that is the former module's goes, if another one was read. Answers whether one was. */
+static bool forget_former(struct port *port) {
+    struct known known;
+    if (port->is_read_again) keep_anew(port);
+    find_known(port, &known);
+    if (memcmp(&known, &port->known, sizeof known) == 0) return false;
+    port->known = known;
+    port->since = now();
+    forget_module(port);
+    return true;
+}
+
 /* A module at which something is done, or has failed, is no longer only read again. The image waits for lanes above 8 that are read next. */
 void hear(struct port *port, const struct dovecounter_port_outcome *outcome) {
     char words[WORDS_SIZE];
     bool has_failed = outcome->kind == DOVECOUNTER_PORT_FAILED;
-    if (has_image(outcome) && port->is_read_again) forget_former(port);
+    bool is_other = has_image(outcome) && forget_former(port);
     expect_banks(port, outcome);
     if (has_image(outcome) && !port->banks.is_due) put_image(port);
     if (has_failed || outcome->note != DOVECOUNTER_PORT_QUIET) port->is_read_again = false;
@@ -156,7 +178,7 @@ void hear(struct port *port, const struct dovecounter_port_outcome *outcome) {
     if (outcome->kind == DOVECOUNTER_PORT_WENT) tell_note(port, outcome->note);
     if (has_failed) tell_failure(port, outcome);
     if (outcome->kind != DOVECOUNTER_PORT_LEAVES) return;
-    bool is_told = port->is_read_again && memcmp(&port->left, &outcome->left, sizeof port->left) == 0;
+    bool is_told = port->is_read_again && !is_other && memcmp(&port->left, &outcome->left, sizeof port->left) == 0;
     port->is_read_again = false;
     port->left = outcome->left;
     if (is_told) return put_status(port);
