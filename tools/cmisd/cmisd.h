@@ -153,6 +153,7 @@ void set_pin(struct port *port, const char *pin, bool on);
 bool is_pausing(struct port *port, const struct dovecounter_operation *operation);
 uint8_t make_aside(struct port *port, const struct dovecounter_operation *operation, uint8_t bytes[128]);
 void forget_module(struct port *port);
+void begin_round(struct port *port);
 void list_anew(struct port *port);
 void begin_listing(struct port *port);
 void go_on_listing(struct port *port);

@@ -43,13 +43,13 @@ static void tell_end(struct port *port, const struct dovecounter_vdm_end *end) {
     tell(port, "listed", number == 0 ? found : words);
 }
 
-/* Of banks that are no longer there nothing is known. */
+/* Of banks that are no longer there nothing is known, nor told. */
 static void end_round(struct port *port) {
     struct listing *it = &port->listing;
     it->next = 0;
     it->due = now() + (int64_t)port->entry.vdm * 1000;
     for (uint8_t bank = 1; bank < BANKS; bank++)
-        if (bank_from(port, bank) != bank) it->banks[bank].read_count = 0;
+        if (bank_from(port, bank) != bank) memset(&it->banks[bank], 0, sizeof it->banks[bank]);
     if (port->half_count > 0 && !port->is_retired) put_image(port);
 }
 
@@ -61,14 +61,14 @@ static void keep(struct listing *it, bool is_none) {
     for (uint8_t each = 0; is_none && each < BANKS; each++) it->banks[each].read_count = 0;
 }
 
-/* The round goes on with the next bank, unless it was to begin anew meanwhile. */
+/* The round goes on with the next bank, unless it was to begin anew meanwhile: then what was read isn't kept. */
 static void finish(struct port *port) {
     struct listing *it = &port->listing;
     struct dovecounter_vdm_end end;
     it->is_under_way = false;
     it->due = 0;
     if (dovecounter_vdm_end(&it->reading, it->halves, &end) != DOVECOUNTER_DONE) return end_round(port);
-    keep(it, is_unsupported(&end));
+    if (it->next != 0) keep(it, is_unsupported(&end));
     if (it->next != 0 && (is_unsupported(&end) || bank_from(port, it->next) == BANKS)) end_round(port);
     if (!port->is_retired) tell_end(port, &end);
 }
@@ -79,12 +79,15 @@ void forget_module(struct port *port) {
     memset(&port->outputs, 0, sizeof port->outputs);
 }
 
+/* A round that is interrupted begins anew, so that what is read first isn't much older than the rest. */
+void begin_round(struct port *port) { port->listing.next = 0; }
+
 /* What it lists isn't known until it is read again. */
 void list_anew(struct port *port) {
     struct listing *it = &port->listing;
     for (uint8_t bank = 0; bank < BANKS; bank++) it->banks[bank].read_count = 0;
-    it->next = 0;
     it->due = 0;
+    begin_round(port);
 }
 
 /* Whether a reading may begin, since no conversation of the library is under way. */

@@ -64,6 +64,7 @@ static void forget(struct port *port) {
     port->is_read_again = false;
     port->half_count = 0;
     forget_banks(port);
+    begin_round(port);
 }
 
 /* Others have had its bus, and may have changed or exchanged the module. What comes of that is told if it is new. */

@@ -170,10 +170,12 @@ static bool forget_former(struct port *port) {
 void hear(struct port *port, const struct dovecounter_port_outcome *outcome) {
     char words[WORDS_SIZE];
     bool has_failed = outcome->kind == DOVECOUNTER_PORT_FAILED;
+    bool is_used = has_failed || outcome->note != DOVECOUNTER_PORT_QUIET;
     bool is_other = has_image(outcome) && forget_former(port);
     expect_banks(port, outcome);
     if (has_image(outcome) && !port->banks.is_due) put_image(port);
-    if (has_failed || outcome->note != DOVECOUNTER_PORT_QUIET) port->is_read_again = false;
+    if (is_used && port->is_read_again) begin_round(port);
+    if (is_used) port->is_read_again = false;
     if (outcome->note == DOVECOUNTER_PORT_IDENTIFIED || outcome->note == DOVECOUNTER_PORT_CAME_UP) find_plan(port);
     if (outcome->kind == DOVECOUNTER_PORT_WENT) tell_note(port, outcome->note);
     if (has_failed) tell_failure(port, outcome);
