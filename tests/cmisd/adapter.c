@@ -18,7 +18,7 @@
 #include <time.h>
 #include <unistd.h>
 
-enum { BANKS = 4, GROUPS_PAGE = 0x2F, LANE_FLAGS = 19 };
+enum { GROUPS_PAGE = 0x2F, LANE_FLAGS = 19 };
 enum { SIZE = 1 << 18, LOW_POWER = 1, READY = 3, ACTIVATED = 4, INITIALIZED = 7, MOST_TICKS = 2000 };
 
 /* The numbers come first, in the order that `run` knows. */
@@ -49,14 +49,14 @@ struct adapter {
     uint32_t silent;                              /* in how many milliseconds at most four in a row were refused */
     uint32_t steps, waits; /* asked for: no more transactions than so many, if it isn't 0; whether one waits for that */
     uint32_t raises_further; /* asked for: in so many of 1000 transactions a flag of the lanes above 8 is raised */
-    uint32_t further_flags[BANKS - 1][152]; /* how often each was answered as raised */
+    uint32_t further_flags[FURTHER_BANKS][152]; /* how often each was answered as raised */
     /* not the test's */
     uint32_t judged[8]; /* what was wanted as a transaction began */
     uint64_t random;
     int64_t ticked, silent_since;
     uint32_t refused_in_a_row;
     uint8_t states[8], statuses[8];
-    uint8_t further_raised[BANKS - 1][LANE_FLAGS];
+    uint8_t further_raised[FURTHER_BANKS][LANE_FLAGS];
     struct simulated simulated;
     struct two_banks banks;
     struct statistics statistics[BANKS];
@@ -130,7 +130,7 @@ static void let_time_pass(struct adapter *it) {
     if (below(it, 1000) < it->raises)
         it->simulated.module.lane_flags[1 + below(it, 18)] |= (uint8_t)(1U << below(it, 8));
     if (below(it, 1000) < it->raises_further)
-        it->further_raised[below(it, BANKS - 1)][below(it, LANE_FLAGS)] |= (uint8_t)(1U << below(it, 8));
+        it->further_raised[below(it, FURTHER_BANKS)][below(it, LANE_FLAGS)] |= (uint8_t)(1U << below(it, 8));
 }
 
 /* ---- what is judged */

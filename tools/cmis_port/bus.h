@@ -14,6 +14,12 @@ struct directive {
 
 enum { MOST_SIMULATED = 64 }; /* halves */
 
+/* The banks whose lanes are read, bank 0 and those above it, and the most halves of what a module lists in them (VDM). */
+enum { FURTHER_BANKS = 3, BANKS = 1 + FURTHER_BANKS, MOST_LISTED = BANKS * DOVECOUNTER_MOST_VDM };
+
+/* Milliseconds after a fruitless operation of a conversation, of which 101 may be so until the statistics of a bank are frozen. */
+enum { PAUSE = 20 };
+
 struct simulated {
     struct dovecounter_half halves[MOST_SIMULATED];
     size_t count;

@@ -4,9 +4,6 @@
 #include <err.h>
 #include <string.h>
 
-enum {
-    PAUSE = 20
-}; /* milliseconds after a fruitless operation, of which 101 may be so until the statistics are frozen */
 enum { ADVERTISED = 0x01, LANES = 0x11, GROUPS = 0x2F };
 
 /* What is said of a bank's statistics: the words before its number, which bank 0 goes without, and after it. */

@@ -6,8 +6,8 @@
 #include <signal.h>
 
 enum status { DONE = 0, REFUSED = 1, COMMAND_LINE = 2, NOT_PROVISIONED = 3, IN_USE = 4, NOT_WRITTEN = 6 };
-enum { SETTINGS = 8 };                            /* of a lane's signal */
-enum { MOST_HALVES = DOVECOUNTER_MOST_READ + 3 }; /* with page 11h of three further banks */
+enum { SETTINGS = 8 };                                        /* of a lane's signal */
+enum { MOST_HALVES = DOVECOUNTER_MOST_READ + FURTHER_BANKS }; /* with page 11h of these */
 enum work { PROVISION, ACTIVATE, WAKE, SLEEP };
 
 /* The words of flags about a link, or NULL. */
@@ -152,7 +152,6 @@ void say_state(FILE *out, const char *before, unsigned state, const char *after)
 void say_hindrance(FILE *out, const char *before, const struct dovecounter_effect *effect);
 
 /* listed.c */
-enum { BANKS = 4, MOST_LISTED = BANKS * DOVECOUNTER_MOST_VDM };
 /* What a module lists itself (VDM) in a bank, as it was read. */
 struct listed_bank {
     struct dovecounter_half halves[DOVECOUNTER_MOST_VDM + 1]; /* the lower one after those that were read */

@@ -5,7 +5,7 @@
 
 #include <string.h>
 
-enum { MOST_FETCHED = 128, PAUSE = 20, LIMIT = 200 }; /* bytes; milliseconds */
+enum { MOST_FETCHED = 128 }; /* bytes */
 
 /* What is requested for them; 0 of a module that has none, as it was read. */
 static uint8_t requested_of(const struct port *port) {

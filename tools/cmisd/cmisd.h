@@ -13,7 +13,8 @@ enum { ADVERTISED_PAGE = 0x01, LANES_PAGE = 0x11, MODULE_FLAGS = 32, LANE_FLAGS 
 /* Of a module that is read again, and of another one that may have replaced it. */
 enum { MOST_HALVES = 2 * DOVECOUNTER_MOST_READ };
 
-enum { FURTHER_BANKS = 3, BANKS = 1 + FURTHER_BANKS, MOST_LISTED = BANKS * DOVECOUNTER_MOST_VDM };
+/* Milliseconds for which an operation of a reading of a page may be fruitless. */
+enum { LIMIT = 200 };
 
 /* A section of the configuration. */
 struct entry {

@@ -5,10 +5,6 @@
 
 #include <string.h>
 
-enum {
-    PAUSE = 20
-}; /* milliseconds after a fruitless operation, of which 101 may be so until the statistics are frozen */
-
 static bool is_unsupported(const struct dovecounter_vdm_end *end) {
     return end->statistics == DOVECOUNTER_VDM_UNSUPPORTED;
 }

@@ -5,8 +5,6 @@
 
 #include <string.h>
 
-enum { PAUSE = 20, LIMIT = 200 }; /* milliseconds */
-
 static const struct {
     const char *name;
     uint8_t control;
