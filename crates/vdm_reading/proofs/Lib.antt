@@ -8,6 +8,7 @@ pub mod StoreLaws
 pub mod SetLaws
 pub mod LostLaws
 pub mod GroupLaws
+pub mod BankLaws
 pub mod WindowLaws
 pub mod QuietLaws
 mod NumberedPages

@@ -44,9 +44,12 @@ is_equal Less e = cc
 is_equal Equal e = refl
 is_equal Greater e = cc
 
+pub same_key : (key other : Key) → eq_by_cmp key_cmp key other ≡ true → key ≡ other
+same_key key other e = keys_apart key other (is_equal (key_cmp key other) e)
+
 pub same_page : (page other : ℕ) → eq_by_cmp key_cmp (key_of other) (key_of page) ≡ true → other ≡ page
 same_page page other e =
-    let same = keys_apart (key_of other) (key_of page) (is_equal (key_cmp (key_of other) (key_of page)) e) in
+    let same = same_key (key_of other) (key_of page) e in
     let bank : other / 256 ≡ page / 256 = ap (λ (key : Key). key.bank) same in
     let number : other % 256 ≡ page % 256 = ap (λ (key : Key). key.page) same in
     omega (arith, bank, number)

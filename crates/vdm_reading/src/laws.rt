@@ -13,6 +13,7 @@ ghost use Rattle.paged_memory.specs.PageAddressing.{EachStep};
 ghost use Rattle.conversations.specs.Events.{Events, steps_of};
 ghost use Rattle.vdm_reading.specs.declared.reading.VdmReading.{VdmReading};
 ghost use Rattle.vdm_reading.specs.declared.reading.VdmStage.TheVariants.{Over};
+ghost use Rattle.vdm_reading.specs.BankPages.{AreOfBank};
 ghost use Rattle.vdm_reading.specs.FrozenSteps as steps;
 ghost use Rattle.vdm_reading.specs.VdmAccounts.{IsAmong, IsLostAlone, IsTold, IsWhole, is_frozen};
 ghost use Rattle.vdm_reading.specs.VdmStages.{key_of, may_be_frozen, most_polls, most_retries, most_transactions};
@@ -43,6 +44,11 @@ pub fn what_is_called_frozen_belongs_together()
         map.get reading.image (key_of page) ≡ Some bytes → steps.WasRead page bytes (steps_of events) }
     ensures frozen { (events : Events) (reading : VdmReading) → IsTold events reading →
         steps.WereSet reading.request.bank (is_frozen reading.statistics) reading.image (steps_of events) }
+{}
+
+/// However far a reading has come: each half of its image is page 01h, or page 2Fh or one of 20h to 2Ch of its own bank.
+pub fn only_pages_of_the_bank_are_kept()
+    ensures { (events : Events) (reading : VdmReading) → IsTold events reading → AreOfBank reading.request.bank reading.image }
 {}
 
 /// At the end each page that is advertised was read, or was refused on its own account, by more transactions than may be fruitless.
