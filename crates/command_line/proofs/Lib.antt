@@ -16,6 +16,7 @@ mod ProcedureAnswers
 mod SameOverBus
 mod FollowedAnswers
 mod SameDetails
+mod SameObservables
 mod SameMetrics
 mod ReportAnswers
 mod TextBehind

@@ -1,4 +1,5 @@
--- That a report with `--bus` is the one without it, and so are details and metrics, but for statistics (VDM) that their bank doesn't advertise.
+-- That a report with `--bus` is the one without it, and so are details, observables and metrics, but for statistics (VDM) that their bank doesn't
+-- advertise.
 -- (docs/formats.md, "Reports over a bus"; this project's own)
 use Rattle.std.specs.Prelude.{◌≡◌, ◌≢◌, ◌≤◌, ◌∷◌, ◌++◌, [], ℕ, Bool, true, false, List, Option, Some, option_map, Ok, Err}
 use Rattle.std.specs.FinMap as map

@@ -6,7 +6,7 @@ ghost use Rattle.command_line.specs.Limits.{input_limit};
 ghost use Rattle.command_line.specs.Parts.{parts_of};
 ghost use Rattle.command_line.specs.PlanThenCheck.{input_with, plan_request, IsEnded, IsGoodBehind, IsGoodBehindInput, IsGoodInPlace};
 ghost use Rattle.command_line.specs.SameOverBus.{AreReportedAlike, AreReportedBefore, IsReportedAlike, details_with, metrics_with, over_bus};
-ghost use Rattle.command_line.specs.declared.choice.commands.CommandName.TheVariants.{Details, Metrics, Report};
+ghost use Rattle.command_line.specs.declared.choice.commands.CommandName.TheVariants.{Details, Metrics, Observables, Report};
 ghost use Rattle.module_metrics.specs.VdmMetrics.{vdm_seen};
 ghost use Rattle.observable_reports.specs.ListedInstances.{all_listed};
 ghost use Rattle.command_line.specs.declared.choice.commands.ReportName.{ReportName};
@@ -30,13 +30,14 @@ pub fn what_is_planned_is_good()
 {}
 
 /// What a report prints with `--bus`, and how it ends, is what it prints without and how it ends then, with `--json` and without
-/// it, in colors or not, unless the module was not read whole, or an allocation or a read was refused. So it is with details, and with metrics, whatever
-/// labels they have, and whether all flags are reported or those that are raised, if the image has no other statistics (VDM) than those that its banks
-/// advertise. If it has others, details and metrics differ in them alone.
+/// it, in colors or not, unless the module was not read whole, or an allocation or a read was refused. So it is with details, with observables, and with
+/// metrics, whatever labels they have, and whether all flags are reported or those that are raised, if the image has no other statistics (VDM) than those
+/// that its banks advertise. If it has others, details and metrics differ in them alone.
 pub fn a_bus_changes_no_report()
     ensures reports { (report : ReportName) (options : Options) → IsReportedAlike (over_bus (Report report) options) }
     ensures details { (options : Options) → AreReportedAlike (over_bus Details options) }
     ensures other_details { (options : Options) → AreReportedBefore all_listed (details_with options) (over_bus Details options) }
+    ensures observables { (options : Options) → AreReportedAlike (over_bus Observables options) }
     ensures metrics { (options : Options) → AreReportedAlike (over_bus Metrics options) }
     ensures other_metrics { (options : Options) → AreReportedBefore vdm_seen (metrics_with options.labels) (over_bus Metrics options) }
 {}
