@@ -225,6 +225,25 @@ def test_steps_are_told_once() -> None:
     assert repr(update) == "<FirmwareUpdate after 1 operations>"
 
 
+class Long(bytes):
+    """A file that says to be the longest there may be."""
+
+    def __len__(self) -> int:
+        return 2**32 - 1
+
+
+class TooLong(bytes):
+    def __len__(self) -> int:
+        return 2**32
+
+
+def test_a_file_has_a_byte_to_4_gib() -> None:
+    assert FirmwareUpdate(b"1").known == FirmwareKnown.UNTOUCHED
+    assert repr(FirmwareUpdate(Long())) == "<FirmwareUpdate after 0 operations>"
+    with pytest.raises(ValueError, match="^the size of the file is 4294967296, and not from 1 to"):
+        FirmwareUpdate(TooLong())
+
+
 def test_what_is_given_is_looked_at() -> None:
     with pytest.raises(ValueError):
         FirmwareUpdate(b"")

@@ -157,3 +157,17 @@ def test_what_is_given_is_looked_at() -> None:
                 media_paths=paths,
                 most_stores=stores,
             )
+
+
+def test_the_greatest_numbers_are_taken() -> None:
+    lanes, paths = Lanes(0, up=0xFF), [0xFF] * 8
+    change = LaneChange(
+        LaneControl.OUTPUT_DISABLE_RX, 255, True, 255, media_paths=paths, most_stores=255
+    )
+    assert run(change, lanes) == LaneEnd(LaneOutcome.CHANGED, 0xFF, 0, 1)
+
+
+def test_each_lane_that_is_up_is_named() -> None:
+    lanes = Lanes(up=0x81)
+    with pytest.raises(LaneFault, match="^not permitted: 1, 8 up$"):
+        run(LaneChange(LaneControl.OUTPUT_DISABLE_RX, 0xFF, True), lanes)

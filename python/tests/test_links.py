@@ -12,6 +12,7 @@ from dovecounter import (
     Amount,
     Image,
     LinkChange,
+    LinkEnd,
     LinkFault,
     LinkOutcome,
     LinkTest,
@@ -285,6 +286,16 @@ def test_a_control_is_stored_again(tries: int) -> None:
 def test_numbers_are_looked_at(wrong: Dict[str, Optional[object]]) -> None:
     with pytest.raises(ValueError):
         looped(**wrong)
+
+
+def test_the_greatest_numbers_are_taken() -> None:
+    greatest = looped(period=2**32 - 1, rounds=255, gate=7, permitted=255, tries=255)
+    assert isinstance(next(greatest), Operation)
+
+
+def test_each_control_that_stays_on_is_named() -> None:
+    on = tuple(LinkChange(control, 1, 0) for control in (180, 152))
+    assert str(LinkFault(LinkEnd(LinkOutcome.TESTED, 0, on))) == "tested: byte 180, 152 on"
 
 
 def test_bytes_of_lanes_are_looked_at() -> None:

@@ -76,6 +76,7 @@ def test_numbers_out_of_range_are_refused_and_not_cut() -> None:
         lambda: plan(DR4, {-1: 1}),
         lambda: plan(DR4, {0x11: 2**32}),
         lambda: plan(DR4, {0x11: -1}),
+        lambda: plan(DR4, WEIGHTS, [DataPath(256, 1, 1)]),
         lambda: plan(DR4, WEIGHTS, [DataPath(258, 1, 1)]),
         lambda: plan(DR4, WEIGHTS, [DataPath(2, 257, 1)]),
         lambda: plan(DR4, WEIGHTS, [DataPath(2, 1, -255)]),
@@ -101,6 +102,7 @@ def test_numbers_out_of_range_are_refused_and_not_cut() -> None:
         lambda: Waking(Patience(pause=2**32)),
         lambda: Waking(Patience(limit=-1)),
         lambda: Waking(Patience(limit=2**32)),
+        lambda: Reading(256),
         lambda: Reading(256 + 8),
         lambda: Provisioning(changed(outside=256)),
         lambda: Provisioning(changed(control=bytes(9))),
@@ -151,6 +153,25 @@ def test_numbers_out_of_range_are_refused_and_not_cut() -> None:
         lambda: DR4.applications(1),  # type: ignore[arg-type]
     ):
         pytest.raises(TypeError, call)
+
+
+def test_the_greatest_numbers_are_taken() -> None:
+    module, best = SimulatedModule(DR4, Delays(*[1000] * 7)), plan(DR4, WEIGHTS)
+    assert module.store(0xA0, 126, b"\0\x10") and module.store(0xA0, 248, bytes(8))
+    upper, last = module.fetch(0xA0, 128, 128), module.fetch(0xA0, 255, 1)
+    assert upper is not None and upper[-8:] == bytes(8) and last == b"\0"
+    assert fault_of(SimulatedModule, DR4, Delays(init=1001)) == "SM3"
+    assert fault_of(plan, DR4, WEIGHTS, [DataPath(255, 255, 255)]) == "KP3 1"
+    assert plan(DR4, {0x11: 2**32 - 1}, stay=2**32 - 1).weight == 2**32 - 1
+    for procedure in (
+        Reading(255, Patience(2**32 - 1, 2**32 - 1)),
+        VdmReading(bank=255),
+        Provisioning(dataclasses.replace(best, outside=255)),
+        Activation(dataclasses.replace(best, lanes=255)),
+    ):
+        assert isinstance(next(procedure), Operation)
+    effect = judge(DR4, best, may_take_down=255, may_bring_up=255)
+    assert effect == judge(DR4, best)
 
 
 def test_values_of_the_wrong_type_are_refused_where_they_come_in() -> None:
@@ -316,7 +337,8 @@ def test_a_plan_s_members_are_looked_at() -> None:
     pytest.raises(ValueError, lambda: judge(DR4, best, may_take_down=256))
     pytest.raises(ValueError, lambda: judge(DR4, best, may_bring_up=-1))
     for choice in ("activates", "wakes", "spares", "may_have_no_path"):
-        pytest.raises(TypeError, lambda: judge(DR4, best, **{choice: 1}))  # type: ignore[arg-type]
+        with pytest.raises(TypeError, match=f"^{choice} is 1, and neither"):
+            judge(DR4, best, **{choice: 1})  # type: ignore[arg-type]
     pytest.raises(TypeError, lambda: judge(best, best))  # type: ignore[arg-type]
     pytest.raises(TypeError, lambda: judge(DR4, DR4))  # type: ignore[arg-type]
     pytest.raises(TypeError, lambda: Activation(changed(control=[0] * 8)))
@@ -326,6 +348,8 @@ def test_a_plan_s_members_are_looked_at() -> None:
 def test_it_is_said_what_is_wrong() -> None:
     with pytest.raises(ValueError, match="^2 bytes from 127 on are not in lower A0$"):
         DR4.changed(LOWER, 127, b"12")
+    with pytest.raises(ValueError, match="^lower A0 are 127 bytes, and not 128$"):
+        Image({LOWER: bytes(127)})
     fault = FirmwareFault(FirmwareFailure.REFUSED, 5, None)
     assert str(fault) == "refused with status 05h"
 

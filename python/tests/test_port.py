@@ -219,6 +219,14 @@ def test_lanes_of_a_further_bank_are_counted() -> None:
     assert other.flags == () and other.lanes == further.lanes and len(further.flags) == 2
 
 
+def test_the_last_bank_has_lanes_25_to_32() -> None:
+    further = FurtherLanes(3)
+    further.count(lanes_page(statuses=b"\0\0\0\x10"), 7)
+    assert [lane.lane for lane in further.lanes] == list(range(25, 33))
+    assert [lane.status_since for lane in further.lanes] == [None] * 7 + [7]
+    assert [lane.state_since for lane in further.lanes] == [None] * 8
+
+
 def test_a_port_and_a_further_bank_count_alike() -> None:
     machine, further = Flagged(SimulatedModule(DR4)), FurtherLanes(1)
     machine.port.plug(0)
@@ -463,6 +471,7 @@ def test_what_is_said_to_a_port_is_not_cut() -> None:
         lambda: port.plug(most + 1),
         lambda: port.acknowledge(most + 1),
         lambda: port.hear(True, 0, most + 1),
+        lambda: port.hear(True, most + 1, 0),
     ):
         pytest.raises(ValueError, call)
     for wrong in (
@@ -501,6 +510,18 @@ def test_why_a_module_is_left_alone() -> None:
         assert isinstance(step, Operation)
         outcome = machine.port.take(machine.module.transact(step), Wanted({}), machine.now)
     assert machine.port.left == outcome.left == "no plan"
+
+
+def test_a_module_that_was_left_alone_is_judged_anew_when_somebody_asks() -> None:
+    machine = Machine(SimulatedModule(DR4))
+    machine.port.plug(0)
+    machine.wanted = Wanted({})
+    assert machine.drive(lambda outcome: outcome.kind is Kind.LEAVES) is not None
+    machine.wanted = WANTED
+    assert machine.port.next(machine.now + 10**6) is Idle.NOTHING
+    machine.port.reconsider()
+    machine.comes_up()
+    assert machine.port.left is None
 
 
 class Served(Machine):
@@ -735,3 +756,14 @@ def test_staying_may_weigh_as_much_as_a_weight() -> None:
     for stay, why in ((2**32 - 1, "no operation that is outstanding"), (2**32, "of staying")):
         with pytest.raises(ValueError, match=why):
             Port().take(False, Wanted({}, stay=stay), 0)
+
+
+def test_the_greatest_numbers_are_taken() -> None:
+    port = Port(Times(*[2**32 - 1] * 5))
+    port.acknowledge(2**64 - 1)
+    port.plug(2**64 - 1)
+    port.request(PortRequest.PROVISION, 255)
+    assert port.requested == (PortRequest.PROVISION, 255)
+    wanted = Wanted({}, most_power=255, may_take_down=255)
+    with pytest.raises(ValueError, match="no operation that is outstanding"):
+        port.take(False, wanted, 2**64 - 1)

@@ -160,6 +160,37 @@ def test_numbers_and_types_are_looked_at() -> None:
             SettingsChange(1, TARGET, SignalLimits((1,), *numbers))
 
 
+@pytest.mark.parametrize(
+    "members",
+    [
+        *({name: 256} for name in ("recall", "fixed_input", "pre_cursor", "post_cursor")),
+        *({"amplitude": number} for number in (-1, 256)),
+    ],
+    ids=str,
+)
+def test_a_setting_is_not_cut(members: Dict[str, int]) -> None:
+    with pytest.raises(ValueError, match=f"^{next(iter(members))} is "):
+        SettingsChange(1, dataclasses.replace(TARGET, **members), LIMITS, permitted=1)
+
+
+@pytest.mark.parametrize("name", ["adaptive", "recover_tx", "recover_rx"])
+def test_a_choice_of_a_setting_is_no_number(name: str) -> None:
+    target = dataclasses.replace(TARGET, **{name: 1})
+    with pytest.raises(TypeError, match=f"^{name} is 1, and neither True nor False$"):
+        SettingsChange(1, target, LIMITS, permitted=1)
+
+
+def test_the_greatest_limits_and_tries_are_taken() -> None:
+    target, limits = LaneSignal(fixed_input=15, pre_cursor=15, post_cursor=15), (15, 15, 15)
+    SettingsChange(1, target, SignalLimits((0, 0, 3), *limits), permitted=1, tries=255)
+    for what, permitted, tries in (("tries", 1, 256), ("tries", 1, -1), ("permitted", 256, 1)):
+        with pytest.raises(ValueError, match=f"^the {what}"):
+            SettingsChange(1, TARGET, LIMITS, permitted, tries=tries)
+    for amplitude in (-1, 4):
+        with pytest.raises(ValueError, match=f"^an amplitude is {amplitude}, and not from 0 to 3"):
+            SettingsChange(1, TARGET, SignalLimits((amplitude,), 0, 0, 0))
+
+
 # ---- with provisioning
 
 PLAN = Plan(1, (), bytes.fromhex("20 20 24 24 00 00 00 00"), 0x0F, 0xFF)
@@ -220,6 +251,8 @@ def test_provisioning_with_settings_has_faults() -> None:
         provision(module)
     with pytest.raises(ValueError, match="amplitude"):
         ExplicitProvisioning(PLAN, 0x02, LaneSignal(), LIMITS)
+    with pytest.raises(ValueError, match="^the byte of lanes is 256"):
+        ExplicitProvisioning(dataclasses.replace(PLAN, outside=256), 0x02, TARGET, LIMITS)
     with pytest.raises(TypeError):
         ExplicitProvisioning("no plan", 0x02, TARGET, LIMITS)  # type: ignore[arg-type]
 
@@ -387,6 +420,27 @@ def test_ports_may_have_spaces_between_them(tmp_path: pathlib.Path) -> None:
     assert [port for port, lanes in enumerate(found) if lanes] == [1, 3, 4, 9]
 
 
+@pytest.mark.parametrize(
+    "name, wanted",
+    [
+        ("AdaptiveInputEqEnableTx", LaneSignal(adaptive=True)),
+        ("AdaptiveInputEqRecallTx", LaneSignal(recall=1)),
+        ("FixedInputEqTargetTx", LaneSignal(fixed_input=1)),
+        ("CDREnableTx", LaneSignal(recover_tx=True)),
+        ("CDREnableRx", LaneSignal(recover_rx=True)),
+        ("OutputEqPreCursorTargetRx", LaneSignal(pre_cursor=1)),
+        ("OutputEqPostCursorTargetRx", LaneSignal(post_cursor=1)),
+        ("OutputAmplitudeTargetRx", LaneSignal(amplitude=1)),
+    ],
+)
+def test_each_name_of_a_file_is_a_setting(
+    tmp_path: pathlib.Path, name: str, wanted: LaneSignal
+) -> None:
+    file = {"GLOBAL_MEDIA_SETTINGS": {"0": {"Default": {name: {"lane2": 1, f"{name}8": "0x1"}}}}}
+    found = written(tmp_path, file).of(of("GOOD", "PART1"), "100G", 0)
+    assert found == tuple(wanted if lane in (2, 7) else LaneSignal() for lane in range(8))
+
+
 def test_what_a_file_leaves_open_stays(tmp_path: pathlib.Path) -> None:
     found = written(tmp_path, FILE).of(of("GOOD", "PART1"), "100G", 4, (TARGET,) * 8)
     assert found == (TARGET,) * 8
@@ -398,6 +452,7 @@ def test_what_a_file_leaves_open_stays(tmp_path: pathlib.Path) -> None:
     "settings, error",
     [
         ({"OutputEqPreCursorTargetRx": {"lane8": 1}}, "'lane8' is no lane"),
+        ({"OutputEqPreCursorTargetRx": {"line0": 1}}, "'line0' is no lane of OutputEqPre"),
         ({"OutputEqPreCursorTargetRx": {"OutputEqPreCursorTargetRx0": 1}}, "is no lane"),
         ({"OutputEqPreCursorTargetRx": {"lane0": "high"}}, "invalid literal"),
         ({"OutputEqPreCursorTargetRx": {"lane0": 256}}, "not from 0 to 255"),

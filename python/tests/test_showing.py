@@ -1,6 +1,7 @@
 """How records are shown, values in units, and the fixtures for pytest."""
 from __future__ import annotations
 
+import dataclasses
 import json
 import os
 import re
@@ -103,6 +104,8 @@ def test_a_notebook_shows_a_table() -> None:
     advertised = cells_of(DR4.advertisement()._repr_html_())
     assert advertised["applications 2, number"] == "2"
     assert advertised["unsupported"] == str(DR4.advertisement().unsupported)
+    alone = dataclasses.replace(DR4.advertisement(), applications=DR4.applications()[:1])
+    assert cells_of(alone._repr_html_())["applications 1, number"] == "1"
     flags = cells_of(DR8.flags()._repr_html_())
     assert not [name for name in flags if "None" in name]
     assert (flags["vcc, low alarm"], flags["tx los"], cells["is flat"]) == ("0", "0", "False")

@@ -193,6 +193,9 @@ def test_what_is_not_whole_is_a_fault() -> None:
         reading.run(module.transact, lambda seconds: None)
     bare = IMAGE.without(*(page(number) for number in (0x20, 0x24, 0x28, 0x2C)))
     assert reading.observables(IMAGE) == reading.observables(bare)
+    del module.pages[0, 0x2C]
+    with pytest.raises(VdmFault, match=", without 28h, 2Ch$"):
+        run(module)
     module = Module()
     module.takes = False
     with pytest.raises(VdmFault, match="^statistics not taken, release may be frozen$"):
