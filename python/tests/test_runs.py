@@ -610,7 +610,8 @@ def test_each_reply_is_looked_at_and_an_operation_without_one_is_given_again() -
     pytest.raises(ValueError, provisioning.reply, b"12")
     module, provisioning = SimulatedModule(DR4), Provisioning(plan(DR4, WEIGHTS))
     provisioning.run(module.transact, lambda _: module.tick())
-    pytest.raises(ValueError, provisioning.reply, True)
+    with pytest.raises(ValueError, match="^it has ended, and no operation is to be made$"):
+        provisioning.reply(True)
     pytest.raises(ValueError, provisioning.waited)
 
 

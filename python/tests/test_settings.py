@@ -473,7 +473,7 @@ def test_what_is_no_setting_is_refused(
 def test_what_is_no_file_of_settings_is_refused(tmp_path: pathlib.Path) -> None:
     with pytest.raises(ValueError, match="no object"):
         written(tmp_path, [])
-    with pytest.raises(ValueError, match="'all' is no port"):
+    with pytest.raises(ValueError, match="^'all' is no port, and no range of ports$"):
         written(tmp_path, {"GLOBAL_MEDIA_SETTINGS": {"all": {}}}).of(of("GOOD", "PART1"), "100G", 0)
     for found in ([], {"0": []}, {"0": {"100G_SPEED": []}}):
         with pytest.raises(ValueError, match="no mapping"):

@@ -141,6 +141,8 @@ def test_a_plan_is_a_picture() -> None:
     assert shapes["app 2, media 4"] == (384, 0, 128)
     whole = shapes_of(plan(DR4, {0x11: 400})._repr_svg_())
     assert whole["app 1, media 1"] == (0, 0, 512) and len(whole) == 9
+    middles = {text.text: (text.get("x"), text.get("y")) for text in frame if text.text}
+    assert (middles["app 2, media 4"], middles["8: 2c"]) == (("448", "22"), ("480", "58"))
     assert len(shapes_of(plan(DR4, {})._repr_svg_())) == 8
 
 

@@ -166,6 +166,8 @@ def test_what_is_added_takes_the_place_of_what_was_there() -> None:
     assert new.halves[page(0x28, 1)][0] == 1
     assert all(new.halves[key] == half for key, half in old.halves.items() if key.bank == 0)
     assert page(0x11, 1) in new.halves
+    other = reading.added_to(old.changed(page(0x01), 200, b"\x55"))
+    assert other.halves[page(0x01)] == reading.image.halves[page(0x01)]
     assert VdmReading(bank=1).added_to(old) == old.without(
         *(page(number, 1) for number in (0x20, 0x24, 0x28, 0x2C, 0x2F))
     )
