@@ -6,6 +6,8 @@ use Rattle.std.specs.Option.{option_map}
 use Rattle.std.specs.FinMap as finmap
 use Rattle.bus_model.specs.declared.device.Dev.{Dev}
 use Rattle.bus_model.specs.declared.device.Dev.TheVariants.{A0, A2}
+use Rattle.paged_memory.specs.declared.key.Half.{Half}
+use Rattle.paged_memory.specs.declared.key.Half.TheVariants.{Lower, Upper}
 use Rattle.paged_memory.specs.declared.key.Key.{Key}
 use Rattle.paged_memory.specs.Keys.{lower_key, upper_key}
 use Rattle.paged_memory.specs.Images.{Memory, most_pages}
@@ -17,6 +19,7 @@ use Rattle.module_decoding.specs.Reports.{fault_of}
 use Rattle.firmware_api.specs.declared.half.HalfBytes.{HalfBytes}
 use Rattle.firmware_api.specs.declared.status.Refusal.{Refusal}
 use Rattle.firmware_api.specs.declared.status.Refusal.TheVariants.{TooManyHalves, NoPlace, Advert, Decode}
+use Rattle.firmware_api.specs.Operations.{address_of}
 
 -- A0h or A2h
 abbrev pub is_device : ℕ → Bool
@@ -32,6 +35,15 @@ has_place half = is_device half.device && (half.upper == 1 || half.upper == 0 &&
 -- of a half that has a place
 abbrev pub key_of : HalfBytes → Key
 key_of half = if half.upper == 0 then lower_key (device_of half.device) else upper_key (device_of half.device) half.bank half.page
+
+-- 0 for the bytes 0 to 127, 1 for the bytes 128 to 255
+abbrev pub upper_of : Half → ℕ
+upper_of Lower = 0
+upper_of Upper = 1
+
+-- the half at this place with these bytes
+abbrev pub half_at : Key → List ℕ → HalfBytes
+half_at key bytes = record { device = address_of key.dev; upper = upper_of key.half; bank = key.bank; page = key.page; bytes = bytes }
 
 -- of halves at one place the first counts
 unfoldable pub memory_of : List HalfBytes → Memory

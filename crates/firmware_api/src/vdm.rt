@@ -1,10 +1,10 @@
 // Readings of statistics (VDM), which C keeps.
-ghost use Rattle.std.specs.Prelude.{◌≡◌, ◌≢◌, ◌≤◌, ◌<◌, ◌+◌, ◌∷◌, ℕ, List, Some, length, take};
+ghost use Rattle.std.specs.Prelude.{◌≡◌, ◌≢◌, ◌≤◌, ◌+◌, ◌∷◌, ℕ, List, Some, length, take};
 ghost use Rattle.bus_model.specs.declared.operation.Op.{Op};
 ghost use Rattle.bus_model.specs.declared.operation.Reply.{Reply as Told};
 ghost use Rattle.conversations.specs.declared.next.Next.TheVariants as nexts;
 ghost use Rattle.conversations.specs.Wanted.{IsReplyTo};
-ghost use Rattle.saved_vdm.specs.VdmTurns.{GivesHalf, count_of, image_with};
+ghost use Rattle.saved_vdm.specs.VdmTurns.{GivesHalf, count_of, image_with, page_given};
 ghost use Rattle.vdm_reading.specs.declared.reading.VdmReading.{VdmReading as Reading};
 ghost use Rattle.vdm_reading.specs.VdmStages.{after, begun, rested, wants};
 ghost use Rattle.firmware_api.specs.declared.half.HalfBytes.{HalfBytes as Half};
@@ -12,7 +12,7 @@ ghost use Rattle.firmware_api.specs.Halves.{memory_of};
 ghost use Rattle.firmware_api.specs.Operations.{reply_of};
 ghost use Rattle.firmware_api.specs.Statuses.{done};
 ghost use Rattle.firmware_api.specs.Updates.{IsNextTold, IsReplyTold};
-ghost use Rattle.firmware_api.specs.VdmTold.{IsEndTold, vdm_in, wanted_in};
+ghost use Rattle.firmware_api.specs.VdmTold.{IsEndTold, IsInserted, halves_with, vdm_in, wanted_in};
 
 use crate::conversation::whole_half::half_at;
 use crate::conversation::{WAITED, reply_to};
@@ -74,9 +74,10 @@ pub extern "C" fn dovecounter_vdm_reply(
     ensures told { IsReplyTold result outcome (reply_of outcome bytes.now) (wanted_in reading.old halves.old) }
     ensures taken { result ≡ done → (it : Reading) (op : Op) (reply : Told) → vdm_in reading.old halves.old ≡ Some it →
         wanted_in reading.old halves.old ≡ Some (nexts.Do op) → reply_of outcome bytes.now ≡ Some reply →
-        vdm_in reading.new halves.new ≡ Some (after it reply) }
+        (vdm_in reading.new halves.new ≡ Some (after it reply)) × IsInserted (page_given it reply) reply reading.old reading.new halves.old halves.new }
     ensures waited { result ≡ done → (it : Reading) (time : ℕ) → vdm_in reading.old halves.old ≡ Some it →
-        wanted_in reading.old halves.old ≡ Some (nexts.Wait time) → vdm_in reading.new halves.new ≡ Some (rested it) }
+        wanted_in reading.old halves.old ≡ Some (nexts.Wait time) →
+        (vdm_in reading.new halves.new ≡ Some (rested it)) × (reading.new.halves ≡ reading.old.halves) × (halves.new ≡ halves.old) }
     ensures refused { result ≢ done → (reading.new ≡ reading.old) × (halves.new ≡ halves.old) }
 {
     let Some(it) = restored(reading, halves) else {
@@ -138,7 +139,8 @@ fn put_after(
 )
     requires was { vdm_in reading.old halves.old ≡ Some it }
     requires reply { IsReplyTo (wants it) reply.now }
-    ensures { vdm_in reading.new halves.new ≡ Some (after it reply.now) }
+    ensures taken { vdm_in reading.new halves.new ≡ Some (after it reply.now) }
+    ensures inserted { IsInserted (page_given it reply.now) reply.now reading.old reading.new halves.old halves.new }
 {
     let page = take_saved(it, reply, reading);
     put_page(page, reply, halves);
@@ -146,7 +148,8 @@ fn put_after(
 
 fn put_rested(it: VdmReading, reading: &mut SavedVdm, halves: &[HalfBytes; MAX_HALVES])
     requires { vdm_in reading.old halves.now ≡ Some it }
-    ensures { vdm_in reading.new halves.now ≡ Some (rested it) }
+    ensures rested { vdm_in reading.new halves.now ≡ Some (rested it) }
+    ensures count { reading.new.halves ≡ reading.old.halves }
 {
     wait_saved(it, reading);
 }
@@ -154,7 +157,8 @@ fn put_rested(it: VdmReading, reading: &mut SavedVdm, halves: &[HalfBytes; MAX_H
 // Puts the half that the reply gives of the page in front of the others.
 fn put_page(page: Option<u16>, reply: &Reply, halves: &mut [HalfBytes; MAX_HALVES])
     requires { GivesHalf page reply.now }
-    ensures { (count : ℕ) → count + count_of page ≤ 15 →
+    ensures halves { halves.new ≡ halves_with page reply.now halves.old }
+    ensures memory { (count : ℕ) → count + count_of page ≤ 15 →
         memory_of (take (count + count_of page) halves.new) ≡ image_with page reply.now (memory_of (take count halves.old)) }
 {
     match (page, reply) {
@@ -166,7 +170,7 @@ fn put_page(page: Option<u16>, reply: &Reply, halves: &mut [HalfBytes; MAX_HALVE
 }
 
 fn put_in_front(half: HalfBytes, halves: &mut [HalfBytes; MAX_HALVES])
-    ensures { (count : ℕ) → count < 15 → take (count + 1) halves.new ≡ half ∷ take count halves.old }
+    ensures { halves.new ≡ half ∷ take 14 halves.old }
 {
     let mut all = [half; MAX_HALVES];
     all[1..].copy_from_slice(&halves[..MAX_HALVES - 1]);

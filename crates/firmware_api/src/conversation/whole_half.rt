@@ -2,7 +2,7 @@
 ghost use Rattle.std.specs.Prelude.{◌≡◌, ◌≤◌, IsTrue, length};
 ghost use Rattle.std.specs.FinMap as map;
 ghost use Rattle.conversations.specs.Wanted.{IsReplyTo};
-ghost use Rattle.firmware_api.specs.Halves.{has_place, key_of};
+ghost use Rattle.firmware_api.specs.Halves.{half_at, has_place, key_of};
 ghost use Rattle.port_manager.specs.Jobs.{paged_halves};
 ghost use Rattle.port_manager.specs.Patients.{after_on, wants_on};
 ghost use Rattle.firmware_api.specs.KeptConversations.{next_of, pieces_after, pieces_want};
@@ -70,6 +70,7 @@ fn kept(on_page: &OnPage<Halves>, reply: &Reply) -> Option<Key>
 /// The half with these bytes.
 pub fn half_at(key: Key, fetched: &[u8]) -> HalfBytes
     requires { length fetched.now ≡ 128 }
+    ensures value { result ≡ half_at key fetched.now }
     ensures key { key_of result ≡ key }
     ensures bytes { result.bytes ≡ fetched.now }
     ensures place { IsTrue (has_place result) }

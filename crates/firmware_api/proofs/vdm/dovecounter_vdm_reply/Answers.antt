@@ -1,11 +1,12 @@
-use Rattle.std.proofs.Common.{Option, Some, ap, sym, subst, ◌∙◌}
+use Rattle.std.proofs.Common.{Option, Some, refl, ap, sym, subst, ◌∙◌}
 use Rattle.bus_model.specs.declared.operation.Reply.{Reply}
 use Rattle.conversations.specs.declared.next.Next.{Next}
 use Rattle.conversations.specs.Wanted.{IsReplyTo}
+use Rattle.saved_vdm.specs.VdmTurns.{page_given}
 use Rattle.vdm_reading.specs.declared.end.VdmEnd.{VdmEnd}
 use Rattle.vdm_reading.specs.declared.reading.VdmReading.{VdmReading}
 use Rattle.vdm_reading.specs.VdmStages.{after, rested}
-use Rattle.firmware_api.specs.VdmTold.{wanted_of}
+use Rattle.firmware_api.specs.VdmTold.{IsInserted, wanted_of}
 use Rattle.firmware_api.specs.Operations.{reply_of}
 use Rattle.firmware_api.specs.SavedConversations.{IsReplyFor}
 use Rattle.firmware_api.specs.Updates.{IsReplyTold}
@@ -35,11 +36,18 @@ returns-in-Some-reply_to-clause-told c =
 
 pub returns-in-Some-reply_to-clause-taken : goal.returns-in-Some-reply_to-clause-taken
 returns-in-Some-reply_to-clause-taken c done it op reply is asks told =
+    let saved = c.args.reading.now in
+    let later = c.put_after.new.reading in
+    let before = c.args.halves.now in
+    let afterwards = c.put_after.new.halves in
     let same = same_some c.in-Some.it it (sym (sym c.restored.ensures ∙ c.in-Some.is) ∙ is) in
-    let replies = reply_is c.reply_to.result c.in-Do.op c.in-Some-reply_to.reply reply c.in-Some-reply_to.is (subst (λ (r : Option Reply). IsReplyFor c.reply_to.result c.in-Do.op r) told c.reply_to.ensures) in
-    c.put_after.ensures ∙ ap (λ (r : VdmReading). Some (after r c.in-Some-reply_to.reply)) same ∙ ap (λ (r : Reply). Some (after it r)) replies
+    let replies = reply_is c.reply_to.result c.in-Do.op c.in-Some-reply_to.reply reply c.in-Some-reply_to.is (subst (λ (r : Option Reply). IsReplyFor c.reply_to.result c.in-Do.op r) told c.reply_to.ensures) in (
+      c.put_after.ensures.taken ∙ ap (λ (r : VdmReading). Some (after r c.in-Some-reply_to.reply)) same ∙ ap (λ (r : Reply). Some (after it r)) replies,
+      subst (λ (r : Reply). IsInserted (page_given it r) r saved later before afterwards) replies
+          (subst (λ (r : VdmReading). IsInserted (page_given r c.in-Some-reply_to.reply) c.in-Some-reply_to.reply saved later before afterwards) same c.put_after.ensures.inserted),
+    )
 
 pub returns-in-Wait-clause-waited : goal.returns-in-Wait-clause-waited
 returns-in-Wait-clause-waited c done it time is asks =
     let same = same_some c.in-Some.it it (sym (sym c.restored.ensures ∙ c.in-Some.is) ∙ is) in
-    c.put_rested.ensures ∙ ap (λ (r : VdmReading). Some (rested r)) same
+    (c.put_rested.ensures.rested ∙ ap (λ (r : VdmReading). Some (rested r)) same, c.put_rested.ensures.count, refl)
