@@ -5,7 +5,7 @@ ghost use Rattle.field_tables.specs.declared.field.Field.TheVariants as fields;
 ghost use Rattle.field_tables.specs.declared.table.sff8472.Sff8472Field.TheVariants as sff8472;
 ghost use Rattle.external_calibration.specs.Constants as spec;
 
-use field_tables::{Sff8472Field, field, lane, reading_at};
+use field_tables::{field, lane, reading_at};
 use paged_memory::Image;
 
 /// What makes a reading an amount of so many steps: it is multiplied by the slope, and the offset is added.

@@ -29,7 +29,7 @@ macro_rules! text_of {
     };
 }
 
-/// A sum by its standard and its name, as in `sum_of!(Sff8636 SumBase)`: of a standard without an arm of its own, a sum that SFF-8636 has too.
+/// A sum by its standard and its name, as in `sum_of!(Sff8636 SumBase)`. A standard without an arm of its own has the sums of SFF-8636.
 #[macro_export]
 macro_rules! sum_of {
     (Cmis $name:ident) => {
@@ -80,7 +80,7 @@ pub enum Sum {
     Sff8472(Sff8472Sum),
 }
 
-/// Of a page.
+/// A sum of CMIS: of a page.
 #[derive(Clone, Copy, Debug, PartialEq, Eq)]
 pub enum CmisSum {
     Sum00,
@@ -88,14 +88,14 @@ pub enum CmisSum {
     Sum02,
 }
 
-/// Of the base fields, and of those after them.
+/// A sum of SFF-8636: of the base fields, or of those after them.
 #[derive(Clone, Copy, Debug, PartialEq, Eq)]
 pub enum Sff8636Sum {
     SumBase,
     SumExt,
 }
 
-/// Of the base fields, of those after them, and of the diagnostics.
+/// A sum of SFF-8472: of the base fields, of those after them, or of the diagnostics.
 #[derive(Clone, Copy, Debug, PartialEq, Eq)]
 pub enum Sff8472Sum {
     SumBase,

@@ -38,7 +38,6 @@ pub use spans::Span;
 pub use sums::sum_right;
 pub use table::cmis::CmisField;
 pub use table::row;
-pub use table::sff8472::Sff8472Field;
 pub use texts::text_field;
 pub use units::{Unit, millis};
 pub use values::{is_set, lane, number_in_byte, value};

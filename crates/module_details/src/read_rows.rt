@@ -14,7 +14,7 @@ ghost use Rattle.module_details.specs.RowTables.{item_in, row_in, rows_in};
 
 use crate::facts::fact_at;
 use crate::item::{Case, Item, Line, Values};
-use field_tables::{CmisField, bit_at, field, number, number_at};
+use field_tables::{bit_at, field, number, number_at};
 use observables::lanes_of_bank;
 use paged_memory::Image;
 use report_entries::{Content, Entry, Fact, Place, add_entry};
